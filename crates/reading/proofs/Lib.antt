@@ -1,0 +1,6 @@
+-- What follows from the definitions alone: worked cases, and what a verdict, a beat and a cut mean.
+pub mod Cases
+pub mod Found
+pub mod Meaning
+pub mod Beats
+pub mod Cuts

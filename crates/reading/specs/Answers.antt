@@ -1,0 +1,98 @@
+-- What each call answers: the table of refusals in its order, and else the result; and what it leaves in a lent buffer.
+use Prim.Native.Nat.{ℕ}
+use mathlib.Core.Bool.{Bool, not}
+use mathlib.Core.List.{List, [], _∷_, _++_}
+use mathlib.Core.Option.{Option, none, some}
+use lib.ListN.{length, drop}
+use lib.Dec.{ltb, eqb}
+use Rattle.reading.specs.Search.{given}
+use Rattle.reading.specs.Settings.{Settings, settingsOf, badSetting}
+use Rattle.reading.specs.Capture.{Event, eventCount, settingWords, eventPart, eventsOf, badLength, goodHeader, badEvent}
+use Rattle.reading.specs.Verdict.{Verdict, clean, broken, verdictOf, judgedOf}
+use Rattle.reading.specs.Cells.{burstsOf, cellsOf}
+use Rattle.reading.specs.Schedule.{Schedule, planned, late, badRequest, scheduleOf, captureOf}
+
+pub data Answer (A : Type 0) : Type 0 where
+  -- number and place
+  refused : ℕ → ℕ → Answer A
+  answered : A → Answer A
+
+-- "tried in this order; the first that applies is given, and in no other case"
+abbrev pub unless : {A : Type 0} → ℕ → Option ℕ → Answer A → Answer A
+unless number none rest = rest
+unless number (some place) rest = refused number place
+
+-- ---- the capture, whose settings and events every call on one reads
+
+abbrev pub settingsIn : List ℕ → Settings
+settingsIn capture = settingsOf (settingWords capture)
+
+unfoldable pub accepted : {A : Type 0} → List ℕ → Answer A → Answer A
+accepted capture rest =
+    unless 1 (given 0 (badLength capture))
+    (unless 2 (given 0 (not (goodHeader capture)))
+    (unless 3 (badSetting (settingWords capture))
+    (unless 4 (badEvent (eventPart capture) (eventCount capture)) rest)))
+
+-- ---- judging
+
+pub record Report : Type 0 where
+  pub events : ℕ
+  pub judged : ℕ
+  pub verdict : Verdict
+
+unfoldable pub verdictIn : List ℕ → Verdict
+verdictIn capture = verdictOf (settingsIn capture) (eventsOf capture)
+
+unfoldable pub judgeAnswer : List ℕ → Answer Report
+judgeAnswer capture =
+    accepted capture
+    (answered
+    (record {
+      events = eventCount capture;
+      judged = judgedOf (eventCount capture) (verdictIn capture);
+      verdict = verdictIn capture;
+    }))
+
+-- ---- calls that fill a lent buffer from its front; the answer is how many elements were written
+
+pub record Outcome : Type 0 where
+  pub answer : Answer ℕ
+  pub buffer : List ℕ
+
+-- a refused call leaves the buffer as it was; else what lies behind what was written stays
+abbrev pub leaves : Answer (List ℕ) → List ℕ → Outcome
+leaves (refused number place) buffer = record { answer = refused number place; buffer = buffer }
+leaves (answered out) buffer = record { answer = answered (length out); buffer = out ++ drop (length out) buffer }
+
+-- the lent buffer is shorter than the answer; the place is the length needed
+abbrev pub fitting : List ℕ → List ℕ → Answer (List ℕ)
+fitting buffer out = unless 7 (given (length out) (ltb (length buffer) (length out))) (answered out)
+
+-- ---- burst cells
+
+abbrev pub notClean : Verdict → Option ℕ
+notClean clean = none
+notClean (broken r i t) = some i
+
+unfoldable pub cellsIn : List ℕ → List ℕ
+cellsIn capture = cellsOf (settingsIn capture) (burstsOf (settingsIn capture) (eventsOf capture))
+
+unfoldable pub cellsOutcome : List ℕ → List ℕ → Outcome
+cellsOutcome capture buffer =
+    leaves (accepted capture (unless 8 (notClean (verdictIn capture)) (fitting buffer (cellsIn capture)))) buffer
+
+-- ---- schedules
+
+abbrev pub keptUp : Schedule → (List Event → Answer (List ℕ)) → Answer (List ℕ)
+keptUp (planned es) f = f es
+keptUp (late i) f = refused 6 i
+
+unfoldable pub scheduleOutcome : List ℕ → List ℕ → List ℕ → Outcome
+scheduleOutcome settings requests buffer =
+    leaves
+    (unless 2 (given 0 (not (eqb (length settings) 14)))
+    (unless 3 (badSetting settings)
+    (unless 5 (badRequest (settingsOf settings) requests)
+    (keptUp (scheduleOf (settingsOf settings) requests) (λ es. fitting buffer (captureOf settings es))))))
+    buffer

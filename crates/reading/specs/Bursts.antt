@@ -1,0 +1,80 @@
+-- Bursts: their columns and cells, the pairs they keep, what cuts them.
+use Prim.Native.Nat.{ℕ, _+_, _-_, _*_, _/_, _%_, _^_}
+use mathlib.Core.Bool.{Bool, cond, not, _&&_, _||_}
+use mathlib.Core.List.{List, [], _∷_, map}
+use lib.Dec.{ltb, eqb}
+use lib.Bits.{bitXor}
+use Rattle.reading.specs.Search.{lesser, count}
+use Rattle.reading.specs.Words.{bit}
+use Rattle.reading.specs.Mode.{BL, h, interleaved}
+use Rattle.reading.specs.Settings.{Settings}
+use Rattle.reading.specs.Commands.{Command, READ, WRITE, BURST-TERMINATE, PRECHARGE, is, among, names}
+
+-- A0-A9, cut to the column bits; with 11 column bits, A11 is column bit 10
+abbrev pub columnOf : Settings → ℕ → ℕ
+columnOf s address =
+    address % 2 ^ 10 % 2 ^ s .columnBits + cond (eqb (s .columnBits) 11) (2 ^ 10 * bit 11 address) 0
+
+-- the place of beat j in the aligned block of BL columns that holds c, and its column
+unfoldable pub place : ℕ → ℕ → ℕ → ℕ
+place m c j = cond (interleaved m) (bitXor (c % BL m) j) ((c + j) % BL m)
+
+unfoldable pub beatColumn : ℕ → ℕ → ℕ → ℕ
+beatColumn m c j = c / BL m * BL m + place m c j
+
+abbrev pub cellNumber : Settings → ℕ → ℕ → ℕ → ℕ
+cellNumber s bank row column = (bank * 2 ^ s .rowBits + row) * 2 ^ s .columnBits + column
+
+-- a burst given at cycle k in the mode of then, with the n pairs kept so far
+pub record Burst : Type 0 where
+  pub writes : Bool
+  pub bank : ℕ
+  pub row : ℕ
+  pub column : ℕ
+  pub mode : ℕ
+  pub k : ℕ
+  pub n : ℕ
+  pub auto : Bool
+
+abbrev pub reads : Burst → Bool
+reads x = not (x .writes)
+
+unfoldable pub beatCell : Settings → Burst → ℕ → ℕ
+beatCell s x j = cellNumber s (x .bank) (x .row) (beatColumn (x .mode) (x .column) j)
+
+-- the cells of its kept beats, in beat order
+unfoldable pub burstCells : Settings → Burst → List ℕ
+burstCells s x = map (beatCell s x) (count 0 (2 * x .n))
+
+abbrev pub keep : ℕ → Burst → Burst
+keep pairs x =
+    record {
+      writes = x .writes;
+      bank = x .bank;
+      row = x .row;
+      column = x .column;
+      mode = x .mode;
+      k = x .k;
+      n = pairs;
+      auto = x .auto;
+    }
+
+-- READ and BURST TERMINATE cut a read, so does PRECHARGE of its bank; WRITE cuts a write
+abbrev pub cuts : Command → Burst → Bool
+cuts c x =
+    cond (x .writes) (is WRITE c) (among (READ ∷ BURST-TERMINATE ∷ []) c || (is PRECHARGE c && names c (x .bank)))
+
+-- to t - k pairs, or those already kept: the lesser counts
+abbrev pub cutTo : ℕ → Burst → ℕ
+cutTo t x = lesser (x .n) (t - x .k)
+
+-- by an event at t < k + h, and never with auto precharge
+abbrev pub isCut : ℕ → Command → Burst → Bool
+isCut t c x = cuts c x && (not (x .auto) && ltb t (x .k + h (x .mode)))
+
+abbrev pub cutBy : ℕ → Command → Burst → Burst
+cutBy t c x = cond (isCut t c x) (keep (cutTo t x) x) x
+
+-- the data of a write ends
+abbrev pub dataEnd : Burst → ℕ
+dataEnd x = x .k + 1 + x .n

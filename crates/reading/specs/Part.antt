@@ -1,0 +1,94 @@
+-- The part, and what each command does to it.
+use Prim.Native.Nat.{ℕ, _+_}
+use mathlib.Core.Bool.{Bool, true, false, cond, _&&_}
+use mathlib.Core.List.{List, [], _∷_, map}
+use mathlib.Core.Option.{Option, none, some}
+use lib.Dec.{eqb}
+use Rattle.reading.specs.Search.{orZero, later}
+use Rattle.reading.specs.Mode.{h}
+use Rattle.reading.specs.Settings.{Settings}
+use Rattle.reading.specs.Capture.{Event}
+use Rattle.reading.specs.Commands.{Command, ACTIVE, READ, WRITE, PRECHARGE, AUTO-REFRESH, MODE-REGISTER-SET, is, among, names, commandOf}
+use Rattle.reading.specs.Bursts.{Burst, columnOf, cutBy}
+
+-- open or idle, the row it was opened on, its last ACTIVE, its precharge cycle
+pub record Bank : Type 0 where
+  pub opened : Bool
+  pub row : ℕ
+  pub active : Option ℕ
+  pub precharged : Option ℕ
+
+-- the last AUTO REFRESH and MODE REGISTER SET; all bursts so far, the latest first
+pub record Part : Type 0 where
+  pub banks : ℕ → Bank
+  pub mode : ℕ
+  pub refreshed : Option ℕ
+  pub modeSet : Option ℕ
+  pub bursts : List Burst
+
+-- all banks start idle
+abbrev pub start : Settings → Part
+start s =
+    record {
+      banks = λ b. record { opened = false; row = 0; active = none; precharged = none };
+      mode = s .mode;
+      refreshed = none;
+      modeSet = none;
+      bursts = [];
+    }
+
+abbrev pub openOn : ℕ → ℕ → Bank → Bank
+openOn row t x = record { opened = true; row = row; active = some t; precharged = x .precharged }
+
+abbrev pub idleFrom : ℕ → Bank → Bank
+idleFrom t x = record { opened = false; row = x .row; active = x .active; precharged = some t }
+
+-- the later of ACTIVE + tRAS and k + h (read) or k + 1 + h + tWR (write)
+abbrev pub autoPrecharge : Settings → ℕ → ℕ → Command → Bank → ℕ
+autoPrecharge s m k c x =
+    later (orZero (x .active) + s .tRAS) (cond (is WRITE c) (k + 1 + h m + s .tWR) (k + h m))
+
+-- ACTIVE opens its bank; auto precharge makes it idle at once; PRECHARGE makes idle each open bank that it names
+abbrev pub bankAfter : Settings → ℕ → ℕ → Command → ℕ → Bank → Bank
+bankAfter s m t c b x =
+    cond (is ACTIVE c && eqb b (c .bank)) (openOn (c .address) t x)
+    (cond (among (READ ∷ WRITE ∷ []) c && (eqb b (c .bank) && c .A10)) (idleFrom (autoPrecharge s m t c x) x)
+    (cond (is PRECHARGE c && (x .opened && names c b)) (idleFrom t x) x))
+
+-- a burst starts with h pairs, in the mode of now
+abbrev pub burstGiven : Settings → Part → ℕ → Command → Burst
+burstGiven s p t c =
+    record {
+      writes = is WRITE c;
+      bank = c .bank;
+      row = p .banks (c .bank) .row;
+      column = columnOf s (c .address);
+      mode = p .mode;
+      k = t;
+      n = h (p .mode);
+      auto = c .A10;
+    }
+
+abbrev pub burstsAfter : Settings → Part → ℕ → Command → List Burst
+burstsAfter s p t c =
+    cond (among (READ ∷ WRITE ∷ []) c)
+    (burstGiven s p t c ∷ map (cutBy t c) (p .bursts))
+    (map (cutBy t c) (p .bursts))
+
+abbrev pub partAfter : Settings → Part → ℕ → Command → Part
+partAfter s p t c =
+    record {
+      banks = λ b. bankAfter s (p .mode) t c b (p .banks b);
+      mode = cond (is MODE-REGISTER-SET c && eqb (c .bank) 0) (c .address) (p .mode);
+      refreshed = cond (is AUTO-REFRESH c) (some t) (p .refreshed);
+      modeSet = cond (is MODE-REGISTER-SET c) (some t) (p .modeSet);
+      bursts = burstsAfter s p t c;
+    }
+
+-- the part after one event, and after a list of them
+abbrev pub step : Settings → Part → Event → Part
+step s p e = partAfter s p (e .cycle) (commandOf (e .pins))
+
+abbrev pub run : Settings → Part → List Event → Part
+run s p [] = p
+run s p (e ∷ es) = run s (step s p e) es

@@ -1,0 +1,113 @@
+-- The fixed schedule of a list of requests.
+use Prim.Native.Nat.{ℕ, zero, suc, _+_, _-_, _*_, _/_, _%_, _^_}
+use mathlib.Core.Bool.{Bool, cond, not, _&&_}
+use mathlib.Core.List.{List, [], _∷_, _++_}
+use mathlib.Core.Option.{Option, none, some}
+use lib.ListN.{length, getD}
+use lib.Dec.{leb, ltb, eqb}
+use Rattle.reading.specs.Search.{every, lowest}
+use Rattle.reading.specs.Words.{bit, bytesOf}
+use Rattle.reading.specs.Settings.{Settings}
+use Rattle.reading.specs.Capture.{Event, lastCycle}
+use Rattle.reading.specs.Commands.{ACTIVE, READ, WRITE, AUTO-REFRESH, commandOf, pinsOf}
+use Rattle.reading.specs.Part.{Part, start, run}
+use Rattle.reading.specs.Rules.{keeps, rule14, placingRules}
+
+-- bit 31 write, bits 27-30 zero, bits 0-26 the cell where the burst starts
+abbrev pub asksWrite : ℕ → Bool
+asksWrite q = eqb (bit 31 q) 1
+
+abbrev pub firstCell : ℕ → ℕ
+firstCell q = q % 2 ^ 27
+
+abbrev pub cellBank : Settings → ℕ → ℕ
+cellBank s cell = cell / 2 ^ s .columnBits / 2 ^ s .rowBits
+
+abbrev pub cellRow : Settings → ℕ → ℕ
+cellRow s cell = cell / 2 ^ s .columnBits % 2 ^ s .rowBits
+
+abbrev pub cellColumn : Settings → ℕ → ℕ
+cellColumn s cell = cell % 2 ^ s .columnBits
+
+-- bits 27-30 are zero and the part, of four banks, has the cell
+unfoldable pub requestFits : Settings → ℕ → Bool
+requestFits s q = eqb (q / 2 ^ 27 % 2 ^ 4) 0 && ltb (cellBank s (firstCell q)) 4
+
+unfoldable pub badRequest : Settings → List ℕ → Option ℕ
+badRequest s qs = cond (ltb 2000 (length qs)) (some 2000) (lowest (λ i. not (requestFits s (getD qs i 0))) (length qs))
+
+-- the pins of a request's commands; those that are not named are 0
+abbrev pub activePins : Settings → ℕ → ℕ
+activePins s q = pinsOf ACTIVE (cellBank s (firstCell q)) (cellRow s (firstCell q))
+
+-- column bits 0-9 on A0-A9, bit 10 on A11; A10 asks for auto precharge
+abbrev pub columnPins : ℕ → ℕ
+columnPins column = column % 2 ^ 10 + 2 ^ 10 + 2 ^ 11 * (column / 2 ^ 10)
+
+abbrev pub burstPins : Settings → ℕ → ℕ
+burstPins s q =
+    pinsOf (cond (asksWrite q) WRITE READ) (cellBank s (firstCell q)) (columnPins (cellColumn s (firstCell q)))
+
+abbrev pub refreshPins : ℕ
+refreshPins = pinsOf AUTO-REFRESH 0 0
+
+-- rules 1-13 pass the pins at t
+unfoldable pub passes : Settings → Part → ℕ → ℕ → Bool
+passes s p pins t = every (λ r. keeps r s p t (commandOf pins)) placingRules
+
+-- the earliest cycle, not before `from`, at which f holds, looked for through n cycles
+unfoldable pub earliest : (ℕ → Bool) → ℕ → ℕ → ℕ
+earliest f from zero = from
+earliest f from (suc n) = let rest = earliest f (suc from) n in cond (f from) from rest
+
+-- the cycle after the last event, 0 at the start
+unfoldable pub freeFrom : ℕ → List Event → ℕ
+freeFrom from [] = from
+freeFrom from (e ∷ es) = freeFrom (suc (e .cycle)) es
+
+-- where a command behind these events goes: the earliest cycle after them at which rules 1-13 pass it
+unfoldable pub placed : Settings → List Event → ℕ → ℕ
+placed s es pins = earliest (passes s (run s (start s) es) pins) (freeFrom 0 es) lastCycle
+
+unfoldable pub send : Settings → List Event → ℕ → List Event
+send s es pins = es ++ (record { cycle = placed s es pins; pins = pins } ∷ [])
+
+unfoldable pub sendRequest : Settings → List Event → ℕ → List Event
+sendRequest s es q = send s (send s es (activePins s q)) (burstPins s q)
+
+-- an AUTO REFRESH placed next comes at most GAP after the last one, as rule 14 asks of it
+unfoldable pub refreshInTime : Settings → List Event → Bool
+refreshInTime s es =
+    rule14 s (run s (start s) es) (placed s es refreshPins) (commandOf refreshPins)
+
+-- the events with those of one more request; none if refresh cannot be kept
+unfoldable pub served : Settings → List Event → ℕ → Option (List Event)
+served s es q =
+    let alone = sendRequest s es q in
+    let refreshed = sendRequest s (send s es refreshPins) q in
+    cond (refreshInTime s alone) (some alone) (cond (refreshInTime s refreshed) (some refreshed) none)
+
+pub data Schedule : Type 0 where
+  planned : List Event → Schedule
+  -- the request at which refresh cannot be kept
+  late : ℕ → Schedule
+
+abbrev pub onwards : Option (List Event) → (List Event → Schedule) → ℕ → Schedule
+onwards none f i = late i
+onwards (some es) f i = f es
+
+unfoldable pub scheduleFrom : Settings → List Event → ℕ → List ℕ → Schedule
+scheduleFrom s es i [] = planned es
+scheduleFrom s es i (q ∷ qs) = onwards (served s es q) (λ next. scheduleFrom s next (suc i) qs) i
+
+unfoldable pub scheduleOf : Settings → List ℕ → Schedule
+scheduleOf s qs = scheduleFrom s [] 0 qs
+
+-- a whole capture: header, settings, events
+unfoldable pub eventWords : List Event → List ℕ
+eventWords [] = []
+eventWords (e ∷ es) = e .cycle ∷ e .pins ∷ eventWords es
+
+unfoldable pub captureOf : List ℕ → List Event → List ℕ
+captureOf settings es =
+    bytesOf (((80 + 8 * length es) ∷ 14 ∷ 24 ∷ length es ∷ 80 ∷ 0 ∷ []) ++ settings ++ eventWords es)

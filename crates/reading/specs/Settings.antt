@@ -1,0 +1,70 @@
+-- The fourteen settings and the table of their limits.
+use Prim.Native.Nat.{ℕ}
+use mathlib.Core.Bool.{Bool, not, _&&_}
+use mathlib.Core.List.{List, [], _∷_, _++_}
+use mathlib.Core.Option.{Option}
+use lib.ListN.{getD, replicate}
+use lib.Dec.{leb, eqb}
+use Rattle.reading.specs.Search.{implies, lowest}
+use Rattle.reading.specs.Mode.{modeWord}
+
+pub record Settings : Type 0 where
+  pub lane : ℕ
+  pub rowBits : ℕ
+  pub columnBits : ℕ
+  pub mode : ℕ
+  pub tRCD : ℕ
+  pub tRP : ℕ
+  pub tRAS : ℕ
+  pub tRC : ℕ
+  pub tRRD : ℕ
+  pub tWR : ℕ
+  pub tWTR : ℕ
+  pub tRFC : ℕ
+  pub tMRD : ℕ
+  pub GAP : ℕ
+
+-- from a list of words, by their numbers
+abbrev pub settingsOf : List ℕ → Settings
+settingsOf ws =
+    record {
+      lane = getD ws 0 0;
+      rowBits = getD ws 1 0;
+      columnBits = getD ws 2 0;
+      mode = getD ws 3 0;
+      tRCD = getD ws 4 0;
+      tRP = getD ws 5 0;
+      tRAS = getD ws 6 0;
+      tRC = getD ws 7 0;
+      tRRD = getD ws 8 0;
+      tWR = getD ws 9 0;
+      tWTR = getD ws 10 0;
+      tRFC = getD ws 11 0;
+      tMRD = getD ws 12 0;
+      GAP = getD ws 13 0;
+    }
+
+pub record Limits : Type 0 where
+  pub least : ℕ
+  pub most : ℕ
+
+abbrev between : ℕ → ℕ → Limits
+between a b = record { least = a; most = b }
+
+-- the table, row by row; rows 4 to 12 are alike
+abbrev pub limits : List Limits
+limits =
+    between 1 2 ∷ between 12 14 ∷ between 8 11 ∷ between 0 127 ∷ []
+    ++ replicate 9 (between 1 10000)
+    ++ (between 1 1000000 ∷ [])
+
+-- word w may be setting i; row 3 is also valid by rule 2
+unfoldable pub settingFits : ℕ → ℕ → Bool
+settingFits i w =
+    leb (getD limits i (between 0 0) .least) w
+    && leb w (getD limits i (between 0 0) .most)
+    && implies (eqb i 3) (modeWord w)
+
+-- the lowest setting that does not fit
+unfoldable pub badSetting : List ℕ → Option ℕ
+badSetting ws = lowest (λ i. not (settingFits i (getD ws i 0))) 14
