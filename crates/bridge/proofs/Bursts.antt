@@ -1,0 +1,225 @@
+-- The bursts of a part after the cuts of one event: what is found among them, and what is held by them.
+use Prim.Native.Nat.{ℕ, zero, suc, _+_, _-_, _≤_, _<_}
+use mathlib.Core.Bool.{Bool, true, false, cond, not, _&&_, _||_}
+use mathlib.Core.List.{List, [], _∷_, map}
+use mathlib.Core.Option.{Option, none, some, Option·map}
+use mathlib.Core.Path.{_≡_, refl, sym, ap, _∙_}
+use native.Mathlib.Omega.{arith}
+use lib.Dec.{leb, ltb, eqb, leb·zero}
+use borrow.Author.Tests.{leb-true, leb-false, le-leb, lt-leb, ltb-true, ltb-false}
+use Rattle.reading.specs.Search.{implies, ever, every, find, lesser, later}
+use Rattle.reading.specs.Mode.{h, CL}
+use Rattle.reading.specs.Commands.{Command, WRITE, is}
+use Rattle.reading.specs.Bursts.{Burst, reads, dataEnd, keep, cuts, cutTo, isCut, cutBy}
+use Rattle.reading.specs.Rules.{autoOver, untouchable}
+use Rattle.reading.proofs.Cuts.{All, nil, cons}
+use Rattle.bridge.specs.Summary.{ended, heldBy}
+use Rattle.bridge.proofs.Tests.{ltb-is, held-is}
+
+-- ---- what a cut leaves alone
+
+pub blind : {A : Type 0} (q : Burst → A) → ((n : ℕ) (x : Burst) → q (keep n x) ≡ q x) → (t : ℕ) (c : Command) (x : Burst) → q (cutBy t c x) ≡ q x
+blind q e t c x = go (isCut t c x)
+  where
+    go : (b : Bool) → q (cond b (keep (cutTo t x) x) x) ≡ q x
+    go true = e (cutTo t x) x
+    go false = refl
+
+pub uncut : (t : ℕ) (c : Command) (x : Burst) → cuts c x ≡ false → cutBy t c x ≡ x
+uncut t c x e = rw e
+
+pub find-same : (q : Burst → Bool) (f : Burst → Burst) → ((x : Burst) → q (f x) ≡ q x) → ((x : Burst) → q x ≡ true → f x ≡ x) →
+    (xs : List Burst) → find q (map f xs) ≡ find q xs
+find-same q f a b [] = refl
+find-same q f a b (x ∷ xs) = rw (a x) (go (q x) refl (find-same q f a b xs))
+  where
+    go : (v : Bool) → q x ≡ v → find q (map f xs) ≡ find q xs → cond v (some (f x)) (find q (map f xs)) ≡ cond v (some x) (find q xs)
+    go true e ih = ap {B = Option Burst} some (b x e)
+    go false e ih = ih
+
+pub find-map : (q : Burst → Bool) (f : Burst → Burst) → ((x : Burst) → q (f x) ≡ q x) → (xs : List Burst) → find q (map f xs) ≡ Option·map f (find q xs)
+find-map q f a [] = refl
+find-map q f a (x ∷ xs) = rw (a x) (go (q x) (find-map q f a xs))
+  where
+    go : (v : Bool) → find q (map f xs) ≡ Option·map f (find q xs) → cond v (some (f x)) (find q (map f xs)) ≡ Option·map f (cond v (some x) (find q xs))
+    go true ih = refl
+    go false ih = ih
+
+pub find-like : (q r : Burst → Bool) → ((x : Burst) → q x ≡ r x) → (xs : List Burst) → find q xs ≡ find r xs
+find-like q r e [] = refl
+find-like q r e (x ∷ xs) = rw (e x, find-like q r e xs)
+
+pub held-cut : (kind : Burst → Bool) → ((n : ℕ) (x : Burst) → kind (keep n x) ≡ kind x) → (t : ℕ) (c : Command) (xs : List Burst) →
+    heldBy kind (map (cutBy t c) xs) ≡ heldBy kind xs
+held-cut kind e t c [] = refl
+held-cut kind e t c (x ∷ xs) =
+    rw (held-cut kind e t c xs)
+    (ap (λ (v : ℕ). later v (heldBy kind xs)) (blind (λ y. cond (kind y && y .auto) (y .k + h (y .mode)) 0) (λ n y. rw (e n y)) t c x))
+
+-- ---- bursts given before a cycle
+
+pub record Given (from : ℕ) (x : Burst) : Type 0 where
+  pub before : x .k < from
+  pub most : x .n ≤ h (x .mode)
+  pub bank : x .bank < 4
+
+pub lesser-left : (a b : ℕ) → lesser a b ≤ a
+lesser-left a b = go (leb a b) refl
+  where
+    go : (v : Bool) → leb a b ≡ v → cond v a b ≤ a
+    go true e = omega arith
+    go false e = omega (arith, leb-false a b e)
+
+pub lesser-right : (a b : ℕ) → lesser a b ≤ b
+lesser-right a b = go (leb a b) refl
+  where
+    go : (v : Bool) → leb a b ≡ v → cond v a b ≤ b
+    go true e = leb-true a b e
+    go false e = omega arith
+
+pub lesser-low : (a b : ℕ) → a ≤ b → lesser a b ≡ a
+lesser-low a b p = rw (le-leb a b p)
+
+pub lesser-high : (a b : ℕ) → b ≤ a → lesser a b ≡ b
+lesser-high a b p = go (leb a b) refl
+  where
+    go : (v : Bool) → leb a b ≡ v → cond v a b ≡ b
+    go true e = omega (arith, leb-true a b e)
+    go false e = refl
+
+pub later-low : (a b : ℕ) → a ≤ b → later a b ≡ b
+later-low a b p = rw (le-leb a b p)
+
+pub later-high : (a b : ℕ) → b ≤ a → later a b ≡ a
+later-high a b p = go (leb a b) refl
+  where
+    go : (v : Bool) → leb a b ≡ v → cond v b a ≡ a
+    go true e = omega (arith, leb-true a b e)
+    go false e = refl
+
+-- adding to both sides
+pub lesser-add : (c a b : ℕ) → lesser (a + c) (b + c) ≡ lesser a b + c
+lesser-add c a b = go (leb a b) refl
+  where
+    go : (v : Bool) → leb a b ≡ v → lesser (a + c) (b + c) ≡ cond v a b + c
+    go true e = lesser-low (a + c) (b + c) (omega (arith, leb-true a b e))
+    go false e = lesser-high (a + c) (b + c) (omega (arith, leb-false a b e))
+
+pub later-add : (c a b : ℕ) → later (a + c) (b + c) ≡ later a b + c
+later-add c a b = go (leb a b) refl
+  where
+    go : (v : Bool) → leb a b ≡ v → later (a + c) (b + c) ≡ cond v b a + c
+    go true e = later-low (a + c) (b + c) (omega (arith, leb-true a b e))
+    go false e = later-high (a + c) (b + c) (omega (arith, leb-false a b e))
+
+-- ---- writes: all but the last have ended
+
+pub record Ended (from : ℕ) (x : Burst) : Type 0 where
+  pub by : x .writes ≡ true → dataEnd x ≤ from
+
+pub data Late (from : ℕ) : List Burst → Type 0 where
+  nothing : Late from []
+  read : {x : Burst} {xs : List Burst} → x .writes ≡ false → Late from xs → Late from (x ∷ xs)
+  write : {x : Burst} {xs : List Burst} → x .writes ≡ true → All (Ended from) xs → Late from (x ∷ xs)
+
+-- no write's data runs at t
+abbrev pub writeOver : ℕ → Burst → Bool
+writeOver t x = implies (x .writes) (leb (dataEnd x) t)
+
+all-over : {from : ℕ} (t : ℕ) → from ≤ t → {xs : List Burst} → All (Ended from) xs → every (writeOver t) xs ≡ true
+all-over t l nil = refl
+all-over {from} t l (cons {x = x} {xs = xs} e rest) = rw (one (x .writes) refl) (all-over t l rest)
+  where
+    one : (v : Bool) → x .writes ≡ v → implies v (leb (dataEnd x) t) ≡ true
+    one true f = le-leb (dataEnd x) t (omega (arith, e .by f))
+    one false f = refl
+
+leb-add : (w a b : ℕ) → leb (a + w) (b + w) ≡ leb a b
+leb-add w a b = go (leb a b) refl
+  where
+    go : (v : Bool) → leb a b ≡ v → leb (a + w) (b + w) ≡ v
+    go true e = le-leb (a + w) (b + w) (omega (arith, leb-true a b e))
+    go false e = lt-leb (a + w) (b + w) (omega (arith, leb-false a b e))
+
+pub late-is : {from : ℕ} (w t : ℕ) → from ≤ t → {xs : List Burst} → Late from xs →
+    every (writeOver t) xs ≡ leb (ended (find (λ x. x .writes) xs) w) (t + w)
+late-is w t l nothing = sym (leb·zero (t + w))
+late-is w t l (read e rest) = rw e (late-is w t l rest)
+late-is w t l (write {x = x} e rest) = rw (e, all-over t l rest) (mathlib.Core.Bool.and-true (leb (dataEnd x) t) ∙ sym (leb-add w (dataEnd x) t))
+
+-- ---- BURST TERMINATE
+
+swap : (a b u v : Bool) → ((a && b) && (u && v)) ≡ ((a && u) && (b && v))
+swap true true u v = refl
+swap true false true v = refl
+swap true false false v = refl
+swap false b u v = refl
+
+module _ (from t : ℕ) (l : from ≤ t) where
+  one-touchable : (x : Burst) → Given from x → not (untouchable t x) ≡ (implies (reads x) (autoOver t x) && writeOver t x)
+  one-touchable x g =
+      rw (le-leb (x .k) t (omega (arith, g .before)), ltb-is t (dataEnd x), ltb-is t (x .k + h (x .mode)))
+      (go (x .writes) (x .auto) (leb (dataEnd x) t) (leb (x .k + h (x .mode)) t))
+    where
+      go : (w a u v : Bool) → not (cond w (not u) (a && not v)) ≡ (implies (not w) (implies a v) && implies w u)
+      go true a true v = refl
+      go true a false v = refl
+      go false true u true = refl
+      go false true u false = refl
+      go false false u v = refl
+
+  touchable : {xs : List Burst} → All (Given from) xs →
+      every (λ x. not (untouchable t x)) xs ≡ (every (λ x. implies (reads x) (autoOver t x)) xs && every (writeOver t) xs)
+  touchable nil = refl
+  touchable (cons {x = x} {xs = xs} g r) =
+      rw (one-touchable x g, touchable r)
+      (swap (implies (reads x) (autoOver t x)) (writeOver t x) (every (λ y. implies (reads y) (autoOver t y)) xs) (every (writeOver t) xs))
+
+  pub terminate-is : (w : ℕ) {xs : List Burst} → All (Given from) xs → Late from xs →
+      every (λ x. not (untouchable t x)) xs ≡ (leb (heldBy reads xs) t && leb (ended (find (λ x. x .writes) xs) w) (t + w))
+  terminate-is w {xs} g e = touchable g ∙ rw (held-is reads t xs, late-is w t l e)
+
+-- ---- what is found in a list has what all of it have
+
+pub find-all : {P : Burst → Type 0} (q : Burst → Bool) {xs : List Burst} → All P xs → {x : Burst} → find q xs ≡ some x → P x
+find-all q nil e = let z : _≡_ {A = ℕ} 0 1 = cc in absurd (omega arith)
+find-all {P} q (cons {x = y} {xs = ys} g r) {x} e = go (q y) e (find-all q r)
+  where
+    go : (v : Bool) → cond v (some y) (find q ys) ≡ some x → (find q ys ≡ some x → P x) → P x
+    go true f ih = let w : y ≡ x = cc in mathlib.Core.Path.subst P w g
+    go false f ih = ih f
+
+pub find-holds : (q : Burst → Bool) (xs : List Burst) {x : Burst} → find q xs ≡ some x → q x ≡ true
+find-holds q [] e = let z : _≡_ {A = ℕ} 0 1 = cc in absurd (omega arith)
+find-holds q (y ∷ ys) {x} e = go (q y) refl e (find-holds q ys)
+  where
+    go : (v : Bool) → q y ≡ v → cond v (some y) (find q ys) ≡ some x → (find q ys ≡ some x → q x ≡ true) → q x ≡ true
+    go true f h ih = let w : y ≡ x = cc in ap q (sym w) ∙ f
+    go false f h ih = ih h
+
+-- auto precharge bursts of a kind that is held until t are over
+pub record Over (t : ℕ) (kind : Burst → Bool) (x : Burst) : Type 0 where
+  pub by : kind x ≡ true → x .auto ≡ true → x .k + h (x .mode) ≤ t
+
+pub held-over : (kind : Burst → Bool) (t : ℕ) (xs : List Burst) → heldBy kind xs ≤ t → All (Over t kind) xs
+held-over kind t [] l = nil
+held-over kind t (x ∷ xs) l =
+    cons {x = x} (record { by = λ a b. omega (arith, l, later-left (x .k + h (x .mode)) (heldBy kind xs), here a b) })
+    (held-over kind t xs (omega (arith, l, later-right (cond (kind x && x .auto) (x .k + h (x .mode)) 0) (heldBy kind xs))))
+  where
+    later-right : (a b : ℕ) → b ≤ later a b
+    later-right a b = go (leb a b) refl
+      where
+        go : (v : Bool) → leb a b ≡ v → b ≤ cond v b a
+        go true e = omega arith
+        go false e = omega (arith, leb-false a b e)
+
+    later-left : (a b : ℕ) → a ≤ later a b
+    later-left a b = go (leb a b) refl
+      where
+        go : (v : Bool) → leb a b ≡ v → a ≤ cond v b a
+        go true e = leb-true a b e
+        go false e = omega arith
+
+    here : kind x ≡ true → x .auto ≡ true → later (cond (kind x && x .auto) (x .k + h (x .mode)) 0) (heldBy kind xs) ≡ later (x .k + h (x .mode)) (heldBy kind xs)
+    here a b = rw (a, b)

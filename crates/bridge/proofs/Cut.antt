@@ -1,0 +1,55 @@
+-- What a cut makes of the cycle at which a write's data ends, and at which the bus is free of a read.
+use Prim.Native.Nat.{ℕ, zero, suc, _+_, _-_, _≤_, _<_}
+use mathlib.Core.Bool.{Bool, true, false, cond, not, _&&_, _||_}
+use mathlib.Core.List.{List, [], _∷_, map}
+use mathlib.Core.Logic.{_⊎_, inl, inr}
+use mathlib.Core.Option.{Option, none, some, Option·map}
+use mathlib.Core.Path.{_≡_, refl, sym, ap, _∙_}
+use native.Mathlib.Omega.{arith}
+use lib.Dec.{leb, ltb, eqb}
+use borrow.Author.Tests.{leb-true, leb-false, ltb-true, ltb-false}
+use Rattle.reading.specs.Search.{find, lesser}
+use Rattle.reading.specs.Mode.{h, CL}
+use Rattle.reading.specs.Commands.{Command}
+use Rattle.reading.specs.Bursts.{Burst, reads, dataEnd, keep, cuts, cutTo, cutBy}
+use Rattle.reading.proofs.Cuts.{auto-uncut}
+use Rattle.bridge.specs.Summary.{ended, cleared, readerOf}
+use Rattle.bridge.proofs.Bursts.{blind, uncut, Given, Over, lesser-left, lesser-right, lesser-low, lesser-high, lesser-add}
+
+-- the last pair of a burst that c cuts, c more cycles counted: the lesser of what it was and t
+cut-pairs : (c : ℕ) (k n t : ℕ) → k ≤ t → k + c + lesser n (t - k) ≡ lesser (k + c + n) (t + c)
+cut-pairs c k n t l = go (leb n (t - k)) refl
+  where
+    go : (v : Bool) → leb n (t - k) ≡ v → k + c + cond v n (t - k) ≡ lesser (k + c + n) (t + c)
+    go true e = sym (lesser-low (k + c + n) (t + c) (omega (arith, leb-true n (t - k) e)))
+    go false e =
+        let q : k + c + (t - k) ≡ t + c = omega arith in
+        q ∙ sym (lesser-high (k + c + n) (t + c) (omega (arith, leb-false n (t - k) e)))
+
+module _ (from t : ℕ) (l : from ≤ t) (c : Command) (x : Burst) (g : Given from x) (over : x .auto ≡ true → x .k + h (x .mode) ≤ t) where
+  -- a burst that c cuts, cycles counted to c after its last pair
+  pub cut-until : (w : ℕ) → cuts c x ≡ true → x .k + w + cutBy t c x .n ≡ lesser (x .k + w + x .n) (t + w)
+  cut-until w e = rw e (go (x .auto) refl (ltb t (x .k + h (x .mode))) refl)
+    where
+      go : (a : Bool) → x .auto ≡ a → (b : Bool) → ltb t (x .k + h (x .mode)) ≡ b →
+          x .k + w + (cond (not a && b) (keep (cutTo t x) x) x) .n ≡ lesser (x .k + w + x .n) (t + w)
+      go true p b q = sym (lesser-low (x .k + w + x .n) (t + w) (omega (arith, g .most, over p)))
+      go false p true q = cut-pairs w (x .k) (x .n) t (omega (arith, g .before))
+      go false p false q = sym (lesser-low (x .k + w + x .n) (t + w) (omega (arith, g .most, ltb-false t (x .k + h (x .mode)) q)))
+
+-- the latency of the last read is that of now, or its data is over
+abbrev pub Latency : ℕ → ℕ → Option Burst → Type 0
+Latency from m none = Unit {0}
+Latency from m (some x) = (x .mode ≡ m) ⊎ (x .k + CL (x .mode) + x .n ≤ from)
+
+pub same-latency : (from t m : ℕ) → from ≤ t → (x : Burst) → Latency from m (some x) →
+    lesser (x .k + CL (x .mode) + x .n) (t + CL (x .mode)) ≡ lesser (x .k + CL (x .mode) + x .n) (t + CL m)
+same-latency from t m l x (inl e) = ap (λ (v : ℕ). lesser (x .k + CL (x .mode) + x .n) (t + CL v)) e
+same-latency from t m l x (inr e) =
+    lesser-low (x .k + CL (x .mode) + x .n) (t + CL (x .mode)) (omega arith)
+    ∙ sym (lesser-low (x .k + CL (x .mode) + x .n) (t + CL m) (omega arith))
+
+-- the reader is the same after a cut
+pub same-reader : (t : ℕ) (c : Command) (o : Option Burst) → readerOf (Option·map (cutBy t c) o) ≡ readerOf o
+same-reader t c none = refl
+same-reader t c (some x) = blind (λ y. cond (y .auto) 4 (y .bank)) (λ n y. refl) t c x

@@ -1,0 +1,109 @@
+-- The lowest broken rule of a part is the one that its deadlines show.
+use Prim.Native.Nat.{ℕ, zero, suc, _+_, _%_, _^_, _≤_, _<_}
+use mathlib.Core.Bool.{Bool, true, false, cond, not, _&&_, _||_, or-comm, or-false, and-false, and-true}
+use mathlib.Core.List.{List, [], _∷_}
+use mathlib.Core.Option.{Option, none, some}
+use mathlib.Core.Path.{_≡_, refl, sym, ap, _∙_}
+use native.Mathlib.Nat.{mod-eq-of-lt}
+use native.Mathlib.Omega.{arith}
+use lib.Dec.{leb, ltb, eqb}
+use borrow.Author.Tests.{eq-eqb, ne-eqb, eqb-true}
+use Rattle.reading.specs.Search.{implies, ever, find, orZero}
+use Rattle.reading.specs.Mode.{modeWord}
+use Rattle.reading.specs.Settings.{Settings}
+use Rattle.reading.specs.Commands.{Op, ACTIVE, READ, WRITE, BURST-TERMINATE, PRECHARGE, AUTO-REFRESH, MODE-REGISTER-SET, NOP, DESELECT, Command, names}
+use Rattle.reading.specs.Bursts.{Burst, reads, dataEnd}
+use Rattle.reading.specs.Part.{Part}
+use Rattle.reading.specs.Rules.{everyBank, after, bankWrite, lowestBroken}
+use Rattle.reading.proofs.Cuts.{All}
+use Rattle.part.specs.Deadlines.{orElse, dueBreaks, activeBreaks, readBreaks, writeBreaks, terminateBreaks, closeBreaks, closeAllBreaks, refreshBreaks, modeBreaks}
+use Rattle.bridge.specs.Summary.{Held, heldBy, laid, summary}
+use Rattle.bridge.proofs.Laid.{stands}
+use Rattle.bridge.proofs.Tests.{num, num-cond, after-is, ended-is, cleared-is, leb-later, held-is, open-is, shut-is, closing-is}
+use Rattle.bridge.proofs.Bursts.{Given, Late, terminate-is}
+
+-- the two ways to look at the banks that an ACTIVE does not name, and that a PRECHARGE names
+others-is : (f : ℕ → Bool) (b : ℕ) → everyBank (λ i. eqb i b || f i) ≡ everyBank (λ i. f i || eqb i b)
+others-is f b = rw (or-comm (eqb 0 b) (f 0), or-comm (eqb 1 b) (f 1), or-comm (eqb 2 b) (f 2), or-comm (eqb 3 b) (f 3))
+
+named-is : (o k : Bool) → implies (o && true) k ≡ (k || not o)
+named-is o k = closing-is o true k refl
+
+one-is : (o k : ℕ → Bool) (b : ℕ) → b < 4 → everyBank (λ i. implies (o i && eqb i b) (k i)) ≡ (k b || not (o b))
+one-is o k zero l = simp and-false (rw (named-is (o 0) (k 0)) (and-true (k 0 || not (o 0))))
+one-is o k (suc zero) l = simp and-false (rw (named-is (o 1) (k 1)) (and-true (k 1 || not (o 1))))
+one-is o k (suc (suc zero)) l = simp and-false (rw (named-is (o 2) (k 2)) (and-true (k 2 || not (o 2))))
+one-is o k (suc (suc (suc zero))) l = simp and-false (named-is (o 3) (k 3))
+one-is o k (suc (suc (suc (suc b)))) l = absurd (omega arith)
+
+both-13 : (a b : Bool) (rest : ℕ) → orElse (a && b) 13 rest ≡ orElse a 13 (orElse b 13 rest)
+both-13 true b rest = refl
+both-13 false b rest = refl
+
+register-is : (b : ℕ) (m : Bool) → ((eqb b 0 && m) || eqb b 2) ≡ cond (eqb b 0) m (eqb b 2)
+register-is b m = go (eqb b 0) refl
+  where
+    go : (v : Bool) → eqb b 0 ≡ v → ((v && m) || eqb b 2) ≡ cond v m (eqb b 2)
+    go true e = rw (eqb-true b 0 e) (or-false m)
+    go false e = refl
+
+abbrev pub does : Op → ℕ → ℕ → Bool → Command
+does o b a ten = record { op = o; bank = b; address = a; A10 = ten }
+
+module _ (s : Settings) (p : Part) (t : ℕ) where
+  abbrev pub says : Op → ℕ → ℕ → Bool → ℕ
+  says o b a ten = num (lowestBroken s p t (does o b a ten))
+
+  pub quiet : (b a : ℕ) (ten : Bool) → says NOP b a ten ≡ dueBreaks (laid (summary s p)) t
+  quiet b a ten = simp num-cond
+
+  pub deselect : (b a : ℕ) (ten : Bool) → says DESELECT b a ten ≡ dueBreaks (laid (summary s p)) t
+  deselect b a ten = simp num-cond
+
+  pub read-agrees : (b a : ℕ) (ten : Bool) → b < 4 → says READ b a ten ≡ readBreaks (laid (summary s p)) t b
+  unfolding readBreaks
+  read-agrees b a ten l =
+      simp num-cond (rw (stands (summary s p) b l .opened, stands (summary s p) b l .column, shut-is (p .banks b .opened))
+      (simp (leb-later, after-is, ended-is, held-is)))
+
+  pub write-agrees : (b a : ℕ) (ten : Bool) → b < 4 → says WRITE b a ten ≡ writeBreaks (laid (summary s p)) t b
+  unfolding writeBreaks
+  write-agrees b a ten l =
+      simp num-cond (rw (stands (summary s p) b l .opened, stands (summary s p) b l .column, shut-is (p .banks b .opened))
+      (simp (leb-later, after-is, cleared-is, held-is)))
+
+  pub active-agrees : (b a : ℕ) (ten : Bool) → b < 4 → s .rowBits < 32 → says ACTIVE b a ten ≡ activeBreaks s (laid (summary s p)) t b a
+  unfolding activeBreaks
+  active-agrees b a ten l w =
+      simp num-cond
+      (rw (others-is (λ i. after (s .tRRD) (p .banks i .active) t) b, stands (summary s p) b l .opened, stands (summary s p) b l .rest, stands (summary s p) b l .again, open-is (p .banks b .opened), mod-eq-of-lt w)
+      (simp (leb-later, after-is)))
+
+  pub terminate-agrees : (b a : ℕ) (ten : Bool) (from : ℕ) → from ≤ t → All (Given from) (p .bursts) → Late from (p .bursts) →
+      says BURST-TERMINATE b a ten ≡ terminateBreaks s (laid (summary s p)) t
+  unfolding terminateBreaks
+  terminate-agrees b a ten from l g e =
+      simp num-cond
+      (rw (terminate-is from t l (s .tWTR) g e, both-13 (leb (heldBy reads (p .bursts)) t))
+      (simp (leb-later, after-is)))
+
+  pub close-agrees : (b a : ℕ) → b < 4 → says PRECHARGE b a false ≡ closeBreaks (laid (summary s p)) t b
+  unfolding closeBreaks
+  close-agrees b a l =
+      simp num-cond
+      (rw (one-is (λ i. p .banks i .opened) (λ i. after (s .tRAS) (p .banks i .active) t) b l,
+      one-is (λ i. p .banks i .opened) (λ i. ever (find (bankWrite p i) (p .bursts)) (λ x. leb (dataEnd x + s .tWR) t)) b l,
+      stands (summary s p) b l .opened, stands (summary s p) b l .close, stands (summary s p) b l .written, open-is (p .banks b .opened))
+      (simp (leb-later, after-is, ended-is)))
+
+  pub close-all-agrees : (b a : ℕ) → says PRECHARGE b a true ≡ closeAllBreaks (laid (summary s p)) t
+  unfolding closeAllBreaks
+  close-all-agrees b a = simp (num-cond, leb-later, after-is, ended-is, open-is, named-is)
+
+  pub refresh-agrees : (b a : ℕ) (ten : Bool) → says AUTO-REFRESH b a ten ≡ refreshBreaks (laid (summary s p)) t
+  unfolding refreshBreaks
+  refresh-agrees b a ten = simp (num-cond, leb-later, after-is, cleared-is, open-is)
+
+  pub mode-agrees : (b a : ℕ) (ten : Bool) → says MODE-REGISTER-SET b a ten ≡ modeBreaks (laid (summary s p)) t b a
+  unfolding modeBreaks refreshBreaks
+  mode-agrees b a ten = simp (num-cond, leb-later, after-is, cleared-is, open-is, register-is)

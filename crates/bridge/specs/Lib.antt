@@ -1,0 +1,2 @@
+-- What the deadlines are a summary of.
+pub mod Summary

@@ -1,0 +1,151 @@
+-- What it means that a capture is accepted.
+use Prim.Native.Nat.{ℕ, zero, suc, _+_, _-_, _*_, _^_, _≤_, _<_}
+use mathlib.Core.Bool.{Bool, true, false, not, _&&_, _||_, and-eq-true-iff}
+use mathlib.Core.List.{List}
+use mathlib.Core.Option.{Option, none, some}
+use mathlib.Core.Path.{_≡_, refl, sym, ap, _∙_}
+use native.Mathlib.Decide.{decLt}
+use native.Mathlib.Omega.{arith}
+use borrow.Author.Tests.{eqb-true, leb-true, ltb-true, ltb-false, not-false, ne-eqb}
+use lib.ListN.{length, getD}
+use lib.Dec.{leb, ltb, eqb}
+use Rattle.reading.specs.Search.{given}
+use Rattle.reading.specs.Settings.{settingFits, badSetting}
+use Rattle.reading.specs.Capture.{headerWord, eventCount, settingWords, eventPart, eventAt, badLength, goodHeader, lastCycle, eventFits, badEvent}
+use Rattle.reading.specs.Answers.{Answer, refused, answered, unless, accepted}
+use Rattle.words.proofs.Search.{none-below}
+
+-- ---- whatever follows: refused alike, or answered by what follows
+
+abbrev pub follow : {A : Type 0} → Answer (Unit {0}) → Answer A → Answer A
+follow (refused number place) rest = refused number place
+follow (answered u) rest = rest
+
+follow-unless : {A : Type 0} (number : ℕ) (o : Option ℕ) (a : Answer (Unit {0})) (rest : Answer A) →
+    unless number o (follow a rest) ≡ follow (unless number o a) rest
+follow-unless number none a rest = refl
+follow-unless number (some place) a rest = refl
+
+pub followed : {A : Type 0} (capture : List ℕ) (rest : Answer A) →
+    accepted capture rest ≡ follow (accepted capture (answered (tt {0}))) rest
+unfolding accepted
+followed {A} capture rest =
+    let o1 = given 0 (badLength capture) in
+    let o2 = given 0 (not (goodHeader capture)) in
+    let o3 = badSetting (settingWords capture) in
+    let o4 = badEvent (eventPart capture) (eventCount capture) in
+    let a4 : Answer (Unit {0}) = unless 4 o4 (answered tt) in
+    let a3 : Answer (Unit {0}) = unless 3 o3 a4 in
+    let a2 : Answer (Unit {0}) = unless 2 o2 a3 in
+    ap (λ (x : Answer A). unless 1 o1 (unless 2 o2 (unless 3 o3 x))) (follow-unless 4 o4 (answered tt) rest)
+    ∙ ap (λ (x : Answer A). unless 1 o1 (unless 2 o2 x)) (follow-unless 3 o3 a4 rest)
+    ∙ ap (λ (x : Answer A). unless 1 o1 x) (follow-unless 2 o2 a3 rest)
+    ∙ follow-unless 1 o1 a2 rest
+
+module _ {A : Type 0} (capture : List ℕ) (rest : Answer A) where
+  pub accepted-rest : accepted capture (answered (tt {0})) ≡ answered tt → accepted capture rest ≡ rest
+  accepted-rest h = followed capture rest ∙ ap (λ (a : Answer (Unit {0})). follow a rest) h
+
+  pub refused-rest : {number place : ℕ} → accepted capture (answered (tt {0})) ≡ refused number place → accepted capture rest ≡ refused number place
+  refused-rest h = followed capture rest ∙ ap (λ (a : Answer (Unit {0})). follow a rest) h
+
+-- ---- accepted: all fits
+
+pub record Sized (capture : List ℕ) : Type 0 where
+  pub size : length capture ≡ 80 + 8 * eventCount capture
+  pub few : eventCount capture ≤ 8000
+
+pub record Sound (capture : List ℕ) : Type 0 where
+  pub sized : Sized capture
+  pub settings : (i : ℕ) → i < 14 → settingFits i (getD (settingWords capture) i 0) ≡ true
+  pub events : (i : ℕ) → i < eventCount capture → eventFits (eventPart capture) i ≡ true
+
+nothing-wrong : (o1 o2 o3 o4 : Option ℕ) →
+    unless 1 o1 (unless 2 o2 (unless 3 o3 (unless 4 o4 (answered (tt {0}))))) ≡ answered tt →
+    (o1 ≡ none) × (o2 ≡ none) × (o3 ≡ none) × (o4 ≡ none)
+nothing-wrong none none none none h = (refl, refl, refl, refl)
+nothing-wrong none none none (some p) h = let z : _≡_ {A = ℕ} 0 1 = cc in absurd (omega arith)
+nothing-wrong none none (some p) o4 h = let z : _≡_ {A = ℕ} 0 1 = cc in absurd (omega arith)
+nothing-wrong none (some p) o3 o4 h = let z : _≡_ {A = ℕ} 0 1 = cc in absurd (omega arith)
+nothing-wrong (some p) o2 o3 o4 h = let z : _≡_ {A = ℕ} 0 1 = cc in absurd (omega arith)
+
+not-given : (b : Bool) → given 0 b ≡ none → b ≡ false
+not-given true h = let z : _≡_ {A = ℕ} 0 1 = cc in absurd (omega arith)
+not-given false h = refl
+
+neither : (a b : Bool) → (a || b) ≡ false → (a ≡ false) × (b ≡ false)
+neither true b h = let z : _≡_ {A = ℕ} 0 1 = cc in absurd (omega arith)
+neither false b h = (refl, h)
+
+pub both : (a b : Bool) → (a && b) ≡ true → (a ≡ true) × (b ≡ true)
+both a b h = and-eq-true-iff a b .0 h
+
+third-and-last : (a b c d e f : Bool) → (a && b && c && d && e && f) ≡ true → (c ≡ true) × (f ≡ true)
+third-and-last a b c d e f h =
+    let five = both (a && b && c && d && e) f h in
+    let four = both (a && b && c && d) e (five .0) in
+    let three = both (a && b && c) d (four .0) in
+    (both (a && b) c (three .0) .1, five .1)
+
+module _ (capture : List ℕ) where
+  lengths : badLength capture ≡ false → (ltb (length capture) 80 || ltb 64080 (length capture) ≡ false) × (not (eqb (headerWord capture 0) (length capture)) ≡ false)
+  unfolding badLength
+  lengths h = neither (ltb (length capture) 80 || ltb 64080 (length capture)) _ h
+
+  pub long-enough : badLength capture ≡ false → 80 ≤ length capture
+  long-enough h = ltb-false _ _ (neither (ltb (length capture) 80) _ (lengths h .0) .0)
+
+  counts : goodHeader capture ≡ true → (leb (eventCount capture) 8000 ≡ true) × (eqb (headerWord capture 0) (80 + 8 * eventCount capture) ≡ true)
+  unfolding goodHeader
+  counts h =
+      third-and-last (eqb (headerWord capture 1) 14) (eqb (headerWord capture 2) 24) _ (eqb (headerWord capture 4) 80) (eqb (headerWord capture 5) 0) _ h
+
+  pub sized : badLength capture ≡ false → goodHeader capture ≡ true → Sized capture
+  sized l h =
+      record {
+        size = sym (eqb-true _ _ (not-false _ (lengths l .1))) ∙ eqb-true _ _ (counts h .1);
+        few = leb-true _ _ (counts h .0);
+      }
+
+  pub accepted-sound : accepted capture (answered (tt {0})) ≡ answered tt → Sound capture
+  unfolding accepted badSetting badEvent
+  accepted-sound h =
+      let clear = nothing-wrong (given 0 (badLength capture)) (given 0 (not (goodHeader capture))) (badSetting (settingWords capture)) (badEvent (eventPart capture) (eventCount capture)) h in
+      record {
+        sized = sized (not-given _ (clear .0)) (not-false _ (not-given _ (clear .1)));
+        settings = λ i l. not-false _ (none-below (λ j. not (settingFits j (getD (settingWords capture) j 0))) 14 (clear .2) i l);
+        events = λ i l. not-false _ (none-below (λ j. not (eventFits (eventPart capture) j)) (eventCount capture) (clear .3) i l);
+      }
+
+-- ---- events that fit
+
+module _ (part : List ℕ) (i : ℕ) (h : eventFits part i ≡ true) where
+  fit : (ltb (eventAt part i .pins) (2 ^ 20) ≡ true) × (leb (eventAt part i .cycle) lastCycle ≡ true)
+  unfolding eventFits
+  fit = both _ _ (both (ltb (eventAt part i .pins) (2 ^ 20) && leb (eventAt part i .cycle) lastCycle) _ h .0)
+
+  pub pins-fit : eventAt part i .pins < 2 ^ 20
+  pins-fit = ltb-true _ _ (fit .0)
+
+  pub cycle-fits : eventAt part i .cycle ≤ lastCycle
+  cycle-fits = leb-true _ _ (fit .1)
+
+  pub cycle-rises : 0 < i → eventAt part (i - 1) .cycle < eventAt part i .cycle
+  unfolding eventFits
+  cycle-rises l =
+      let rises = ltb (eventAt part (i - 1) .cycle) (eventAt part i .cycle) in
+      let first : eqb i 0 ≡ false = ne-eqb i 0 (omega arith) in
+      ltb-true _ _ (rw first at (both (ltb (eventAt part i .pins) (2 ^ 20) && leb (eventAt part i .cycle) lastCycle) (eqb i 0 || rises) h .1))
+
+-- cycles rise strictly
+pub cycles-rise : (part : List ℕ) (n : ℕ) → ((i : ℕ) → i < n → eventFits part i ≡ true) →
+    (i j : ℕ) → i < j → j < n → eventAt part i .cycle < eventAt part j .cycle
+cycles-rise part n f i zero l m = absurd (omega arith)
+cycles-rise part n f i (suc j) l m = go (decLt i j) (λ k. cycles-rise part n f i j k (omega arith))
+  where
+    next : eventAt part j .cycle < eventAt part (suc j) .cycle
+    next = let e : suc j - 1 ≡ j = omega arith in rw e at (cycle-rises part (suc j) (f (suc j) m) (omega arith))
+
+    go : Dec (i < j) → (i < j → eventAt part i .cycle < eventAt part j .cycle) → eventAt part i .cycle < eventAt part (suc j) .cycle
+    go (yes k) ih = omega (arith, ih k, next)
+    go (no k) ih = let e : i ≡ j = omega arith in rw e next

@@ -1,0 +1,6 @@
+-- For the proofs of the crates above: what it means that a capture is accepted, and that `open` has one answer.
+pub mod Accepted
+pub mod Unique
+-- The steps of this crate's own proofs.
+mod Walks
+mod Opening

@@ -1,0 +1,77 @@
+use borrow.Author.Tests.{le-leb, lt-leb, eq-eqb, ne-eqb}
+use borrow.Author.Needs.{needs}
+use Rattle.reading.specs.Capture.{goodHeader}
+use Rattle.capture.proofs.bad_header.Statement.{statement}
+use Rattle.capture.proofs.bad_header.Tie as tie
+
+word-at-requires : tie.Need-word-at-requires
+word-at-requires c κs = search needs
+
+returns : tie.Need-returns
+unfolding goodHeader
+returns c = rw (← c .before .word-at .ensures, ne-eqb _ _ (c .if1 .taken))
+
+word-at-requires-2 : tie.Need-word-at-requires-2
+word-at-requires-2 c κs = search needs
+
+returns-2 : tie.Need-returns-2
+unfolding goodHeader
+returns-2 c =
+    rw (← c .before .before .before .word-at .ensures, eq-eqb _ _ (c .before .before .if1 .left), ← c .before .word-at2 .ensures, ne-eqb _ _ (c .if2 .taken))
+
+event-count-requires : tie.Need-event-count-requires
+event-count-requires c κs = search needs
+
+returns-3 : tie.Need-returns-3
+unfolding goodHeader
+returns-3 c =
+    rw (← c .before .before .before .before .before .word-at .ensures, eq-eqb _ _ (c .before .before .before .before .if1 .left), ← c .before .before .before .word-at2 .ensures, eq-eqb _ _ (c .before .before .if2 .left), ← c .before .event-count .ensures, lt-leb _ _ (c .if3 .taken))
+
+word-at-requires-3 : tie.Need-word-at-requires-3
+word-at-requires-3 c κs = search needs
+
+returns-4 : tie.Need-returns-4
+unfolding goodHeader
+returns-4 c =
+    rw (← c .before .before .before .before .before .before .before .word-at .ensures, eq-eqb _ _ (c .before .before .before .before .before .before .if1 .left), ← c .before .before .before .before .before .word-at2 .ensures, eq-eqb _ _ (c .before .before .before .before .if2 .left), ← c .before .before .before .event-count .ensures, le-leb _ _ (c .before .before .if3 .left), ← c .before .word-at3 .ensures, ne-eqb _ _ (c .if4 .taken))
+
+word-at-requires-4 : tie.Need-word-at-requires-4
+word-at-requires-4 c κs = search needs
+
+returns-5 : tie.Need-returns-5
+unfolding goodHeader
+returns-5 c =
+    rw (← c .before .before .before .before .before .before .before .before .before .word-at .ensures, eq-eqb _ _ (c .before .before .before .before .before .before .before .before .if1 .left), ← c .before .before .before .before .before .before .before .word-at2 .ensures, eq-eqb _ _ (c .before .before .before .before .before .before .if2 .left), ← c .before .before .before .before .before .event-count .ensures, le-leb _ _ (c .before .before .before .before .if3 .left), ← c .before .before .before .word-at3 .ensures, eq-eqb _ _ (c .before .before .if4 .left), ← c .before .word-at4 .ensures, ne-eqb _ _ (c .if5 .taken))
+
+word-at-requires-5 : tie.Need-word-at-requires-5
+word-at-requires-5 c κs = search needs
+
+mul-result : tie.Need-mul-result
+mul-result c = search needs
+
+add-result : tie.Need-add-result
+add-result c = search needs
+
+returns-6 : tie.Need-returns-6
+unfolding goodHeader
+returns-6 c =
+    rw (← c .before .before .before .before .before .before .before .before .before .before .word-at .ensures, eq-eqb _ _ (c .before .before .before .before .before .before .before .before .before .if1 .left), ← c .before .before .before .before .before .before .before .before .word-at2 .ensures, eq-eqb _ _ (c .before .before .before .before .before .before .before .if2 .left), ← c .before .before .before .before .before .before .event-count .ensures, le-leb _ _ (c .before .before .before .before .before .if3 .left), ← c .before .before .before .before .word-at3 .ensures, eq-eqb _ _ (c .before .before .before .if4 .left), ← c .before .before .word-at4 .ensures, eq-eqb _ _ (c .before .if5 .left), ← c .word-at5 .ensures)
+
+pub bad-header-spec : {M : Type 1} → statement M
+bad-header-spec =
+    tie.close
+    (tie.spec
+    word-at-requires
+    returns
+    word-at-requires-2
+    returns-2
+    event-count-requires
+    returns-3
+    word-at-requires-3
+    returns-4
+    word-at-requires-4
+    returns-5
+    word-at-requires-5
+    mul-result
+    add-result
+    returns-6)

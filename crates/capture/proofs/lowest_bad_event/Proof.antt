@@ -1,0 +1,66 @@
+-- The invariant: `next` is the first cycle above that of the event before i, and what is found from i on is what is found at all.
+use Prim.Native.Nat.{_-_}
+use mathlib.Core.Path.{sym, _∙_}
+use native.Mathlib.Omega.{arith}
+use Rattle.capture.proofs.Walks.{Sought, begins, goes-on, stops, ends, room}
+use Rattle.capture.proofs.lowest_bad_event.Statement.{statement}
+use Rattle.capture.proofs.lowest_bad_event.Tie as tie
+
+abbrev Inv-events : tie.InvT-events
+Inv-events part n next₀ i₀ next i = Sought part n next i
+
+abbrev μ-events : tie.MeasureT-events
+μ-events part n next₀ i₀ next i = n - i
+
+events-holds : tie.Need-events-holds Inv-events μ-events
+events-holds c = begins (c .before .args .part .now) (c .before .args .n)
+
+cycle-at-requires : tie.Need-cycle-at-requires Inv-events μ-events
+cycle-at-requires c κs = omega arith
+
+pins-at-requires : tie.Need-pins-at-requires Inv-events μ-events
+pins-at-requires c κs = omega arith
+
+event-fits-requires : tie.Need-event-fits-requires Inv-events μ-events
+event-fits-requires c κs = tt
+
+add-next : tie.Need-add-next Inv-events μ-events
+add-next c = omega (arith, room _ _ _ (sym (c .before .event-fits .ensures) ∙ c .if1 .taken))
+
+add-i : tie.Need-add-i Inv-events μ-events
+add-i c = omega arith
+
+events-less : tie.Need-events-less Inv-events μ-events
+events-less c = omega arith
+
+events-again : tie.Need-events-again Inv-events μ-events
+events-again c =
+    goes-on (c .before .before .before .before .before .events .inv) (omega arith) (c .before .before .before .cycle-at .ensures) (c .before .before .pins-at .ensures) (sym (c .before .event-fits .ensures) ∙ c .if1 .taken)
+
+cast-t9 : tie.Need-cast-t9 Inv-events μ-events
+cast-t9 c = omega arith
+
+returns : tie.Need-returns Inv-events μ-events
+returns c =
+    stops (c .before .before .before .before .before .events .inv) (omega arith) (c .before .before .before .cycle-at .ensures) (c .before .before .pins-at .ensures) (sym (c .before .event-fits .ensures) ∙ c .if1 .left)
+
+returns-2 : tie.Need-returns-2 Inv-events μ-events
+returns-2 c = ends (c .before .events .inv) (omega arith)
+
+pub lowest-bad-event-spec : {M : Type 1} → statement M
+lowest-bad-event-spec =
+    tie.close
+    (tie.spec
+    Inv-events
+    μ-events
+    events-holds
+    cycle-at-requires
+    pins-at-requires
+    event-fits-requires
+    add-next
+    add-i
+    events-less
+    events-again
+    cast-t9
+    returns
+    returns-2)

@@ -1,0 +1,135 @@
+use Prim.Native.Nat.{ℕ, _≤_}
+use mathlib.Core.List.{List}
+use mathlib.Core.Path.{_≡_, sym, ap, _∙_}
+use mathlib.Core.Bool.{true, false}
+use native.Mathlib.Omega.{arith}
+use borrow.Author.Tests.{not-true, not-false}
+use borrow.Author.Needs.{needs}
+use lib.ListN.{length}
+use Rattle.reading.specs.Settings.{badSetting}
+use Rattle.reading.specs.Capture.{badLength, goodHeader}
+use Rattle.reading.specs.Answers.{Answer, answered, unless, accepted}
+use Rattle.words.specs.Found.{placeOf}
+use Rattle.words.specs.declared.Found.{Found}
+use Rattle.capture.proofs.Accepted.{long-enough, sized}
+use Rattle.capture.proofs.Opening.{events-within, wrong-length, wrong-header, wrong-setting, right-settings}
+use Rattle.capture.proofs.open.Statement.{statement}
+use Rattle.capture.proofs.open.Tie as tie
+
+-- what the first two tests leave
+abbrev capture-of : tie.Else2 → List ℕ
+capture-of c = c .before .before .before .before .before .args .capture .now
+
+right-length : (c : tie.Else1) → badLength (c .before .before .before .args .capture .now) ≡ false
+right-length c = sym (c .before .bad-length .ensures) ∙ c .if1 .left
+
+right-header : (c : tie.Else2) → goodHeader (capture-of c) ≡ true
+right-header c = not-false _ (sym (c .before .bad-header .ensures) ∙ c .if2 .left)
+
+long : (c : tie.Else2) → 80 ≤ length (capture-of c)
+long c = long-enough (capture-of c) (right-length (c .before .before))
+
+bad-length-requires : tie.Need-bad-length-requires
+bad-length-requires c κs = search needs
+
+returns : tie.Need-returns
+returns c =
+    wrong-length (c .before .before .before .args .capture .now) (sym (c .before .bad-length .ensures) ∙ c .if1 .taken)
+
+bad-header-requires : tie.Need-bad-header-requires
+bad-header-requires c κs = omega (arith, long-enough (c .before .before .before .args .capture .now) (right-length c))
+
+returns-2 : tie.Need-returns-2
+returns-2 c =
+    wrong-header (c .before .before .before .before .before .args .capture .now) (right-length (c .before .before)) (not-true _ (sym (c .before .bad-header .ensures) ∙ c .if2 .taken))
+
+setting-words-requires : tie.Need-setting-words-requires
+setting-words-requires c κs = long c
+
+slice-aggregate-lowest-bad : tie.Need-slice-aggregate-lowest-bad
+slice-aggregate-lowest-bad c = search needs
+
+lowest-bad-requires : tie.Need-lowest-bad-requires
+lowest-bad-requires c κs = search needs
+
+enum-known-setting : tie.Need-enum-known-setting
+enum-known-setting c = search needs
+
+returns-3 : tie.Need-returns-3
+returns-3 c =
+    let tests = c .before .before .before .before .before .before in
+    let found = c .before .before .before .lowest-bad in
+    wrong-setting (capture-of tests) (right-length (tests .before .before)) (right-header tests) (found .result)
+    (found .ensures ∙ ap badSetting (c .before .before .before .before .before .setting-words .ensures)) (c .before .setting .given .1)
+
+enum-told : tie.Need-enum-told
+enum-told c = search needs
+
+event-count-requires : tie.Need-event-count-requires
+event-count-requires c κs = omega (arith, long (c .before .before .before .before .before))
+
+cast-n : tie.Need-cast-n
+cast-n c = search needs
+
+sub-lowest-bad-event : tie.Need-sub-lowest-bad-event
+sub-lowest-bad-event c = long (c .before .before .before .before .before .before)
+
+part-lowest-bad-event-start : tie.Need-part-lowest-bad-event-start
+part-lowest-bad-event-start c = long (c .before .before .before .before .before .before)
+
+part-lowest-bad-event-end : tie.Need-part-lowest-bad-event-end
+part-lowest-bad-event-end c = search needs
+
+lowest-bad-event-requires : tie.Need-lowest-bad-event-requires
+lowest-bad-event-requires c κs =
+    let tests = c .before .before .before .before .before .before .before in
+    events-within (capture-of tests) (sized (capture-of tests) (right-length (tests .before .before)) (right-header tests)) (c .before .event-count .ensures)
+
+enum-known-i : tie.Need-enum-known-i
+enum-known-i c = search needs
+
+enum-told-2 : tie.Need-enum-told-2
+enum-told-2 c = search needs
+
+-- what the walk over the events leads to
+abbrev of-event : Found → Answer (Unit {0})
+of-event r = unless 4 (placeOf r) (answered tt)
+
+walked : (c : tie.After-lowest-bad-event) → of-event (c .lowest-bad-event .result) ≡ accepted (capture-of (c .before .before .before .before .before .before .before .before)) (answered tt)
+walked c =
+    let tests = c .before .before .before .before .before .before .before .before in
+    let setting = c .before .before .before .before .before .lowest-bad in
+    right-settings (capture-of tests) (right-length (tests .before .before)) (right-header tests) (setting .result)
+    (setting .ensures ∙ ap badSetting (c .before .before .before .before .before .before .before .setting-words .ensures)) (c .before .before .before .enum-told .given .1)
+    (c .lowest-bad-event .result) (c .before .before .event-count .ensures) (c .lowest-bad-event .ensures)
+
+returns-4 : tie.Need-returns-4
+returns-4 c = sym (ap of-event (c .enum-told2 .given .1)) ∙ walked (c .before .before)
+
+returns-5 : tie.Need-returns-5
+returns-5 c = sym (ap of-event (c .before .i .given .1)) ∙ walked (c .before .before .before)
+
+pub open-spec : {M : Type 1} → statement M
+open-spec =
+    tie.close
+    (tie.spec
+    bad-length-requires
+    returns
+    bad-header-requires
+    returns-2
+    setting-words-requires
+    slice-aggregate-lowest-bad
+    lowest-bad-requires
+    enum-known-setting
+    returns-3
+    enum-told
+    event-count-requires
+    cast-n
+    sub-lowest-bad-event
+    part-lowest-bad-event-start
+    part-lowest-bad-event-end
+    lowest-bad-event-requires
+    enum-known-i
+    enum-told-2
+    returns-4
+    returns-5)

@@ -1,0 +1,142 @@
+// A capture in bytes: whether it is accepted, and its settings and events.
+use words::Found;
+ghost use mathlib.Core.Path.{_≡_};
+ghost use mathlib.Core.Bool.{not};
+ghost use Prim.Native.Nat.{_+_, _*_, _≤_};
+ghost use lib.ListN.{length};
+ghost use Rattle.words.specs.Found.{placeOf};
+ghost use Rattle.reading.specs.Capture.{eventCount, settingWords, eventAt, badLength, goodHeader, badEvent};
+ghost use Rattle.reading.specs.Answers.{answered, accepted};
+ghost use Rattle.capture.specs.Meaning.{means, fitsFrom};
+
+// What opening a capture finds.
+pub enum Opened {
+    Accepted,
+    Length,
+    Header,
+    Setting(u32),
+    Event(u32),
+}
+
+fn bad_length(capture: &[u8]) -> bool
+    ensures { λ r. ⌜ r ≡ badLength (now (capture .entry)) ⌝ }
+{
+    let size = capture.len();
+    if size < 80 {
+        return true;
+    }
+    if 64_080 < size {
+        return true;
+    }
+    words::word_at(capture, 0) as usize != size
+}
+
+// N, as the header states it.
+pub fn event_count(capture: &[u8]) -> u32
+    requires { ⌜ 24 ≤ length (now capture) ⌝ }
+    ensures { λ r. ⌜ r ≡ eventCount (now (capture .entry)) ⌝ }
+{
+    words::word_at(capture, 12)
+}
+
+fn bad_header(capture: &[u8]) -> bool
+    requires { ⌜ 24 ≤ length (now capture) ⌝ }
+    ensures { λ r. ⌜ r ≡ not (goodHeader (now (capture .entry))) ⌝ }
+{
+    if words::word_at(capture, 4) != 14 {
+        return true;
+    }
+    if words::word_at(capture, 8) != 24 {
+        return true;
+    }
+    let n = event_count(capture);
+    if 8_000 < n {
+        return true;
+    }
+    if words::word_at(capture, 16) != 80 {
+        return true;
+    }
+    if words::word_at(capture, 20) != 0 {
+        return true;
+    }
+    words::word_at(capture, 0) != 80 + 8 * n
+}
+
+// The fourteen settings, as words.
+pub fn setting_words(capture: &[u8]) -> [u32; 14]
+    requires { ⌜ 80 ≤ length (now capture) ⌝ }
+    ensures { λ r. ⌜ r ≡ settingWords (now (capture .entry)) ⌝ }
+{
+    let mut loaded = [0u32; 14];
+    for i in 0..14 {
+        loaded[i] = words::word_at(capture, 24 + 4 * i);
+    }
+    loaded
+}
+
+// The cycle of event i in the part of the capture that starts at byte 80.
+pub fn cycle_at(part: &[u8], i: usize) -> u32
+    requires { ⌜ 8 * i + 8 ≤ length (now part) ⌝ }
+    ensures { λ r. ⌜ r ≡ eventAt (now (part .entry)) i .cycle ⌝ }
+{
+    words::word_at(part, 8 * i)
+}
+
+pub fn pins_at(part: &[u8], i: usize) -> u32
+    requires { ⌜ 8 * i + 8 ≤ length (now part) ⌝ }
+    ensures { λ r. ⌜ r ≡ eventAt (now (part .entry)) i .pins ⌝ }
+{
+    words::word_at(part, 8 * i + 4)
+}
+
+// An event may have these words where `next` is the first cycle that is above the one before.
+fn event_fits(next: u32, cycle: u32, pins: u32) -> bool
+    ensures { λ r. ⌜ r ≡ fitsFrom next cycle pins ⌝ }
+{
+    if 1_048_576 <= pins {
+        return false;
+    }
+    if 2_000_000_000 < cycle {
+        return false;
+    }
+    next <= cycle
+}
+
+fn lowest_bad_event(part: &[u8], n: usize) -> Found
+    requires { ⌜ (n ≤ 8000) × (8 * n ≤ length (now part)) ⌝ }
+    ensures { λ r. ⌜ placeOf r ≡ badEvent (now (part .entry)) n ⌝ }
+{
+    let mut next = 0;
+    'events: for i in 0..n {
+        let cycle = cycle_at(part, i);
+        let pins = pins_at(part, i);
+        if event_fits(next, cycle, pins) {
+            next = cycle + 1;
+            continue 'events;
+        }
+        return Found::At(i as u32);
+    }
+    Found::Nothing
+}
+
+// Refusals 1 to 4, in this order.
+pub fn open(capture: &[u8]) -> Opened
+    ensures { λ r. ⌜ means r ≡ accepted (now (capture .entry)) (answered tt) ⌝ }
+{
+    if bad_length(capture) {
+        return Opened::Length;
+    }
+    if bad_header(capture) {
+        return Opened::Header;
+    }
+    let loaded = setting_words(capture);
+    let setting = settings::lowest_bad(&loaded);
+    if let Found::At(i) = setting {
+        return Opened::Setting(i);
+    }
+    let n = event_count(capture) as usize;
+    let Found::At(i) = lowest_bad_event(&capture[80..], n) else {
+        return Opened::Accepted;
+    };
+    Opened::Event(i)
+}

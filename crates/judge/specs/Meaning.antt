@@ -1,0 +1,43 @@
+-- What this crate's verdicts mean in document 01, and what is known of events that are walked.
+use Prim.Native.Nat.{ℕ, _+_, _*_, _≤_, _<_}
+use mathlib.Core.List.{List, map}
+use mathlib.Core.Path.{_≡_}
+use lib.ListN.{length}
+use Rattle.reading.specs.Search.{count}
+use Rattle.reading.specs.Settings as reading
+use Rattle.reading.specs.Capture.{Event, eventAt, eventFits}
+use Rattle.reading.specs.Verdict as is
+use Rattle.reading.specs.Answers.{Answer, refused, answered, Report}
+use Rattle.part.specs.declared.Answer as step
+use Rattle.part.specs.declared.Answer.the-variants.{Kept, Broke}
+use Rattle.judge.specs.declared.Verdict.{Verdict}
+use Rattle.judge.specs.declared.Verdict.the-variants.{Refused, Clean, Broken}
+
+-- document 01's answer for a capture of n events
+abbrev pub means : ℕ → Verdict → Answer Report
+means n (Refused number place) = refused number place
+means n (Clean judged) = answered (record { events = n; judged = judged; verdict = is.clean })
+means n (Broken rule event cycle judged) = answered (record { events = n; judged = judged; verdict = is.broken rule event cycle })
+
+-- the verdict where a step answers so
+abbrev pub found : step.Answer → ℕ → ℕ → Verdict
+found Kept i cycle = Clean i
+found (Broke rule) i cycle = Broken rule i cycle i
+
+-- the first n events of the part from byte 80 on
+abbrev pub eventsIn : List ℕ → ℕ → List Event
+eventsIn part n = map (eventAt part) (count 0 n)
+
+-- n events fit, and so do the settings
+pub record Fit (settings part : List ℕ) (n : ℕ) : Type 0 where
+  pub few : n ≤ 8000
+  pub long : 8 * n ≤ length part
+  pub rows : reading.settingsOf settings .rowBits < 32
+  pub events : (i : ℕ) → i < n → eventFits part i ≡ true
+
+abbrev pub said : ℕ → is.Verdict → Verdict
+said n is.clean = Clean n
+said n (is.broken rule event cycle) = Broken rule event cycle event
+
+unfoldable pub verdictOn : reading.Settings → List ℕ → ℕ → Verdict
+verdictOn s part n = said n (is.verdictOf s (eventsIn part n))

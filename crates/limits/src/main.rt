@@ -1,0 +1,403 @@
+// Captures and lists of settings at the limits of document 01 ("01" below), each with the number and the place that 01's
+// table of refusals gives it, or 0 and 0 where it is accepted. A line is written for each: what was tried and what was
+// answered, and "WRONG" where 01 says otherwise.
+use capture::Opened;
+use settings::Checked;
+ghost use Prim.Native.Nat.{_<_};
+
+const STDOUT: i32 = 1;
+
+// Where words of a capture stand.
+const TOTAL: u32 = 0;
+
+const SETTINGS_COUNT: u32 = 4;
+
+const SETTINGS_OFFSET: u32 = 8;
+
+const EVENTS_COUNT: u32 = 12;
+
+const EVENTS_OFFSET: u32 = 16;
+
+const LAST_WORD: u32 = 20;
+
+const LANE: u32 = 24;
+
+const MODE: u32 = 36;
+
+const T_RCD: u32 = 40;
+
+const T_MRD: u32 = 72;
+
+const GAP: u32 = 76;
+
+const CYCLE_0: u32 = 80;
+
+const PINS_0: u32 = 84;
+
+const CYCLE_1: u32 = 88;
+
+const PINS_1: u32 = 92;
+
+const CYCLE_2: u32 = 96;
+
+const PINS_2: u32 = 100;
+
+const CYCLE_7999: u32 = 64_072;
+
+const PINS_7999: u32 = 64_076;
+
+// Behind every capture.
+const NOWHERE: u32 = 100_000;
+
+// The settings of 01's cases.
+const SETTINGS: [u32; 14] = [1, 13, 10, 0x32, 3, 3, 7, 10, 2, 3, 1, 12, 2, 1000];
+
+// A number of 01's table and a place; 0 and 0 for what is accepted.
+struct Answer(u32, u32);
+
+fn of_opened(o: Opened) -> Answer {
+    match o {
+        Opened::Accepted => Answer(0, 0),
+        Opened::Length => Answer(1, 0),
+        Opened::Header => Answer(2, 0),
+        Opened::Setting(i) => Answer(3, i),
+        Opened::Event(i) => Answer(4, i),
+    }
+}
+
+fn of_checked(c: Checked) -> Answer {
+    match c {
+        Checked::Fine => Answer(0, 0),
+        Checked::Count => Answer(2, 0),
+        Checked::Setting(i) => Answer(3, i),
+    }
+}
+
+// ---- captures that are right but for a word or two
+
+fn store(out: &mut [u8], at: u32, word: u32) {
+    let place = at as usize;
+    if out.len() < 4 {
+        return;
+    }
+    if out.len() - 4 < place {
+        return;
+    }
+    words::put_word(out, place, word);
+}
+
+// As many events as a capture of `size` bytes has room for.
+fn room(size: u32) -> u32 {
+    if size < 80 {
+        return 0;
+    }
+    (size - 80) / 8
+}
+
+fn store_header(out: &mut [u8], size: u32) {
+    store(out, TOTAL, size);
+    store(out, SETTINGS_COUNT, 14);
+    store(out, SETTINGS_OFFSET, 24);
+    store(out, EVENTS_COUNT, room(size));
+    store(out, EVENTS_OFFSET, 80);
+    store(out, LAST_WORD, 0);
+}
+
+fn store_settings(out: &mut [u8]) {
+    let mut at = LANE;
+    for i in 0..14 {
+        store(out, at, SETTINGS[i]);
+        at += 4;
+    }
+}
+
+// Event i is a NOP (CS# low, RAS#, CAS# and WE# high) at cycle 10 i.
+fn store_events(out: &mut [u8]) {
+    for i in 0..8_001 {
+        store(out, CYCLE_0 + 8 * i, 10 * i);
+        store(out, PINS_0 + 8 * i, 0x000E_0000);
+    }
+}
+
+fn opened(size: u32, at: u32, word: u32, other: u32, second: u32) -> Answer {
+    let mut buffer = io::large_buffer();
+    store_header(&mut buffer, size);
+    store_settings(&mut buffer);
+    store_events(&mut buffer);
+    store(&mut buffer, at, word);
+    store(&mut buffer, other, second);
+    let n = io::count(size as isize, &buffer);
+    of_opened(capture::open(&buffer[..n]))
+}
+
+// ---- lines
+
+fn print(n: u32) {
+    io::print_decimal(STDOUT, n as u64);
+}
+
+fn print_change(at: u32, word: u32) {
+    if at == NOWHERE {
+        return;
+    }
+    io::write_all(STDOUT, b", byte ");
+    print(at);
+    io::write_all(STDOUT, b" word ");
+    print(word);
+}
+
+fn print_answer(got: Answer, number: u32, place: u32) {
+    if got.0 == 0 {
+        io::write_all(STDOUT, b"accepted");
+    } else {
+        io::write_all(STDOUT, b"refused ");
+        print(got.0);
+        io::write_all(STDOUT, b" place ");
+        print(got.1);
+    }
+    if got.0 != number || got.1 != place {
+        io::write_all(STDOUT, b" WRONG");
+    }
+}
+
+fn twice_changed(size: u32, at: u32, word: u32, other: u32, second: u32, number: u32, place: u32) {
+    print(size);
+    io::write_all(STDOUT, b" bytes");
+    print_change(at, word);
+    print_change(other, second);
+    io::write_all(STDOUT, b": ");
+    print_answer(opened(size, at, word, other, second), number, place);
+    io::write_all(STDOUT, b"\n");
+}
+
+fn changed(size: u32, at: u32, word: u32, number: u32, place: u32) {
+    twice_changed(size, at, word, NOWHERE, 0, number, place);
+}
+
+fn unchanged(size: u32, number: u32, place: u32) {
+    twice_changed(size, NOWHERE, 0, NOWHERE, 0, number, place);
+}
+
+// ---- refusal 1: "capture under 80 or over 64,080 bytes, or not of its stated total", place 0
+
+fn lengths() {
+    unchanged(0, 1, 0);
+    unchanged(79, 1, 0); // states 79
+    unchanged(80, 0, 0); // no events
+    unchanged(88, 0, 0); // one event
+    unchanged(64_080, 0, 0); // 8,000 events
+    unchanged(64_081, 1, 0); // states 64,081
+    unchanged(64_088, 1, 0); // states 8,001 events too, and length is tried first
+    changed(80, TOTAL, 79, 1, 0);
+    changed(80, TOTAL, 81, 1, 0);
+    changed(80, TOTAL, 0, 1, 0);
+    changed(81, TOTAL, 80, 1, 0);
+    changed(64_080, TOTAL, 64_079, 1, 0);
+}
+
+// ---- refusal 2: "another header word is not as above, or the total is not 80 + 8N", place 0
+
+fn header_words() {
+    changed(80, SETTINGS_COUNT, 13, 2, 0);
+    changed(80, SETTINGS_COUNT, 15, 2, 0);
+    changed(80, SETTINGS_OFFSET, 23, 2, 0);
+    changed(80, SETTINGS_OFFSET, 25, 2, 0);
+    changed(80, EVENTS_OFFSET, 79, 2, 0);
+    changed(80, EVENTS_OFFSET, 81, 2, 0);
+    changed(80, LAST_WORD, 1, 2, 0);
+    changed(80, LAST_WORD, 0x8000_0000, 2, 0);
+}
+
+fn event_counts() {
+    unchanged(81, 2, 0); // 81 is not 80
+    unchanged(87, 2, 0);
+    changed(80, EVENTS_COUNT, 1, 2, 0); // 80 is not 88
+    changed(88, EVENTS_COUNT, 0, 2, 0);
+    changed(64_080, EVENTS_COUNT, 7_999, 2, 0);
+    changed(64_080, EVENTS_COUNT, 8_001, 2, 0);
+    changed(80, EVENTS_COUNT, 0x2000_0000, 2, 0); // 8N is 2^32, which is 0 in 32 bits
+}
+
+// ---- refusal 4: "pin bits 20-31 set, or a cycle too large or not above the one before", place the lowest event.
+// Three events are at cycles 0, 10 and 20.
+
+fn pins() {
+    changed(104, PINS_1, 0, 0, 0);
+    changed(104, PINS_1, 0x000F_FFFF, 0, 0); // bits 0 to 19
+    for bit in 20u32..32 {
+        changed(104, PINS_1, 1 << bit, 4, 1);
+    }
+}
+
+fn rising_cycles() {
+    changed(104, CYCLE_0, 9, 0, 0); // nothing stands before the first event
+    changed(104, CYCLE_0, 10, 4, 1); // the second is equal
+    changed(104, CYCLE_1, 1, 0, 0); // one above the first
+    changed(104, CYCLE_1, 0, 4, 1); // equal
+    changed(104, CYCLE_1, 20, 4, 2); // the third is equal
+    changed(104, CYCLE_2, 11, 0, 0);
+    changed(104, CYCLE_2, 10, 4, 2); // equal
+    changed(104, CYCLE_2, 9, 4, 2); // falling
+    twice_changed(104, CYCLE_0, 30, CYCLE_1, 40, 4, 2); // the third alone is falling
+}
+
+fn large_cycles() {
+    changed(104, CYCLE_2, 2_000_000_000, 0, 0); // "at most 2,000,000,000"
+    changed(104, CYCLE_2, 2_000_000_001, 4, 2);
+    changed(104, CYCLE_2, 0xFFFF_FFFF, 4, 2);
+    changed(104, CYCLE_0, 2_000_000_000, 4, 1); // it fits, and the second is below it
+    changed(104, CYCLE_0, 2_000_000_001, 4, 0);
+    twice_changed(104, CYCLE_1, 1_999_999_999, CYCLE_2, 2_000_000_000, 0, 0);
+    twice_changed(104, CYCLE_1, 2_000_000_000, CYCLE_2, 2_000_000_001, 4, 2);
+}
+
+fn first_and_last_events() {
+    changed(104, PINS_0, 0x0010_0000, 4, 0);
+    changed(104, PINS_2, 0x0010_0000, 4, 2);
+    changed(64_080, PINS_7999, 0x0010_0000, 4, 7_999);
+    changed(64_080, CYCLE_7999, 79_981, 0, 0); // event 7,998 is at 79,980
+    changed(64_080, CYCLE_7999, 79_980, 4, 7_999);
+}
+
+// ---- several faults: "tried in this order; the first that applies is given"
+
+fn numbers_in_order() {
+    changed(79, SETTINGS_COUNT, 13, 1, 0);
+    twice_changed(80, TOTAL, 81, SETTINGS_COUNT, 13, 1, 0);
+    twice_changed(64_088, LANE, 0, PINS_0, 0x0010_0000, 1, 0);
+    twice_changed(80, LAST_WORD, 1, LANE, 0, 2, 0);
+    twice_changed(104, EVENTS_COUNT, 2, PINS_0, 0x0010_0000, 2, 0);
+    twice_changed(104, LANE, 3, PINS_0, 0x0010_0000, 3, 0);
+    twice_changed(104, GAP, 0, PINS_0, 0x0010_0000, 3, 13);
+}
+
+// "lowest such setting", by range or by the mode word alike; "lowest event"
+fn lowest_places() {
+    twice_changed(104, T_RCD, 0, LANE, 0, 3, 0);
+    twice_changed(104, GAP, 0, T_MRD, 0, 3, 12);
+    twice_changed(104, T_RCD, 0, MODE, 0x02, 3, 3);
+    twice_changed(104, T_RCD, 0, MODE, 0x80, 3, 3);
+    twice_changed(104, PINS_2, 0x0010_0000, PINS_0, 0x0010_0000, 4, 0);
+    twice_changed(104, PINS_2, 0x0010_0000, CYCLE_1, 0, 4, 1);
+    twice_changed(104, CYCLE_2, 9, PINS_1, 0x0010_0000, 4, 1);
+    twice_changed(104, CYCLE_2, 9, PINS_2, 0x0010_0000, 4, 2);
+    twice_changed(104, CYCLE_2, 0, CYCLE_1, 0, 4, 1);
+    twice_changed(104, CYCLE_2, 9, CYCLE_0, 2_000_000_001, 4, 0);
+}
+
+// ---- refusal 3: "a setting out of range, or the mode word not valid by rule 2", place the setting;
+// in a list and in a capture
+
+fn checked(i: u32, word: u32) -> Answer
+    requires { ⌜ i < 14 ⌝ }
+{
+    let mut list = SETTINGS;
+    list[i as usize] = word;
+    of_checked(settings::check(&list))
+}
+
+fn setting(i: u32, word: u32, number: u32, place: u32)
+    requires { ⌜ i < 14 ⌝ }
+{
+    io::write_all(STDOUT, b"setting ");
+    print(i);
+    io::write_all(STDOUT, b" is ");
+    print(word);
+    io::write_all(STDOUT, b": list ");
+    print_answer(checked(i, word), number, place);
+    io::write_all(STDOUT, b", capture ");
+    print_answer(opened(104, LANE + 4 * i, word, NOWHERE, 0), number, place);
+    io::write_all(STDOUT, b"\n");
+}
+
+// At the limits of a row and on either side of them.
+fn row(i: u32, below: u32, least: u32, most: u32, above: u32)
+    requires { ⌜ i < 14 ⌝ }
+{
+    setting(i, below, 3, i);
+    setting(i, least, 0, 0);
+    setting(i, most, 0, 0);
+    setting(i, above, 3, i);
+}
+
+// The table of 01 but for row 3.
+fn rows() {
+    row(0, 0, 1, 2, 3);
+    row(1, 11, 12, 14, 15);
+    row(2, 7, 8, 11, 12);
+    for i in 4..13 {
+        row(i, 0, 1, 10_000, 10_001);
+    }
+    row(13, 0, 1, 1_000_000, 1_000_001);
+}
+
+fn mode(word: u32, number: u32, place: u32) {
+    setting(3, word, number, place);
+}
+
+// Row 3: from 0 to 127, and "bits 0-2 are 1, 2, 3, 4; bit 3 is 0 sequential, 1 interleaved; bits 4-6 are 2 or 3".
+fn burst_lengths() {
+    mode(0x20, 3, 3);
+    mode(0x21, 0, 0);
+    mode(0x22, 0, 0);
+    mode(0x23, 0, 0);
+    mode(0x24, 0, 0);
+    mode(0x25, 3, 3);
+    mode(0x27, 3, 3);
+    mode(0x28, 3, 3);
+    mode(0x29, 0, 0);
+    mode(0x3C, 0, 0);
+}
+
+fn latencies() {
+    mode(0x02, 3, 3);
+    mode(0x12, 3, 3);
+    mode(0x22, 0, 0);
+    mode(0x32, 0, 0);
+    mode(0x42, 3, 3);
+    mode(0x52, 3, 3);
+    mode(0x62, 3, 3);
+    mode(0x72, 3, 3);
+}
+
+fn mode_range() {
+    mode(0, 3, 3);
+    mode(127, 3, 3);
+    mode(128, 3, 3);
+    mode(0xB2, 3, 3); // 0x32 and bit 7
+    mode(0x8000_0032, 3, 3);
+}
+
+// ---- refusal 2 of a list: "a settings list not of 14 words", before refusal 3
+
+fn list(words: &[u32], number: u32, place: u32) {
+    io::write_all(STDOUT, b"list of ");
+    io::print_decimal(STDOUT, words.len() as u64);
+    io::write_all(STDOUT, b" zeros: ");
+    print_answer(of_checked(settings::check(words)), number, place);
+    io::write_all(STDOUT, b"\n");
+}
+
+fn lists() {
+    list(&[], 2, 0);
+    list(&[0u32; 13], 2, 0);
+    list(&[0u32; 14], 3, 0);
+    list(&[0u32; 15], 2, 0);
+}
+
+fn main() {
+    lengths();
+    header_words();
+    event_counts();
+    pins();
+    rising_cycles();
+    large_cycles();
+    first_and_last_events();
+    numbers_in_order();
+    lowest_places();
+    lists();
+    rows();
+    burst_lengths();
+    latencies();
+    mode_range();
+}

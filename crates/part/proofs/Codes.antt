@@ -1,0 +1,78 @@
+-- A step does what its command does: one law for each way that the four command pins can stand.
+use Prim.Native.Nat.{ℕ}
+use mathlib.Core.Bool.{Bool, true, false, cond, _&&_}
+use mathlib.Core.List.{List}
+use mathlib.Core.Path.{_≡_, refl, sym, ap, _∙_}
+use lib.Dec.{eqb}
+use borrow.Author.Tests.{ne-eqb}
+use Rattle.reading.specs.Settings.{Settings}
+use Rattle.part.specs.Deadlines.{dueBreaks, activeBreaks, readBreaks, writeBreaks, terminateBreaks, closeBreaks, closeAllBreaks, refreshBreaks, modeBreaks, activeAfter, readAfter, writeAfter, cutRead, closeAfter, closeAllAfter, refreshAfter, modeSetAfter}
+use Rattle.part.specs.Steps.{answerOf, codeOf, bankOf, addressOf, tenOf, byCode, stepBreaks, stepAfter, modeAfter}
+use Rattle.part.specs.declared.Answer.{Answer}
+
+module _ (s : Settings) (d : List ℕ) (m t w : ℕ) where
+  -- which rule a step breaks, and the deadlines and the mode word after it
+  pub record Does (rule : ℕ) (after : List ℕ) (mode : ℕ) : Type 0 where
+    pub breaks : stepBreaks s d t w ≡ rule
+    pub leaves : stepAfter s d m t w ≡ after
+    pub sets : modeAfter m w ≡ mode
+
+  pub active : {b : ℕ} → b ≡ bankOf w → codeOf w ≡ 12 → Does (activeBreaks s d t b (addressOf w)) (activeAfter s d t b) m
+  unfolding stepBreaks stepAfter modeAfter
+  active f e = record { breaks = rw (f, e); leaves = rw (f, e); sets = rw e }
+
+  pub read : {b : ℕ} → b ≡ bankOf w → codeOf w ≡ 10 → Does (readBreaks d t b) (readAfter s d m t b (tenOf w)) m
+  unfolding stepBreaks stepAfter modeAfter
+  read f e = record { breaks = rw (f, e); leaves = rw (f, e); sets = rw e }
+
+  pub write : {b : ℕ} → b ≡ bankOf w → codeOf w ≡ 2 → Does (writeBreaks d t b) (writeAfter s d m t b (tenOf w)) m
+  unfolding stepBreaks stepAfter modeAfter
+  write f e = record { breaks = rw (f, e); leaves = rw (f, e); sets = rw e }
+
+  pub close-all : codeOf w ≡ 4 → tenOf w ≡ true → Does (closeAllBreaks d t) (closeAllAfter s d m t) m
+  unfolding stepBreaks stepAfter modeAfter
+  close-all e a = record { breaks = rw (e, a); leaves = rw (e, a); sets = rw e }
+
+  pub close : {b : ℕ} → b ≡ bankOf w → codeOf w ≡ 4 → tenOf w ≡ false → Does (closeBreaks d t b) (closeAfter s d m t b) m
+  unfolding stepBreaks stepAfter modeAfter
+  close f e a = record { breaks = rw (f, e, a); leaves = rw (f, e, a); sets = rw e }
+
+  pub terminate : codeOf w ≡ 6 → Does (terminateBreaks s d t) (cutRead d m t true) m
+  unfolding stepBreaks stepAfter modeAfter
+  terminate e = record { breaks = rw e; leaves = rw e; sets = rw e }
+
+  pub refresh : codeOf w ≡ 8 → Does (refreshBreaks d t) (refreshAfter s d t) m
+  unfolding stepBreaks stepAfter modeAfter
+  refresh e = record { breaks = rw e; leaves = rw e; sets = rw e }
+
+  pub mode-set : {b : ℕ} → b ≡ bankOf w → codeOf w ≡ 0 → Does (modeBreaks d t b (addressOf w)) (modeSetAfter s d t) (cond (eqb b 0) (addressOf w) m)
+  unfolding stepBreaks stepAfter modeAfter
+  mode-set f e = record { breaks = rw (f, e); leaves = rw e; sets = rw (f, e) }
+
+  -- none of the seven
+  pub record Quiet : Type 0 where
+    pub no-active : codeOf w ≡ 12 → ⊥
+    pub no-read : codeOf w ≡ 10 → ⊥
+    pub no-write : codeOf w ≡ 2 → ⊥
+    pub no-close : codeOf w ≡ 4 → ⊥
+    pub no-terminate : codeOf w ≡ 6 → ⊥
+    pub no-refresh : codeOf w ≡ 8 → ⊥
+    pub no-mode-set : codeOf w ≡ 0 → ⊥
+
+  pub quiet : Quiet → Does (dueBreaks d t) d m
+  unfolding stepBreaks stepAfter modeAfter
+  quiet q =
+      let e₁ = ne-eqb (codeOf w) 12 (q .no-active) in
+      let e₂ = ne-eqb (codeOf w) 10 (q .no-read) in
+      let e₃ = ne-eqb (codeOf w) 2 (q .no-write) in
+      let e₄ = ne-eqb (codeOf w) 4 (q .no-close) in
+      let e₅ = ne-eqb (codeOf w) 6 (q .no-terminate) in
+      let e₆ = ne-eqb (codeOf w) 8 (q .no-refresh) in
+      let e₇ = ne-eqb (codeOf w) 0 (q .no-mode-set) in
+      record { breaks = rw (e₁, e₂, e₃, e₄, e₅, e₆, e₇); leaves = rw (e₁, e₂, e₃, e₄, e₅, e₆, e₇); sets = rw e₇ }
+
+  -- so a function that answers and leaves what its command does meets the step's contract
+  pub met : {rule : ℕ} {after : List ℕ} {mode : ℕ} → Does rule after mode → {r : Answer} {d′ : List ℕ} {m′ : ℕ} →
+      r ≡ answerOf rule → d′ ≡ after → m′ ≡ mode →
+      (r ≡ answerOf (stepBreaks s d t w)) × ((d′ ≡ stepAfter s d m t w) × (m′ ≡ modeAfter m w))
+  met k a b e = (a ∙ ap answerOf (sym (k .breaks)), (b ∙ sym (k .leaves), e ∙ sym (k .sets)))

@@ -1,0 +1,214 @@
+-- The deadlines that are kept of a part, forty numbers in a row; which rule a command breaks by them, and what it makes of them.
+-- A deadline is the first cycle at which a rule lets a command through; 0 where nothing has happened.
+use Prim.Native.Nat.{ℕ, _+_, _*_, _/_, _%_, _^_}
+use mathlib.Core.Bool.{Bool, true, false, cond, not, _||_, _&&_}
+use mathlib.Core.List.{List, [], _∷_}
+use lib.ListN.{getD, set, replicate}
+use lib.Dec.{leb, ltb, eqb}
+use Rattle.reading.specs.Search.{lesser, later}
+use Rattle.reading.specs.Mode.{h, CL, modeWord}
+use Rattle.reading.specs.Settings.{Settings}
+use Rattle.reading.specs.Rules.{everyBank}
+
+-- of each bank, from these places on: 1 if it is open; rules 6, 7, 5, 8, 9 and 10; and the first cycle at which
+-- an auto precharge that waits for tRAS lets the next ACTIVE through
+abbrev pub OPEN : ℕ
+OPEN = 0
+
+abbrev pub AGAIN : ℕ
+AGAIN = 4
+
+abbrev pub OTHER : ℕ
+OTHER = 8
+
+abbrev pub REST : ℕ
+REST = 12
+
+abbrev pub COLUMN : ℕ
+COLUMN = 16
+
+abbrev pub CLOSE : ℕ
+CLOSE = 20
+
+abbrev pub WRITTEN : ℕ
+WRITTEN = 24
+
+abbrev pub LOCKED : ℕ
+LOCKED = 28
+
+-- rule 4; the last cycle that rule 14 lets through; rule 12; rule 13 for READ and for WRITE; rule 11
+abbrev pub BUSY : ℕ
+BUSY = 32
+
+abbrev pub DUE : ℕ
+DUE = 33
+
+abbrev pub DATA : ℕ
+DATA = 34
+
+abbrev pub READS : ℕ
+READS = 35
+
+abbrev pub WRITES : ℕ
+WRITES = 36
+
+abbrev pub END : ℕ
+END = 37
+
+-- the bank of the last read if a PRECHARGE can cut it, else 4; the bank of the last write
+abbrev pub READER : ℕ
+READER = 38
+
+abbrev pub WRITER : ℕ
+WRITER = 39
+
+abbrev pub at : List ℕ → ℕ → ℕ
+at d i = getD d i 0
+
+-- the rule where it is not kept, else what the later rules say
+abbrev pub orElse : Bool → ℕ → ℕ → ℕ
+orElse kept rule rest = cond kept rest rule
+
+-- nothing has happened: no read that can be cut, and GAP from cycle 0 on
+unfoldable pub startOf : Settings → List ℕ
+startOf s =
+    let d₁ = set (replicate 40 0) DUE (s .GAP + 0) in
+    let d₂ = set d₁ READER 4 in
+    let d₃ = set d₂ LOCKED (s .tRAS + s .tRP) in
+    let d₄ = set d₃ (LOCKED + 1) (s .tRAS + s .tRP) in
+    let d₅ = set d₄ (LOCKED + 2) (s .tRAS + s .tRP) in
+    set d₅ (LOCKED + 3) (s .tRAS + s .tRP)
+
+-- ---- which rule is broken
+
+abbrev pub dueBreaks : List ℕ → ℕ → ℕ
+dueBreaks d t = orElse (leb t (at d DUE)) 14 0
+
+unfoldable pub activeBreaks : Settings → List ℕ → ℕ → ℕ → ℕ → ℕ
+activeBreaks s d t b a =
+    orElse (ltb a (2 ^ (s .rowBits % 32))) 1
+    (orElse (eqb (at d (OPEN + b)) 0) 3
+    (orElse (leb (at d BUSY) t) 4
+    (orElse (leb (at d (REST + b)) t) 5
+    (orElse (leb (at d (AGAIN + b)) t) 6
+    (orElse (everyBank (λ i. leb (at d (OTHER + i)) t || eqb i b)) 7
+    (dueBreaks d t))))))
+
+unfoldable pub readBreaks : List ℕ → ℕ → ℕ → ℕ
+readBreaks d t b =
+    orElse (not (eqb (at d (OPEN + b)) 0)) 3
+    (orElse (leb (at d BUSY) t) 4
+    (orElse (leb (at d (COLUMN + b)) t) 8
+    (orElse (leb (at d END) t) 11
+    (orElse (leb (at d READS) t) 13
+    (dueBreaks d t)))))
+
+unfoldable pub writeBreaks : List ℕ → ℕ → ℕ → ℕ
+writeBreaks d t b =
+    orElse (not (eqb (at d (OPEN + b)) 0)) 3
+    (orElse (leb (at d BUSY) t) 4
+    (orElse (leb (at d (COLUMN + b)) t) 8
+    (orElse (leb (at d DATA) t) 12
+    (orElse (leb (at d WRITES) t) 13
+    (dueBreaks d t)))))
+
+unfoldable pub terminateBreaks : Settings → List ℕ → ℕ → ℕ
+terminateBreaks s d t =
+    orElse (leb (at d BUSY) t) 4
+    (orElse (leb (at d READS) t) 13
+    (orElse (leb (at d END) (t + s .tWTR)) 13
+    (dueBreaks d t)))
+
+unfoldable pub closeBreaks : List ℕ → ℕ → ℕ → ℕ
+closeBreaks d t b =
+    orElse (leb (at d BUSY) t) 4
+    (orElse (leb (at d (CLOSE + b)) t || eqb (at d (OPEN + b)) 0) 9
+    (orElse (leb (at d (WRITTEN + b)) t || eqb (at d (OPEN + b)) 0) 10
+    (dueBreaks d t)))
+
+unfoldable pub closeAllBreaks : List ℕ → ℕ → ℕ
+closeAllBreaks d t =
+    orElse (leb (at d BUSY) t) 4
+    (orElse (everyBank (λ i. leb (at d (CLOSE + i)) t || eqb (at d (OPEN + i)) 0)) 9
+    (orElse (everyBank (λ i. leb (at d (WRITTEN + i)) t || eqb (at d (OPEN + i)) 0)) 10
+    (dueBreaks d t)))
+
+unfoldable pub refreshBreaks : List ℕ → ℕ → ℕ
+refreshBreaks d t =
+    orElse (everyBank (λ i. eqb (at d (OPEN + i)) 0)) 3
+    (orElse (leb (at d BUSY) t) 4
+    (orElse (everyBank (λ i. leb (at d (REST + i)) t)) 5
+    (orElse (leb (at d DATA) t) 12
+    (dueBreaks d t))))
+
+unfoldable pub modeBreaks : List ℕ → ℕ → ℕ → ℕ → ℕ
+modeBreaks d t b a = orElse (cond (eqb b 0) (modeWord a) (eqb b 2)) 2 (refreshBreaks d t)
+
+-- ---- what a command makes of the deadlines
+
+unfoldable pub activeAfter : Settings → List ℕ → ℕ → ℕ → List ℕ
+activeAfter s d t b =
+    let d₁ = set d (OPEN + b) 1 in
+    let d₂ = set d₁ (AGAIN + b) (t + s .tRC) in
+    let d₃ = set d₂ (OTHER + b) (t + s .tRRD) in
+    let d₄ = set d₃ (COLUMN + b) (t + s .tRCD) in
+    let d₅ = set d₄ (CLOSE + b) (t + s .tRAS) in
+    let d₆ = set d₅ (WRITTEN + b) 0 in
+    set d₆ (LOCKED + b) (t + s .tRAS + s .tRP)
+
+-- auto precharge lets the next ACTIVE through from the cycle c on, and not before tRAS and tRP are over
+unfoldable pub autoAfter : List ℕ → ℕ → Bool → ℕ → List ℕ
+autoAfter d b auto c =
+    let d₁ = set d (OPEN + b) (cond auto 0 1) in
+    set d₁ (REST + b) (cond auto (later (at d₁ (LOCKED + b)) c) (at d₁ (REST + b)))
+
+unfoldable pub readAfter : Settings → List ℕ → ℕ → ℕ → ℕ → Bool → List ℕ
+readAfter s d m t b auto =
+    let d₁ = set d DATA (t + CL m + h m) in
+    let d₂ = set d₁ READER (cond auto 4 b) in
+    let d₃ = set d₂ READS (cond auto (t + h m) (at d₂ READS)) in
+    autoAfter d₃ b auto (t + h m + s .tRP)
+
+-- the last write is cut, to a data end of t + 1
+unfoldable pub cutWrite : Settings → List ℕ → ℕ → List ℕ
+cutWrite s d t =
+    let o = WRITTEN + at d WRITER % 4 in
+    set d o (lesser (at d o) (t + 1 + 0 + s .tWR))
+
+-- the data of a new write ends at t + 1 + pairs
+unfoldable pub newWrite : Settings → List ℕ → ℕ → ℕ → ℕ → List ℕ
+newWrite s d t pairs b =
+    let d₁ = set d (WRITTEN + b) (t + 1 + pairs + s .tWR) in
+    let d₂ = set d₁ END (t + 1 + pairs + s .tWTR) in
+    set d₂ WRITER b
+
+unfoldable pub writeAfter : Settings → List ℕ → ℕ → ℕ → ℕ → Bool → List ℕ
+writeAfter s d m t b auto =
+    let d₁ = newWrite s (cutWrite s d t) t (h m) b in
+    let d₂ = set d₁ WRITES (cond auto (t + h m) (at d₁ WRITES)) in
+    autoAfter d₂ b auto (t + 1 + h m + s .tWR + s .tRP)
+
+-- the last read is cut, if it can be, to leave the bus CL cycles after t
+unfoldable pub cutRead : List ℕ → ℕ → ℕ → Bool → List ℕ
+cutRead d m t cut = set d DATA (cond cut (lesser (at d DATA) (t + CL m)) (at d DATA))
+
+-- a bank that is open becomes idle
+unfoldable pub restAfter : List ℕ → ℕ → ℕ → List ℕ
+restAfter d b c =
+    let d₁ = set d (REST + b) (cond (eqb (at d (OPEN + b)) 0) (at d (REST + b)) c) in
+    set d₁ (OPEN + b) 0
+
+unfoldable pub closeAfter : Settings → List ℕ → ℕ → ℕ → ℕ → List ℕ
+closeAfter s d m t b = cutRead (restAfter d b (t + s .tRP)) m t (eqb (at (restAfter d b (t + s .tRP)) READER) b)
+
+unfoldable pub restAll : List ℕ → ℕ → List ℕ
+restAll d c = restAfter (restAfter (restAfter (restAfter d 0 c) 1 c) 2 c) 3 c
+
+unfoldable pub closeAllAfter : Settings → List ℕ → ℕ → ℕ → List ℕ
+closeAllAfter s d m t = cutRead (restAll d (t + s .tRP)) m t (ltb (at (restAll d (t + s .tRP)) READER) 4)
+
+unfoldable pub refreshAfter : Settings → List ℕ → ℕ → List ℕ
+refreshAfter s d t = set (set d BUSY (t + s .tRFC)) DUE (t + s .GAP)
+
+unfoldable pub modeSetAfter : Settings → List ℕ → ℕ → List ℕ
+modeSetAfter s d t = set d BUSY (t + s .tMRD)

@@ -1,0 +1,62 @@
+-- A step: one event, by its pins.
+use Prim.Native.Nat.{ℕ, _/_, _%_, _^_}
+use mathlib.Core.Bool.{Bool, true, cond, _&&_}
+use mathlib.Core.List.{List}
+use lib.Dec.{eqb}
+use Rattle.reading.specs.Settings.{Settings}
+use Rattle.part.specs.Deadlines.{dueBreaks, activeBreaks, readBreaks, writeBreaks, terminateBreaks, closeBreaks, closeAllBreaks, refreshBreaks, modeBreaks, activeAfter, readAfter, writeAfter, cutRead, closeAfter, closeAllAfter, refreshAfter, modeSetAfter}
+use Rattle.part.specs.declared.Answer.{Answer}
+use Rattle.part.specs.declared.Answer.the-variants.{Kept, Broke}
+
+abbrev pub answerOf : ℕ → Answer
+answerOf r = cond (eqb r 0) Kept (Broke r)
+
+abbrev pub codeOf : ℕ → ℕ
+codeOf w = w / 65536 % 16
+
+abbrev pub bankOf : ℕ → ℕ
+bankOf w = w / 16384 % 4
+
+abbrev pub addressOf : ℕ → ℕ
+addressOf w = w % 16384
+
+abbrev pub tenOf : ℕ → Bool
+tenOf w = eqb (w / 1024 % 2) 1
+
+-- by the pins CS#, RAS#, CAS#, WE#, CS# the lowest
+abbrev pub byCode : {A : Type 0} → ℕ → A → A → A → A → A → A → A → A → A
+byCode q active read write precharge terminate refresh mode quiet =
+    cond (eqb q 12) active
+    (cond (eqb q 10) read
+    (cond (eqb q 2) write
+    (cond (eqb q 4) precharge
+    (cond (eqb q 6) terminate
+    (cond (eqb q 8) refresh
+    (cond (eqb q 0) mode quiet))))))
+
+unfoldable pub stepBreaks : Settings → List ℕ → ℕ → ℕ → ℕ
+stepBreaks s d t w =
+    byCode (codeOf w)
+    (activeBreaks s d t (bankOf w) (addressOf w))
+    (readBreaks d t (bankOf w))
+    (writeBreaks d t (bankOf w))
+    (cond (tenOf w) (closeAllBreaks d t) (closeBreaks d t (bankOf w)))
+    (terminateBreaks s d t)
+    (refreshBreaks d t)
+    (modeBreaks d t (bankOf w) (addressOf w))
+    (dueBreaks d t)
+
+unfoldable pub stepAfter : Settings → List ℕ → ℕ → ℕ → ℕ → List ℕ
+stepAfter s d m t w =
+    byCode (codeOf w)
+    (activeAfter s d t (bankOf w))
+    (readAfter s d m t (bankOf w) (tenOf w))
+    (writeAfter s d m t (bankOf w) (tenOf w))
+    (cond (tenOf w) (closeAllAfter s d m t) (closeAfter s d m t (bankOf w)))
+    (cutRead d m t true)
+    (refreshAfter s d t)
+    (modeSetAfter s d t)
+    d
+
+unfoldable pub modeAfter : ℕ → ℕ → ℕ
+modeAfter m w = cond (eqb (codeOf w) 0 && eqb (bankOf w) 0) (addressOf w) m

@@ -1,0 +1,58 @@
+// Where each deadline stands among the forty, and each time among the settings (specs/Deadlines).
+
+// Of each bank.
+pub const OPEN: usize = 0;
+
+pub const AGAIN: usize = 4;
+
+pub const OTHER: usize = 8;
+
+pub const REST: usize = 12;
+
+pub const COLUMN: usize = 16;
+
+pub const CLOSE: usize = 20;
+
+pub const WRITTEN: usize = 24;
+
+pub const LOCKED: usize = 28;
+
+// Of the part.
+pub const BUSY: usize = 32;
+
+pub const DUE: usize = 33;
+
+pub const DATA: usize = 34;
+
+pub const READS: usize = 35;
+
+pub const WRITES: usize = 36;
+
+pub const END: usize = 37;
+
+pub const READER: usize = 38;
+
+pub const WRITER: usize = 39;
+
+// Settings, by document 01's numbers.
+pub const ROW_BITS: usize = 1;
+
+pub const T_RCD: usize = 4;
+
+pub const T_RP: usize = 5;
+
+pub const T_RAS: usize = 6;
+
+pub const T_RC: usize = 7;
+
+pub const T_RRD: usize = 8;
+
+pub const T_WR: usize = 9;
+
+pub const T_WTR: usize = 10;
+
+pub const T_RFC: usize = 11;
+
+pub const T_MRD: usize = 12;
+
+pub const GAP: usize = 13;

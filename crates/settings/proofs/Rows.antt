@@ -1,0 +1,115 @@
+-- A row of the table, a test at a time.
+use Prim.Native.Nat.{ℕ, _+_, _≤_, _<_}
+use mathlib.Core.Option.{none, some}
+use mathlib.Core.Bool.{Bool, true, false, not, _||_}
+use mathlib.Core.List.{List, map}
+use mathlib.Core.Path.{_≡_, refl, sym, ap, subst, _∙_}
+use native.Mathlib.Omega.{arith}
+use borrow.Author.Tests.{le-leb, lt-leb, eq-eqb, ne-eqb, eqb-false}
+use lib.ListN.{length, getD, List·getD-map}
+use lib.Dec.{eqb}
+use Rattle.reading.specs.Mode.{modeWord}
+use Rattle.reading.specs.Settings as reading
+use Rattle.reading.specs.Settings.{settingFits, badSetting}
+use Rattle.words.specs.Found.{placeOf}
+use Rattle.words.specs.declared.Found.{Found}
+use Rattle.words.specs.declared.Found.the-variants.{Nothing, At}
+use Rattle.words.proofs.Search as search
+use Rattle.words.proofs.Search.{foundFrom}
+use Rattle.reading.specs.Answers.{refused, answered}
+use Rattle.settings.specs.Meaning.{checked}
+use Rattle.settings.specs.declared.Limits.{Limits}
+
+-- a latency is 2 or 3
+module _ (x : ℕ) where
+  pub latency-low : x < 2 → (eqb x 2 || eqb x 3) ≡ false
+  latency-low h = rw (ne-eqb x 2 (omega arith), ne-eqb x 3 (omega arith))
+
+  pub latency-high : 3 < x → (eqb x 2 || eqb x 3) ≡ false
+  latency-high h = rw (ne-eqb x 2 (omega arith), ne-eqb x 3 (omega arith))
+
+  pub latency-fits : 2 ≤ x → x ≤ 3 → (eqb x 2 || eqb x 3) ≡ true
+  latency-fits l h = go (eqb x 2) refl
+    where
+      go : (b : Bool) → eqb x 2 ≡ b → (eqb x 2 || eqb x 3) ≡ true
+      go true e = rw e
+      go false e = rw (e, eq-eqb x 3 (omega (arith, eqb-false x 2 e)))
+
+-- ---- the code's table is the reading's
+
+abbrev rowOf : reading.Limits → Limits
+rowOf r = (r .least, r .most)
+
+abbrev noRow : reading.Limits
+noRow = record { least = 0; most = 0 }
+
+abbrev pub row : ℕ → Limits
+row i = getD (map rowOf reading.limits) i (rowOf noRow)
+
+same-row : (i : ℕ) → row i ≡ rowOf (getD reading.limits i noRow)
+same-row i = List·getD-map rowOf reading.limits i noRow
+
+module _ (i w : ℕ) where
+  same-least : row i .0 ≡ getD reading.limits i noRow .least
+  same-least = ap (λ (r : Limits). r .0) (same-row i)
+
+  same-most : row i .1 ≡ getD reading.limits i noRow .most
+  same-most = ap (λ (r : Limits). r .1) (same-row i)
+
+  pub too-small : w < row i .0 → settingFits i w ≡ false
+  unfolding settingFits
+  too-small h = rw (lt-leb _ w (subst (λ (n : ℕ). w < n) same-least h))
+
+  pub too-large : row i .0 ≤ w → row i .1 < w → settingFits i w ≡ false
+  unfolding settingFits
+  too-large l h =
+      rw (le-leb _ w (subst (λ (n : ℕ). n ≤ w) same-least l), lt-leb w _ (subst (λ (n : ℕ). n < w) same-most h))
+
+  pub mode-row : row i .0 ≤ w → w ≤ row i .1 → i ≡ 3 → settingFits i w ≡ modeWord w
+  unfolding settingFits
+  mode-row l h e =
+      rw (le-leb _ w (subst (λ (n : ℕ). n ≤ w) same-least l), le-leb w _ (subst (λ (n : ℕ). w ≤ n) same-most h), eq-eqb i 3 e)
+
+  pub other-row : row i .0 ≤ w → w ≤ row i .1 → (i ≡ 3 → ⊥) → settingFits i w ≡ true
+  unfolding settingFits
+  other-row l h e =
+      rw (le-leb _ w (subst (λ (n : ℕ). n ≤ w) same-least l), le-leb w _ (subst (λ (n : ℕ). w ≤ n) same-most h), ne-eqb i 3 e)
+
+-- ---- the walk over the rows: what is found from setting i on is what is found at all
+
+abbrev bad : List ℕ → ℕ → Bool
+bad ws i = not (settingFits i (getD ws i 0))
+
+pub record Sought (ws : List ℕ) (i : ℕ) : Type 0 where
+  pub within : i ≤ 14
+  pub same : foundFrom (bad ws) 14 i ≡ badSetting ws
+
+pub begins : (ws : List ℕ) → Sought ws 0
+unfolding badSetting
+begins ws = record { within = omega arith; same = search.begins (bad ws) 14 }
+
+module _ {ws : List ℕ} {i : ℕ} (s : Sought ws i) where
+  pub goes-on : i < 14 → settingFits i (getD ws i 0) ≡ true → Sought ws (i + 1)
+  goes-on l e = record { within = omega arith; same = sym (search.goes-on (bad ws) 14 i l (ap not e)) ∙ s .same }
+
+  pub stops : i < 14 → settingFits i (getD ws i 0) ≡ false → some i ≡ badSetting ws
+  stops l e = sym (search.stops (bad ws) 14 i l (ap not e)) ∙ s .same
+
+  pub ends : 14 ≤ i → none ≡ badSetting ws
+  ends l = sym (search.ends (bad ws) 14 i l) ∙ s .same
+
+-- ---- what a list of settings is answered
+
+module _ (ws : List ℕ) where
+  pub wrong-count : (length ws ≡ 14 → ⊥) → checked ws ≡ refused 2 0
+  unfolding checked
+  wrong-count h = rw (ne-eqb (length ws) 14 h)
+
+  module _ (h : length ws ≡ 14) (r : Found) where
+    pub all-fit : r ≡ Nothing → placeOf r ≡ badSetting ws → checked ws ≡ answered tt
+    unfolding checked
+    all-fit e p = rw (eq-eqb (length ws) 14 h, sym p, e)
+
+    pub one-unfit : {i : ℕ} → r ≡ At i → placeOf r ≡ badSetting ws → checked ws ≡ refused 3 i
+    unfolding checked
+    one-unfit e p = rw (eq-eqb (length ws) 14 h, sym p, e)

@@ -1,0 +1,62 @@
+-- The invariant: what is found from setting i on is what is found at all.
+use Prim.Native.Nat.{_-_}
+use mathlib.Core.Path.{sym, _∙_}
+use native.Mathlib.Omega.{arith}
+use Rattle.settings.proofs.Rows.{Sought, begins, goes-on, stops, ends}
+use Rattle.settings.proofs.lowest_bad.Statement.{statement}
+use Rattle.settings.proofs.lowest_bad.Tie as tie
+
+abbrev Inv-settings : tie.InvT-settings
+Inv-settings words i₀ i = Sought words i
+
+abbrev μ-settings : tie.MeasureT-settings
+μ-settings words i₀ i = 14 - i
+
+settings-holds : tie.Need-settings-holds Inv-settings μ-settings
+settings-holds c = begins (c .before .args .words .now)
+
+mul-setting-fits : tie.Need-mul-setting-fits Inv-settings μ-settings
+mul-setting-fits c = omega arith
+
+shared-slice-read-setting-fits : tie.Need-shared-slice-read-setting-fits Inv-settings μ-settings
+shared-slice-read-setting-fits c = omega arith
+
+setting-fits-requires : tie.Need-setting-fits-requires Inv-settings μ-settings
+setting-fits-requires c κs = omega arith
+
+add-i : tie.Need-add-i Inv-settings μ-settings
+add-i c = omega arith
+
+settings-less : tie.Need-settings-less Inv-settings μ-settings
+settings-less c = omega arith
+
+settings-again : tie.Need-settings-again Inv-settings μ-settings
+settings-again c =
+    goes-on (c .before .before .before .before .settings .inv) (omega arith) (sym (c .before .setting-fits .ensures) ∙ c .if1 .taken)
+
+cast-t7 : tie.Need-cast-t7 Inv-settings μ-settings
+cast-t7 c = omega arith
+
+returns : tie.Need-returns Inv-settings μ-settings
+returns c =
+    stops (c .before .before .before .before .settings .inv) (omega arith) (sym (c .before .setting-fits .ensures) ∙ c .if1 .left)
+
+returns-2 : tie.Need-returns-2 Inv-settings μ-settings
+returns-2 c = ends (c .before .settings .inv) (omega arith)
+
+pub lowest-bad-spec : {M : Type 1} → statement M
+lowest-bad-spec =
+    tie.close
+    (tie.spec
+    Inv-settings
+    μ-settings
+    settings-holds
+    mul-setting-fits
+    shared-slice-read-setting-fits
+    setting-fits-requires
+    add-i
+    settings-less
+    settings-again
+    cast-t7
+    returns
+    returns-2)

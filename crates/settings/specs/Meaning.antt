@@ -1,0 +1,23 @@
+-- What this crate's types mean in document 01.
+use Prim.Native.Nat.{ℕ}
+use mathlib.Core.Bool.{not}
+use mathlib.Core.List.{List}
+use lib.ListN.{length}
+use lib.Dec.{eqb}
+use Rattle.reading.specs.Search.{given}
+use Rattle.reading.specs.Settings.{badSetting}
+use Rattle.reading.specs.Answers.{Answer, refused, answered, unless}
+use Rattle.settings.specs.declared.Checked.{Checked}
+use Rattle.settings.specs.declared.Checked.the-variants.{Fine, Count, Setting}
+
+-- document 01's number and place
+abbrev pub means : Checked → Answer (Unit {0})
+means Fine = answered tt
+means Count = refused 2 0
+means (Setting i) = refused 3 i
+
+-- refusals 2 and 3 of a list of settings
+unfoldable pub checked : List ℕ → Answer (Unit {0})
+checked ws =
+    unless 2 (given 0 (not (eqb (length ws) 14)))
+    (unless 3 (badSetting ws) (answered tt))

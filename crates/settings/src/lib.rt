@@ -1,0 +1,101 @@
+// The settings of a board: their limits, and the list of words that holds them.
+use words::Found;
+ghost use mathlib.Core.Path.{_≡_};
+ghost use Prim.Native.Nat.{_<_};
+ghost use lib.ListN.{length};
+ghost use Rattle.words.specs.Found.{placeOf};
+ghost use Rattle.reading.specs.Mode.{modeWord};
+ghost use Rattle.reading.specs.Settings.{settingFits, badSetting};
+ghost use Rattle.settings.specs.Meaning.{means, checked};
+
+// The least and the most that a setting may be.
+struct Limits(u32, u32);
+
+const LIMITS: [Limits; 14] = [
+    Limits(1, 2), // lane code
+    Limits(12, 14), // row bits
+    Limits(8, 11), // column bits
+    Limits(0, 127), // mode word
+    Limits(1, 10_000), // tRCD
+    Limits(1, 10_000), // tRP
+    Limits(1, 10_000), // tRAS
+    Limits(1, 10_000), // tRC
+    Limits(1, 10_000), // tRRD
+    Limits(1, 10_000), // tWR
+    Limits(1, 10_000), // tWTR
+    Limits(1, 10_000), // tRFC
+    Limits(1, 10_000), // tMRD
+    Limits(1, 1_000_000), // GAP
+];
+
+// What is wrong with a list of settings.
+pub enum Checked {
+    Fine,
+    Count,
+    Setting(u32),
+}
+
+// Rule 2's test of a mode word.
+pub fn mode_word(w: u32) -> bool
+    ensures { λ r. ⌜ r ≡ modeWord w ⌝ }
+{
+    let length = w % 8;
+    let latency = w / 16 % 8;
+    if length < 1 {
+        return false;
+    }
+    if 4 < length {
+        return false;
+    }
+    if latency < 2 {
+        return false;
+    }
+    if 3 < latency {
+        return false;
+    }
+    w < 128
+}
+
+fn setting_fits(i: usize, w: u32) -> bool
+    requires { ⌜ i < 14 ⌝ }
+    ensures { λ r. ⌜ r ≡ settingFits i w ⌝ }
+{
+    let row = LIMITS[i];
+    if w < row.0 {
+        return false;
+    }
+    if row.1 < w {
+        return false;
+    }
+    if i == 3 {
+        return mode_word(w);
+    }
+    true
+}
+
+// The lowest setting that is out of its row's limits or no mode word.
+pub fn lowest_bad(words: &[u32]) -> Found
+    requires { ⌜ length (now words) ≡ 14 ⌝ }
+    ensures { λ r. ⌜ placeOf r ≡ badSetting (now (words .entry)) ⌝ }
+{
+    'settings: for i in 0..14 {
+        if setting_fits(i, words[i]) {
+            continue 'settings;
+        }
+        return Found::At(i as u32);
+    }
+    Found::Nothing
+}
+
+// Refusals 2 and 3 of a list of settings.
+pub fn check(words: &[u32]) -> Checked
+    ensures { λ r. ⌜ means r ≡ checked (now (words .entry)) ⌝ }
+{
+    if words.len() != 14 {
+        return Checked::Count;
+    }
+    let Found::At(i) = lowest_bad(words) else {
+        return Checked::Fine;
+    };
+    Checked::Setting(i)
+}

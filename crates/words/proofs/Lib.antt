@@ -1,0 +1,4 @@
+-- Laws that hold of any bytes and words, for the proofs of the crates above.
+pub mod Runs
+pub mod Words
+pub mod Search

@@ -1,0 +1,37 @@
+// Little-endian 32-bit words in a slice of bytes.
+ghost use mathlib.Core.Path.{_≡_};
+ghost use Prim.Native.Nat.{_+_, _≤_, _<_};
+ghost use lib.ListN.{length};
+ghost use lib.Seq.{sets};
+ghost use Rattle.reading.specs.Words.{wordAt, wordBytes};
+
+// What a search for the lowest number of a kind answers.
+pub enum Found {
+    Nothing,
+    At(u32),
+}
+
+fn wide(x: u8) -> u32
+    ensures { λ r. ⌜ (r ≡ x) × (r < 256) ⌝ }
+{
+    x as u32
+}
+
+// The word whose lowest byte stands at `at`.
+pub fn word_at(s: &[u8], at: usize) -> u32
+    requires { ⌜ at + 4 ≤ length (now s) ⌝ }
+    ensures { λ r. ⌜ r ≡ wordAt (now (s .entry)) at ⌝ }
+{
+    wide(s[at]) + 256 * wide(s[at + 1]) + 65_536 * wide(s[at + 2]) + 16_777_216 * wide(s[at + 3])
+}
+
+// Stores `w` in the four bytes from `at` on; every other byte stays.
+pub fn put_word(out: &mut [u8], at: usize, w: u32)
+    requires { ⌜ at + 4 ≤ length (now out) ⌝ }
+    ensures { λ _. ⌜ now (out .exit) ≡ sets (now (out .entry)) at (wordBytes w) ⌝ }
+{
+    out[at] = (w % 256) as u8;
+    out[at + 1] = (w / 256 % 256) as u8;
+    out[at + 2] = (w / 65_536 % 256) as u8;
+    out[at + 3] = (w / 16_777_216 % 256) as u8;
+}

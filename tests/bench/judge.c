@@ -1,0 +1,669 @@
+#include "judge.h"
+
+#include <string.h>
+
+_Static_assert(__BYTE_ORDER__ == __ORDER_LITTLE_ENDIAN__,
+               "captures are read word by word as they lie in memory");
+
+enum {
+    SETTINGS = 14,
+    HEADER_BYTES = 24,
+    EVENTS_AT = 80,
+    EVENT_BYTES = 8,
+    MOST_EVENTS = 8000,
+    MOST_BYTES = EVENTS_AT + EVENT_BYTES * MOST_EVENTS,
+    MOST_REQUESTS = 2000,
+    LONGEST_BURST = 16,
+    BANKS = 4,
+};
+
+static const uint32_t LAST_CYCLE = 2000000000;
+
+/* Pins 16-19 of an event: CS#, RAS#, CAS#, WE# from the lowest bit up. With CS# high,
+ * an odd number, the event is a DESELECT. */
+enum {
+    MODE_SET = 0,
+    WRITE = 2,
+    PRECHARGE = 4,
+    TERMINATE = 6,
+    REFRESH = 8,
+    READ = 10,
+    ACTIVE = 12,
+    NOP = 14,
+};
+
+enum { A10 = 1 << 10 };
+
+/* The settings in the order of the list; every value fits, and so does any sum of a cycle
+ * and all of them. */
+struct settings {
+    uint32_t lane, row_bits, column_bits, mode;
+    int32_t rcd, rp, ras, rc, rrd, wr, wtr, rfc, mrd, gap;
+};
+
+static const uint32_t LEAST[SETTINGS] = {1, 12, 8, 0, 1, 1, 1, 1, 1, 1, 1, 1, 1, 1};
+static const uint32_t MOST[SETTINGS] = {2,     14,    11,    127,   10000, 10000, 10000,
+                                        10000, 10000, 10000, 10000, 10000, 10000, 1000000};
+
+static inline uint32_t load(const uint8_t *at)
+{
+    uint32_t word;
+    memcpy(&word, at, sizeof word);
+    return word;
+}
+
+static inline uint32_t cycle_of(const uint8_t *events, uint32_t i)
+{
+    return load(events + EVENT_BYTES * (size_t)i);
+}
+
+static inline uint32_t pins_of(const uint8_t *events, uint32_t i)
+{
+    return load(events + EVENT_BYTES * (size_t)i + 4);
+}
+
+static inline int32_t later(int32_t a, int32_t b) { return a > b ? a : b; }
+static inline int32_t sooner(int32_t a, int32_t b) { return a < b ? a : b; }
+
+static inline uint32_t bank_of(uint32_t pins) { return pins >> 14 & 3; }
+static inline uint32_t command_of(uint32_t pins) { return pins >> 16 & 15; }
+
+static inline int is_mode(uint32_t word)
+{
+    return (word & 7) - 1 < 4 && (word >> 4 & 7) - 2 < 2;
+}
+
+static inline uint32_t pairs_of(uint32_t mode) { return 1u << (mode & 7) >> 1; }
+static inline uint32_t latency_of(uint32_t mode) { return mode >> 4; }
+
+static inline uint64_t refused(uint32_t number, uint32_t place)
+{
+    return (uint64_t)number << 56 | place;
+}
+
+static inline int is_refused(uint64_t answer) { return answer >> 56 != 0; }
+
+static inline uint64_t broken(uint32_t rule, uint32_t event)
+{
+    return (uint64_t)rule << 48 | event;
+}
+
+static inline int is_broken(uint64_t answer) { return (answer >> 48 & 255) != 0; }
+
+/* Refusal 3, or 0. */
+static uint64_t check_settings(const struct settings *settings)
+{
+    uint32_t list[SETTINGS];
+    memcpy(list, settings, sizeof list);
+    for (uint32_t i = 0; i < SETTINGS; i++) {
+        if (list[i] - LEAST[i] > MOST[i] - LEAST[i] || (i == 3 && !is_mode(list[i])))
+            return refused(3, i);
+    }
+    return 0;
+}
+
+__attribute__((cold, noinline)) static uint64_t first_bad_event(const uint8_t *events,
+                                                                uint32_t count)
+{
+    uint32_t i = 0;
+    for (; i < count; i++) {
+        uint32_t cycle = cycle_of(events, i);
+        if (pins_of(events, i) >> 20 != 0 || cycle > LAST_CYCLE
+            || (i > 0 && cycle <= cycle_of(events, i - 1)))
+            break;
+    }
+    return refused(4, i);
+}
+
+/* Refusal 4, or 0. The common case is told without a branch an event: with all cycles
+ * under 2^31, a cycle that does not rise makes the difference less one negative. */
+static uint64_t check_events(const uint8_t *events, uint32_t count)
+{
+    if (count == 0)
+        return 0;
+    uint32_t cycles = cycle_of(events, 0);
+    uint32_t pins = pins_of(events, 0);
+    uint32_t falls = 0;
+    for (uint32_t i = 1; i < count; i++) {
+        uint32_t cycle = cycle_of(events, i);
+        cycles |= cycle;
+        pins |= pins_of(events, i);
+        falls |= cycle - cycle_of(events, i - 1) - 1;
+    }
+    if (((cycles | falls) >> 31 | pins >> 20) != 0 || cycle_of(events, count - 1) > LAST_CYCLE)
+        return first_bad_event(events, count);
+    return 0;
+}
+
+/* Refusals 1 to 4, or 0 with the settings filled in. */
+static uint64_t check_capture(const uint8_t *capture, size_t len, struct settings *settings)
+{
+    if (len < EVENTS_AT || len > MOST_BYTES || load(capture) != len)
+        return refused(1, 0);
+    uint32_t count = load(capture + 12);
+    if (load(capture + 4) != SETTINGS || load(capture + 8) != HEADER_BYTES
+        || count > MOST_EVENTS || load(capture + 16) != EVENTS_AT || load(capture + 20) != 0
+        || len != EVENTS_AT + EVENT_BYTES * (size_t)count)
+        return refused(2, 0);
+    memcpy(settings, capture + HEADER_BYTES, sizeof *settings);
+    uint64_t refusal = check_settings(settings);
+    return refusal != 0 ? refusal : check_events(capture + EVENTS_AT, count);
+}
+
+/* The part as the judge needs it: the first cycles at which rules let commands through.
+ * A test of "too early" is the sign of a difference, so that many join in one branch; no
+ * cycle with all settings added to it reaches 2^31.
+ *
+ * Entries from 4 on in the longer arrays are never read for a rule: they take the stores
+ * that a command does not call for, in place of a branch around them. */
+struct part {
+    int32_t active[BANKS];         /* the last ACTIVE, for rules 6, 8 and 9 */
+    int32_t precharged[2 * BANKS]; /* rule 5 */
+    int32_t recovered[4 * BANKS];  /* rule 10 */
+    /* By direction, 0 for WRITE and 1 for READ: rules 12 and 13, and rules 11 and 13. */
+    int32_t from[2];
+    /* By direction of a burst: from its end to the first burst of the other direction,
+     * and to its auto precharge. */
+    int32_t turn[2];
+    int32_t settle[2];
+};
+
+/* What changes most, apart so that it stays in registers. */
+struct now {
+    uint32_t open;        /* a bit for each bank */
+    uint32_t active_bank; /* of the last ACTIVE */
+    int32_t spaced;       /* rule 7, for all banks but that one */
+    int32_t spaced_same;  /* rule 7, for that one */
+    int32_t busy;         /* rule 4 */
+    int32_t due;          /* rule 14: the last cycle it passes */
+    /* The last burst: its bank, 4 more for a read, 8 more for auto precharge; and what its
+     * entry of `recovered` is to be, unless a WRITE cuts it first. */
+    uint32_t last;
+    int32_t recovered;
+    int32_t pairs;
+    int32_t latency;
+};
+
+enum { READ_SLOT = 4, AUTO_SLOT = 8 };
+
+/* Long enough before cycle 0 for every wait to be over. */
+static const int32_t NEVER = -20000;
+
+static inline int is_good_mode_set(uint32_t pins)
+{
+    uint32_t address = pins & 0x3fff;
+    uint32_t bank = bank_of(pins);
+    return bank == 2 || (bank == 0 && address >> 7 == 0 && is_mode(address));
+}
+
+static inline int32_t other_active(struct now now, uint32_t bank)
+{
+    return bank == now.active_bank ? now.spaced_same : now.spaced;
+}
+
+/* Rule 5 over all banks. */
+static inline int32_t all_precharged(const struct part *part)
+{
+    const int32_t *p = part->precharged;
+    return later(later(p[0], p[1]), later(p[2], p[3]));
+}
+
+/* Rule 13 for BURST TERMINATE: the end of the last burst, if it must not be cut. */
+static inline int32_t terminable(const struct part *part, struct now now, int32_t wtr)
+{
+    return part->from[1] - (now.last & READ_SLOT ? 0 : wtr);
+}
+
+/* The lowest rule that an event breaks; it breaks one. */
+__attribute__((cold, noinline)) static uint32_t lowest_rule(const struct settings *s,
+                                                            const struct part *part,
+                                                            struct now now, int32_t t,
+                                                            uint32_t pins)
+{
+    uint32_t bank = bank_of(pins);
+    uint32_t command = command_of(pins);
+    uint32_t is_open = now.open >> bank & 1;
+    int is_access = command == READ || command == WRITE;
+    int wants_idle = command == REFRESH || command == MODE_SET;
+    int after_read = (now.last & READ_SLOT) != 0;
+    if (command & 1 || command == NOP)
+        return 14;
+    if (command == ACTIVE && (pins & 0x3fff) >> s->row_bits != 0)
+        return 1;
+    if (command == MODE_SET && !is_good_mode_set(pins))
+        return 2;
+    if ((command == ACTIVE && is_open) || (is_access && !is_open) || (wants_idle && now.open))
+        return 3;
+    if (t < now.busy)
+        return 4;
+    if ((command == ACTIVE && t < part->precharged[bank])
+        || (wants_idle && t < all_precharged(part)))
+        return 5;
+    if (command == ACTIVE && t < part->active[bank] + s->rc)
+        return 6;
+    if (command == ACTIVE && t < other_active(now, bank))
+        return 7;
+    if (is_access && t < part->active[bank] + s->rcd)
+        return 8;
+    if (command == PRECHARGE) {
+        uint32_t closing = now.open & (pins & A10 ? 15 : 1u << bank);
+        uint32_t rule = 14;
+        for (bank = 0; bank < BANKS; bank++) {
+            if (closing >> bank & 1 && t < part->active[bank] + s->ras)
+                return 9;
+            if (closing >> bank & 1 && t < part->recovered[bank])
+                rule = 10;
+        }
+        return rule;
+    }
+    if (command == READ && t < part->from[1])
+        return after_read ? 13 : 11;
+    if (command == WRITE && t < part->from[0])
+        return after_read ? 12 : 13;
+    if (wants_idle && t < part->from[0])
+        return 12;
+    if (command == TERMINATE && t < terminable(part, now, s->wtr))
+        return 13;
+    return 14;
+}
+
+/* The number of events if they are clean, else the first broken rule and its event. */
+static uint64_t walk(const struct settings *settings, const uint8_t *events, uint32_t count)
+{
+    /* Every handler jumps to the next itself, which branch predictors like better than one
+     * shared jump. Labels as values are an extension that gcc and clang have. */
+    static const void *const handlers[16] = {
+        &&mode_set, &&idle, &&access, &&idle, &&precharge, &&idle, &&terminate, &&idle,
+        &&refresh,  &&idle, &&access, &&idle, &&active,    &&idle, &&idle,      &&idle,
+    };
+    const struct settings s = *settings;
+    const int32_t highest_row = (1 << s.row_bits) - 1;
+    struct part part = {
+        .active = {NEVER, NEVER, NEVER, NEVER},
+        .turn = {1 + s.wtr, latency_of(s.mode)},
+        .settle = {1 + s.wr, 0},
+    };
+    struct now now = {
+        .due = s.gap,
+        .last = READ_SLOT,
+        .pairs = pairs_of(s.mode),
+        .latency = latency_of(s.mode),
+    };
+    const uint8_t *at = events;
+    const uint8_t *end = events + EVENT_BYTES * (size_t)count;
+    int32_t t;
+    uint32_t pins, bank;
+
+#define NEXT                              \
+    do {                                  \
+        if (at == end)                    \
+            return count;                 \
+        t = (int32_t)load(at);            \
+        pins = load(at + 4);              \
+        at += EVENT_BYTES;                \
+        bank = bank_of(pins);             \
+        goto *handlers[command_of(pins)]; \
+    } while (0)
+
+    NEXT;
+
+active: {
+    int32_t row = pins & 0x3fff;
+    int32_t is_open = (int32_t)(now.open << (31 - bank));
+    int32_t others = other_active(now, bank);
+    if (((t - part.precharged[bank]) | (t - part.active[bank] - s.rc) | (t - others)
+         | (t - now.busy) | (now.due - t) | (highest_row - row) | is_open) < 0)
+        goto breaks;
+    now.open |= 1u << bank;
+    part.active[bank] = t;
+    part.recovered[bank] = 0;
+    now.spaced_same = others;
+    now.spaced = t + s.rrd;
+    now.active_bank = bank;
+    NEXT;
+}
+
+access: {
+    /* An open bank had its ACTIVE when the part was no longer busy: rule 4 is kept. */
+    uint32_t read = pins >> 19 & 1;
+    uint32_t automatic = pins >> 10 & 1;
+    int32_t is_idle = ~(int32_t)(now.open << (31 - bank));
+    int32_t active = part.active[bank];
+    if (((t - active - s.rcd) | (t - part.from[read]) | (now.due - t) | is_idle) < 0)
+        goto breaks;
+    int32_t over = t + now.pairs;
+    /* A cut write's data ends one cycle after the cut; a whole one's has ended by then. */
+    part.recovered[now.last] = sooner(now.recovered, t + 1 + s.wr);
+    now.last = bank | read << 2 | automatic << 3;
+    now.recovered = over + 1 + s.wr;
+    part.from[read] = t + (now.pairs & -(int32_t)automatic);
+    part.from[read ^ 1] = over + part.turn[read];
+    if (automatic) {
+        part.precharged[bank] = later(over + part.settle[read], active + s.ras) + s.rp;
+        now.open ^= 1u << bank;
+    }
+    NEXT;
+}
+
+precharge:
+    part.recovered[now.last] = now.recovered;
+    if (pins & A10)
+        goto precharge_all;
+    {
+        uint32_t is_open = now.open >> bank & 1;
+        int32_t early = (t - part.active[bank] - s.ras) | (t - part.recovered[bank]);
+        if (((early & -(int32_t)is_open) | (t - now.busy) | (now.due - t)) < 0)
+            goto breaks;
+        part.precharged[bank | (is_open ^ 1) << 2] = t + s.rp;
+        now.open &= ~(1u << bank);
+        if (now.last == (bank | READ_SLOT))
+            part.from[0] = sooner(part.from[0], t + now.latency);
+        NEXT;
+    }
+
+precharge_all: {
+    int32_t early = (t - now.busy) | (now.due - t);
+    for (uint32_t b = 0; b < BANKS; b++) {
+        int32_t wait = (t - part.active[b] - s.ras) | (t - part.recovered[b]);
+        early |= wait & -(int32_t)(now.open >> b & 1);
+    }
+    if (early < 0)
+        goto breaks;
+    for (uint32_t b = 0; b < BANKS; b++)
+        part.precharged[b] = now.open >> b & 1 ? t + s.rp : part.precharged[b];
+    now.open = 0;
+    if ((now.last & (READ_SLOT | AUTO_SLOT)) == READ_SLOT)
+        part.from[0] = sooner(part.from[0], t + now.latency);
+    NEXT;
+}
+
+terminate:
+    if (((t - now.busy) | (t - terminable(&part, now, s.wtr)) | (now.due - t)) < 0)
+        goto breaks;
+    /* A burst that must not be cut is over here, so its end is not moved. */
+    part.from[0] = sooner(part.from[0], t + now.latency);
+    NEXT;
+
+refresh:
+    if (((t - now.busy) | (t - all_precharged(&part)) | (t - part.from[0]) | (now.due - t)) < 0
+        || now.open != 0)
+        goto breaks;
+    now.busy = t + s.rfc;
+    now.due = t + s.gap;
+    NEXT;
+
+mode_set:
+    if (((t - now.busy) | (t - all_precharged(&part)) | (t - part.from[0]) | (now.due - t)) < 0
+        || now.open != 0 || !is_good_mode_set(pins))
+        goto breaks;
+    now.busy = t + s.mrd;
+    if (bank == 0) {
+        now.pairs = pairs_of(pins);
+        now.latency = latency_of(pins & 127);
+        part.turn[1] = now.latency;
+    }
+    NEXT;
+
+idle:
+    if (t > now.due)
+        goto breaks;
+    NEXT;
+
+breaks:
+    return broken(lowest_rule(&s, &part, now, t, pins),
+                  (uint32_t)((at - events) / EVENT_BYTES - 1));
+#undef NEXT
+}
+
+uint64_t c_judge(const uint8_t *capture, size_t len)
+{
+    struct settings settings;
+    uint64_t refusal = check_capture(capture, len, &settings);
+    if (refusal != 0)
+        return refusal;
+    return walk(&settings, capture + EVENTS_AT, load(capture + 12));
+}
+
+static inline int cuts(uint32_t burst, uint32_t pins)
+{
+    uint32_t command = command_of(pins);
+    if (command_of(burst) == WRITE)
+        return command == WRITE;
+    return command == READ || command == TERMINATE
+        || (command == PRECHARGE && (pins & A10 || bank_of(pins) == bank_of(burst)));
+}
+
+/* The pairs that burst i keeps: the first event that cuts it cuts it shortest. */
+static inline uint32_t kept_pairs(const uint8_t *events, uint32_t count, uint32_t i,
+                                  uint32_t pairs)
+{
+    uint32_t burst = pins_of(events, i);
+    uint32_t given = cycle_of(events, i);
+    if (burst & A10)
+        return pairs;
+    for (uint32_t j = i + 1; j < count && cycle_of(events, j) - given < pairs; j++) {
+        if (cuts(burst, pins_of(events, j)))
+            return cycle_of(events, j) - given;
+    }
+    return pairs;
+}
+
+static uint32_t count_cells(uint32_t mode, const uint8_t *events, uint32_t count)
+{
+    uint32_t pairs = pairs_of(mode);
+    uint32_t needed = 0;
+    for (uint32_t i = 0; i < count; i++) {
+        uint32_t pins = pins_of(events, i);
+        uint32_t command = command_of(pins);
+        if (command == READ || command == WRITE)
+            needed += 2 * kept_pairs(events, count, i, pairs);
+        else if (command == MODE_SET && bank_of(pins) == 0)
+            pairs = pairs_of(pins);
+    }
+    return needed;
+}
+
+static inline uint32_t column_of(uint32_t pins, uint32_t column_bits)
+{
+    return ((pins & 0x3ff) | (pins >> 1 & 0x400)) & ((1u << column_bits) - 1);
+}
+
+/* Writes the beats of one burst and returns where the next burst's go. */
+static inline uint32_t *put_beats(uint32_t *out, uint32_t row_start, uint32_t column,
+                                  uint32_t mode, uint32_t beats)
+{
+    uint32_t within = (2 * pairs_of(mode)) - 1;
+    uint32_t block = row_start + (column & ~within);
+    if (mode & 8) {
+        for (uint32_t j = 0; j < beats; j++)
+            out[j] = block + ((column ^ j) & within);
+    } else {
+        for (uint32_t j = 0; j < beats; j++)
+            out[j] = block + ((column + j) & within);
+    }
+    return out + beats;
+}
+
+static uint32_t write_cells(const struct settings *s, const uint8_t *events, uint32_t count,
+                            uint32_t *out)
+{
+    uint32_t *end = out;
+    uint32_t mode = s->mode;
+    uint32_t row_start[BANKS] = {0};
+    for (uint32_t i = 0; i < count; i++) {
+        uint32_t pins = pins_of(events, i);
+        uint32_t bank = bank_of(pins);
+        switch (command_of(pins)) {
+        case ACTIVE:
+            row_start[bank] = ((bank << s->row_bits) + (pins & 0x3fff)) << s->column_bits;
+            break;
+        case READ:
+        case WRITE: {
+            uint32_t beats = 2 * kept_pairs(events, count, i, pairs_of(mode));
+            end = put_beats(end, row_start[bank], column_of(pins, s->column_bits), mode, beats);
+            break;
+        }
+        case MODE_SET:
+            mode = bank == 0 ? pins & 127 : mode;
+            break;
+        default:
+            break;
+        }
+    }
+    return (uint32_t)(end - out);
+}
+
+uint64_t c_cells(const uint8_t *capture, size_t len, uint32_t *out, size_t out_len)
+{
+    struct settings settings;
+    uint64_t refusal = check_capture(capture, len, &settings);
+    if (refusal != 0)
+        return refusal;
+    const uint8_t *events = capture + EVENTS_AT;
+    uint32_t count = load(capture + 12);
+    uint64_t answer = walk(&settings, events, count);
+    if (is_broken(answer))
+        return refused(8, (uint32_t)answer);
+    /* Room for whole bursts at every event needs no counting. */
+    if (out_len < (size_t)count * LONGEST_BURST) {
+        uint32_t needed = count_cells(settings.mode, events, count);
+        if (out_len < needed)
+            return refused(7, needed);
+    }
+    return write_cells(&settings, events, count, out);
+}
+
+/* The part between requests: all banks idle, every burst with auto precharge. */
+struct plan {
+    int32_t next; /* the first cycle free for an event */
+    int32_t precharged[BANKS];
+    int32_t cycled[BANKS];
+    uint32_t active_bank;
+    int32_t spaced, spaced_same;
+    int32_t busy, all_idle, due;
+    int32_t from[2]; /* by direction, 0 for WRITE and 1 for READ */
+};
+
+/* Where a request's two commands would go. */
+struct placing {
+    int32_t others, active, access, over, idle;
+};
+
+static inline struct placing place(const struct settings *s, const struct plan *plan,
+                                   uint32_t read, uint32_t bank)
+{
+    int32_t others = bank == plan->active_bank ? plan->spaced_same : plan->spaced;
+    int32_t same = later(plan->precharged[bank], plan->cycled[bank]);
+    int32_t active = later(later(plan->next, plan->busy), later(same, others));
+    int32_t access = later(active + s->rcd, plan->from[read]);
+    int32_t over = access + (int32_t)pairs_of(s->mode);
+    int32_t done = read ? over : over + 1 + s->wr;
+    int32_t idle = later(done, active + s->ras) + s->rp;
+    return (struct placing){others, active, access, over, idle};
+}
+
+/* The earliest AUTO REFRESH after a request. */
+static inline int32_t refresh_after(const struct settings *s, const struct plan *plan,
+                                    const struct placing *placing, uint32_t read)
+{
+    int32_t bus = read ? placing->over + (int32_t)latency_of(s->mode) : 0;
+    return later(later(placing->access + 1, bus), later(plan->all_idle, placing->idle));
+}
+
+static inline void accept(const struct settings *s, struct plan *plan,
+                          const struct placing *placing, uint32_t read, uint32_t bank)
+{
+    int32_t over = placing->over;
+    plan->spaced_same = placing->others;
+    plan->spaced = placing->active + s->rrd;
+    plan->active_bank = bank;
+    plan->cycled[bank] = placing->active + s->rc;
+    plan->precharged[bank] = placing->idle;
+    plan->all_idle = later(plan->all_idle, placing->idle);
+    plan->from[read] = over;
+    plan->from[read ^ 1] = read ? over + (int32_t)latency_of(s->mode) : over + 1 + s->wtr;
+    plan->next = placing->access + 1;
+}
+
+static inline uint8_t *put_event(uint8_t *at, int32_t cycle, uint32_t pins)
+{
+    memcpy(at, &cycle, sizeof cycle);
+    memcpy(at + 4, &pins, sizeof pins);
+    return at + EVENT_BYTES;
+}
+
+/* Refusal 6, or the number of events written. */
+static uint64_t plan_events(const struct settings *s, const uint32_t *requests, uint32_t count,
+                            uint8_t *events)
+{
+    struct plan plan = {.due = s->gap};
+    uint8_t *at = events;
+    for (uint32_t i = 0; i < count; i++) {
+        uint32_t request = requests[i];
+        uint32_t read = request >> 31 ^ 1;
+        uint32_t cell = request & 0x7ffffff;
+        uint32_t column = cell & ((1u << s->column_bits) - 1);
+        uint32_t row = cell >> s->column_bits & ((1u << s->row_bits) - 1);
+        uint32_t bank = cell >> (s->column_bits + s->row_bits);
+        struct placing placing = place(s, &plan, read, bank);
+        if (refresh_after(s, &plan, &placing, read) > plan.due) {
+            int32_t refresh = later(later(plan.next, plan.busy),
+                                    later(plan.all_idle, plan.from[0]));
+            plan.busy = refresh + s->rfc;
+            plan.due = refresh + s->gap;
+            plan.next = refresh + 1;
+            at = put_event(at, refresh, (uint32_t)REFRESH << 16);
+            placing = place(s, &plan, read, bank);
+            if (refresh_after(s, &plan, &placing, read) > plan.due)
+                return refused(6, i);
+        }
+        accept(s, &plan, &placing, read, bank);
+        uint32_t access = (read ? READ : WRITE) << 16 | bank << 14 | A10;
+        uint32_t address = (column & 0x3ff) | (column & 0x400) << 1;
+        at = put_event(at, placing.active, (uint32_t)ACTIVE << 16 | bank << 14 | row);
+        at = put_event(at, placing.access, access | address);
+    }
+    return (uint64_t)(at - events) / EVENT_BYTES;
+}
+
+/* Refusal 5, or 0. */
+static uint64_t check_requests(const struct settings *s, const uint32_t *requests, size_t count)
+{
+    if (count > MOST_REQUESTS)
+        return refused(5, MOST_REQUESTS);
+    uint32_t lacking = ~(((uint32_t)BANKS << (s->row_bits + s->column_bits)) - 1) & 0x7fffffff;
+    for (uint32_t i = 0; i < count; i++) {
+        if (requests[i] & lacking)
+            return refused(5, i);
+    }
+    return 0;
+}
+
+uint64_t c_schedule(const uint32_t *list, size_t list_len, const uint32_t *requests,
+                    size_t requests_len, uint8_t *out, size_t out_len)
+{
+    if (list_len != SETTINGS)
+        return refused(2, 0);
+    struct settings settings;
+    memcpy(&settings, list, sizeof settings);
+    uint64_t refusal = check_settings(&settings);
+    if (refusal == 0)
+        refusal = check_requests(&settings, requests, requests_len);
+    if (refusal != 0)
+        return refusal;
+
+    /* Beside the lent buffer, which a refusal must leave as it is. */
+    uint8_t events[3 * EVENT_BYTES * MOST_REQUESTS];
+    uint64_t answer = plan_events(&settings, requests, (uint32_t)requests_len, events);
+    if (is_refused(answer))
+        return answer;
+    uint32_t count = (uint32_t)answer;
+    uint32_t total = EVENTS_AT + EVENT_BYTES * count;
+    if (out_len < total)
+        return refused(7, total);
+    uint32_t header[6] = {total, SETTINGS, HEADER_BYTES, count, EVENTS_AT, 0};
+    memcpy(out, header, sizeof header);
+    memcpy(out + HEADER_BYTES, list, sizeof settings);
+    memcpy(out + EVENTS_AT, events, EVENT_BYTES * (size_t)count);
+    return total;
+}

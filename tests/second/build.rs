@@ -1,0 +1,54 @@
+//! Builds the C next door with gcc, and finds the verified library where one is named.
+
+use std::path::{Path, PathBuf};
+use std::process::Command;
+use std::{env, fs};
+
+fn main() {
+    build_c_judge();
+    if env::var_os("CARGO_FEATURE_ARCHIVE").is_some() {
+        find_archive();
+    }
+}
+
+fn build_c_judge() {
+    let manifest = PathBuf::from(env::var_os("CARGO_MANIFEST_DIR").expect("set by cargo"));
+    let out = PathBuf::from(env::var_os("OUT_DIR").expect("set by cargo"));
+    let source = manifest.join("../bench/judge.c");
+    let object = out.join("judge.o");
+    let library = out.join("libc_judge.a");
+    // ar adds to an archive that is already there.
+    let _ = fs::remove_file(&library);
+    run(Command::new("gcc")
+        .args([
+            "-std=c11", "-O3", "-fPIC", "-Wall", "-Wextra", "-Werror", "-c", "-o",
+        ])
+        .args([&object, &source]));
+    run(Command::new("ar").arg("crs").args([&library, &object]));
+    println!("cargo:rustc-link-search=native={}", out.display());
+    println!("cargo:rustc-link-lib=static=c_judge");
+    for file in [source, manifest.join("../bench/judge.h")] {
+        rerun_if_changed(&file);
+    }
+}
+
+/// The folder that holds libmorgazell.a.
+fn find_archive() {
+    println!("cargo:rerun-if-env-changed=MORGAZELL_ARCHIVE");
+    let folder = env::var("MORGAZELL_ARCHIVE")
+        .expect("feature `archive` wants MORGAZELL_ARCHIVE, the folder of libmorgazell.a");
+    rerun_if_changed(&Path::new(&folder).join("libmorgazell.a"));
+    println!("cargo:rustc-link-search=native={folder}");
+    println!("cargo:rustc-link-lib=static=morgazell");
+}
+
+fn rerun_if_changed(file: &Path) {
+    println!("cargo:rerun-if-changed={}", file.display());
+}
+
+fn run(command: &mut Command) {
+    let status = command
+        .status()
+        .unwrap_or_else(|error| panic!("{command:?}: {error}"));
+    assert!(status.success(), "{command:?} failed");
+}

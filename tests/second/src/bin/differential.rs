@@ -1,0 +1,216 @@
+//! Holds an implementation against this crate's own on generated inputs.
+//!
+//!     differential INPUTS SEED
+//!
+//! With feature `archive` the verified library is held against it, else the C one. Ends
+//! with 1 if an answer or any element of a buffer differs, or if the run was too small for
+//! every rule and every refusal to come up.
+
+use std::process::ExitCode;
+use std::{env, fmt};
+
+use second::capture::Refusal;
+use second::foreign::SUBJECT;
+use second::generate::{input, Dice, Input, Tally};
+use second::{cells, judge, packed, schedule};
+
+/// What fills buffers beforehand, so that an element written by mistake shows.
+const UNTOUCHED: u32 = 0xa5c3_965a;
+/// Elements behind every lent buffer that nothing may touch either.
+const FENCE: usize = 32;
+/// The most that any answer needs, in elements of its buffer.
+const MOST_CELLS: usize = 16 * 8_000;
+const MOST_BYTES: usize = 64_080;
+
+fn main() -> ExitCode {
+    let arguments: Vec<String> = env::args().skip(1).collect();
+    let numbers: Option<Vec<u64>> = arguments.iter().map(|text| text.parse().ok()).collect();
+    match numbers.as_deref() {
+        Some(&[inputs, seed]) => run(inputs, seed),
+        _ => {
+            eprintln!("usage: differential INPUTS SEED");
+            ExitCode::FAILURE
+        }
+    }
+}
+
+fn run(inputs: u64, seed: u64) -> ExitCode {
+    let mut comparison = Comparison {
+        dice: Dice::new(seed),
+        tally: Tally::default(),
+    };
+    for number in 0..inputs {
+        if let Err(difference) = comparison.compare_next() {
+            eprintln!(
+                "input {number} of seed {seed}, {}: {difference}",
+                SUBJECT.name
+            );
+            return ExitCode::FAILURE;
+        }
+    }
+    println!(
+        "{inputs} inputs of seed {seed}, {}: no difference",
+        SUBJECT.name
+    );
+    println!("{}", comparison.tally);
+    let missing = comparison.tally.missing();
+    if missing.is_empty() {
+        ExitCode::SUCCESS
+    } else {
+        eprintln!("never came up: {}", missing.join(", "));
+        ExitCode::FAILURE
+    }
+}
+
+/// Where two implementations part, with the input that shows it.
+struct Difference {
+    question: &'static str,
+    expected: u64,
+    found: u64,
+    element: Option<usize>,
+    input: String,
+}
+
+impl fmt::Display for Difference {
+    fn fmt(&self, f: &mut fmt::Formatter<'_>) -> fmt::Result {
+        let Difference {
+            question,
+            expected,
+            found,
+            element,
+            input,
+        } = self;
+        write!(
+            f,
+            "{question} expected {expected:#018x}, found {found:#018x}"
+        )?;
+        if let Some(element) = element {
+            write!(f, ", and the buffers part at element {element}")?;
+        }
+        write!(f, "\n{input}")
+    }
+}
+
+/// An answer and the buffer it left.
+struct Left<T> {
+    answer: u64,
+    buffer: Vec<T>,
+}
+
+struct Comparison {
+    dice: Dice,
+    tally: Tally,
+}
+
+impl Comparison {
+    fn compare_next(&mut self) -> Result<(), Difference> {
+        match input(&mut self.dice) {
+            Input::Capture(capture) => {
+                self.compare_judges(&capture)?;
+                self.compare_cells(&capture)
+            }
+            Input::Requests { settings, requests } => self.compare_schedules(&settings, &requests),
+        }
+    }
+
+    fn compare_judges(&mut self, capture: &[u8]) -> Result<(), Difference> {
+        let answer = judge(capture);
+        self.tally.count_answer(answer);
+        let expected = Left {
+            answer: packed::of_answer(answer),
+            buffer: Vec::<u8>::new(),
+        };
+        let found = Left {
+            answer: SUBJECT.judge(capture),
+            buffer: Vec::new(),
+        };
+        same("judge", &expected, &found, || hex(capture))
+    }
+
+    fn compare_cells(&mut self, capture: &[u8]) -> Result<(), Difference> {
+        let needed = needed(cells(capture, &mut vec![UNTOUCHED; MOST_CELLS]));
+        for length in self.lengths(needed, MOST_CELLS) {
+            let mut buffer = vec![UNTOUCHED; length + FENCE];
+            let answer = cells(capture, &mut buffer[..length]);
+            self.tally.count_cells(answer);
+            let expected = Left {
+                answer: packed::of_count(answer),
+                buffer,
+            };
+            let mut buffer = vec![UNTOUCHED; length + FENCE];
+            let answer = SUBJECT.cells(capture, &mut buffer[..length]);
+            let found = Left { answer, buffer };
+            same("cells", &expected, &found, || hex(capture))?;
+        }
+        Ok(())
+    }
+
+    fn compare_schedules(&mut self, settings: &[u32], requests: &[u32]) -> Result<(), Difference> {
+        let untouched = UNTOUCHED as u8;
+        let needed = needed(schedule(
+            settings,
+            requests,
+            &mut vec![untouched; MOST_BYTES],
+        ));
+        for length in self.lengths(needed, MOST_BYTES) {
+            let mut buffer = vec![untouched; length + FENCE];
+            let answer = schedule(settings, requests, &mut buffer[..length]);
+            self.tally.count_schedule(answer);
+            let expected = Left {
+                answer: packed::of_count(answer),
+                buffer,
+            };
+            let mut buffer = vec![untouched; length + FENCE];
+            let answer = SUBJECT.schedule(settings, requests, &mut buffer[..length]);
+            let found = Left { answer, buffer };
+            let shown = || format!("settings {settings:?} requests {requests:?}");
+            same("schedule", &expected, &found, shown)?;
+        }
+        Ok(())
+    }
+
+    /// Two buffer lengths to try: one with room behind the answer, one just long enough or
+    /// too short. A refused call gets any length.
+    fn lengths(&mut self, needed: Option<usize>, most: usize) -> [usize; 2] {
+        let spare = self.dice.below(20) as usize;
+        match needed {
+            Some(needed) => {
+                let shorter = self.dice.below(needed as u32 + 1) as usize;
+                let one_short = needed.saturating_sub(1);
+                [
+                    needed + spare,
+                    self.dice.pick(&[needed, one_short, one_short, shorter, 0]),
+                ]
+            }
+            None => [spare, self.dice.below(most as u32) as usize],
+        }
+    }
+}
+
+fn needed(answer: Result<u32, Refusal>) -> Option<usize> {
+    answer.ok().map(|count| count as usize)
+}
+
+fn same<T: PartialEq>(
+    question: &'static str,
+    expected: &Left<T>,
+    found: &Left<T>,
+    shown: impl Fn() -> String,
+) -> Result<(), Difference> {
+    let mut pairs = expected.buffer.iter().zip(&found.buffer);
+    let element = pairs.position(|(expected, found)| expected != found);
+    if expected.answer == found.answer && element.is_none() {
+        return Ok(());
+    }
+    Err(Difference {
+        question,
+        expected: expected.answer,
+        found: found.answer,
+        element,
+        input: shown(),
+    })
+}
+
+fn hex(capture: &[u8]) -> String {
+    capture.iter().map(|byte| format!("{byte:02x}")).collect()
+}

@@ -1,0 +1,166 @@
+//! How long the fast judges take an event, on captures of several kinds.
+//!
+//!     speed
+//!
+//! Prints nanoseconds an event, the least of many runs. With feature `archive` the verified
+//! library stands beside the C and the Rust one.
+
+use std::hint::black_box;
+use std::time::{Duration, Instant};
+
+use second::capture::{bytes_of, Event, Settings, SETTINGS};
+use second::command::Command;
+use second::foreign::{C, SUBJECT};
+use second::generate::{busy_capture, Dice};
+use second::part::{LookBack, Part};
+use second::schedule::earliest;
+use second::{fast, judge, schedule, Answer};
+
+/// A real part: 64M x 16 at 6 ns.
+const PART: [u32; SETTINGS] = [1, 14, 10, 0x32, 3, 3, 7, 10, 2, 3, 1, 12, 2, 10_400];
+const BL_16: u32 = 0x34;
+const RUNS: u32 = 400;
+
+fn main() {
+    println!(
+        "{:<34}{:>8}{:>10}{:>10}{:>10}",
+        "ns an event", "events", "Rust", "C", SUBJECT.name
+    );
+    for (name, capture) in captures() {
+        judge_row(name, &capture);
+    }
+    println!();
+    for (name, capture) in captures() {
+        cells_row(name, &capture);
+    }
+    println!();
+    schedule_row("schedule, an event", &requests());
+}
+
+fn captures() -> Vec<(&'static str, Vec<u8>)> {
+    let mut dice = Dice::new(1);
+    vec![
+        ("NOP alone", repeated(PART, &[Command::Nop])),
+        ("one open row, reads", streaming(PART, false)),
+        (
+            "one open row, reads and writes",
+            streaming(with_mode(BL_16), true),
+        ),
+        ("a schedule", schedule_capture()),
+        ("random commands", busy_capture(&mut dice, PART)),
+        (
+            "random commands, BL 16",
+            busy_capture(&mut dice, with_mode(BL_16)),
+        ),
+    ]
+}
+
+fn with_mode(mode: u32) -> [u32; SETTINGS] {
+    let mut settings = PART;
+    settings[3] = mode;
+    settings
+}
+
+/// Commands over and over, each as early as it may be.
+fn repeated(settings: [u32; SETTINGS], commands: &[Command]) -> Vec<u8> {
+    let read = Settings::read(&settings).expect("valid settings");
+    let mut part = Part::new(read, LookBack::Running);
+    let mut events = Vec::new();
+    let mut next = 0;
+    for &command in commands.iter().cycle().take(8_000) {
+        let cycle = earliest(&part, next, command);
+        part.apply(cycle, command);
+        events.push(Event {
+            cycle: cycle as u32,
+            pins: command.pins(),
+        });
+        next = cycle + 1;
+    }
+    bytes_of(&settings, &events)
+}
+
+/// Bursts in one row, closed and refreshed now and then.
+fn streaming(settings: [u32; SETTINGS], with_writes: bool) -> Vec<u8> {
+    use second::command::Named::All;
+    let mut commands = vec![Command::Active { bank: 1, row: 77 }];
+    for column in 0..60 {
+        let address = 16 * column;
+        let read = Command::Read {
+            bank: 1,
+            address,
+            auto_precharge: false,
+        };
+        let write = Command::Write {
+            bank: 1,
+            address,
+            auto_precharge: false,
+        };
+        commands.push(if with_writes && column % 2 == 1 {
+            write
+        } else {
+            read
+        });
+    }
+    commands.extend([Command::Precharge { banks: All }, Command::AutoRefresh]);
+    repeated(settings, &commands)
+}
+
+fn requests() -> Vec<u32> {
+    let mut dice = Dice::new(2);
+    (0..2_000)
+        .map(|_| dice.below(1 << 26) | dice.below(2) << 31)
+        .collect()
+}
+
+fn schedule_capture() -> Vec<u8> {
+    let mut out = vec![0; 64_080];
+    let total = schedule(&PART, &requests(), &mut out).expect("a schedule");
+    out.truncate(total as usize);
+    out
+}
+
+/// The least time that one call takes.
+fn least<T>(mut call: impl FnMut() -> T) -> Duration {
+    let timed = |_| {
+        let start = Instant::now();
+        black_box(call());
+        start.elapsed()
+    };
+    (0..RUNS).map(timed).min().expect("some runs")
+}
+
+fn row(name: &str, events: u32, times: [Duration; 3]) {
+    let per_event = times.map(|time| time.as_nanos() as f64 / f64::from(events));
+    let [rust, c, subject] = per_event;
+    println!("{name:<34}{events:>8}{rust:>10.2}{c:>10.2}{subject:>10.2}");
+}
+
+fn judge_row(name: &str, capture: &[u8]) {
+    let Answer::Clean { judged } = judge(capture) else {
+        panic!("{name} is not clean");
+    };
+    let rust = least(|| fast::judge(black_box(capture)));
+    let c = least(|| C.judge(black_box(capture)));
+    let subject = least(|| SUBJECT.judge(black_box(capture)));
+    row(name, judged, [rust, c, subject]);
+}
+
+fn cells_row(name: &str, capture: &[u8]) {
+    let Answer::Clean { judged } = judge(capture) else {
+        panic!("{name} is not clean");
+    };
+    let mut out = vec![0; 16 * 8_000];
+    let rust = least(|| fast::cells(black_box(capture), &mut out));
+    let c = least(|| C.cells(black_box(capture), &mut out));
+    let subject = least(|| SUBJECT.cells(black_box(capture), &mut out));
+    row(&format!("cells, {name}"), judged, [rust, c, subject]);
+}
+
+fn schedule_row(name: &str, requests: &[u32]) {
+    let mut out = vec![0; 64_080];
+    let bytes = fast::schedule(&PART, requests, &mut out).expect("a schedule");
+    let rust = least(|| fast::schedule(&PART, black_box(requests), &mut out));
+    let c = least(|| C.schedule(&PART, black_box(requests), &mut out));
+    let subject = least(|| SUBJECT.schedule(&PART, black_box(requests), &mut out));
+    row(name, (bytes - 80) / 8, [rust, c, subject]);
+}

@@ -1,0 +1,254 @@
+//! Captures as bytes: the header, the settings, the events, and refusals 1 to 4.
+
+use crate::command::Command;
+
+pub const SETTINGS: usize = 14;
+pub const HEADER_BYTES: usize = 24;
+pub const EVENTS_AT: usize = 80;
+pub const EVENT_BYTES: usize = 8;
+pub const MOST_EVENTS: u32 = 8_000;
+pub const MOST_BYTES: usize = 64_080;
+pub const LAST_CYCLE: u32 = 2_000_000_000;
+
+/// The setting that holds the mode word at cycle 0.
+pub const MODE_SETTING: usize = 3;
+/// The setting that holds GAP.
+pub const GAP_SETTING: usize = 13;
+
+/// Least and most of each setting, in order.
+pub const LIMITS: [(u32, u32); SETTINGS] = [
+    (1, 2),
+    (12, 14),
+    (8, 11),
+    (0, 127),
+    (1, 10_000),
+    (1, 10_000),
+    (1, 10_000),
+    (1, 10_000),
+    (1, 10_000),
+    (1, 10_000),
+    (1, 10_000),
+    (1, 10_000),
+    (1, 10_000),
+    (1, 1_000_000),
+];
+
+/// Why a call was turned down: a number of document 01's table and its place.
+#[derive(Clone, Copy, Debug, PartialEq, Eq)]
+pub struct Refusal {
+    pub number: u32,
+    pub place: u32,
+}
+
+pub fn refused<T>(number: u32, place: u32) -> Result<T, Refusal> {
+    Err(Refusal { number, place })
+}
+
+/// A mode word: burst length, order and latency.
+#[derive(Clone, Copy, Debug, PartialEq, Eq)]
+pub struct Mode(pub u32);
+
+impl Mode {
+    pub fn is_valid(self) -> bool {
+        let length_code = self.0 & 7;
+        let latency = self.0 >> 4;
+        (1..=4).contains(&length_code) && (2..=3).contains(&latency)
+    }
+
+    /// BL.
+    pub fn burst_length(self) -> u32 {
+        match self.0 & 7 {
+            1 => 2,
+            2 => 4,
+            3 => 8,
+            4 => 16,
+            code => unreachable!("burst length code {code} is never accepted"),
+        }
+    }
+
+    /// h, the pairs of beats in a whole burst.
+    pub fn pairs(self) -> u64 {
+        u64::from(self.burst_length() / 2)
+    }
+
+    pub fn is_interleaved(self) -> bool {
+        self.0 & 8 != 0
+    }
+
+    /// CL.
+    pub fn latency(self) -> u64 {
+        u64::from(self.0 >> 4 & 7)
+    }
+}
+
+/// The settings of a part, times in cycles.
+#[derive(Clone, Copy, Debug, PartialEq, Eq)]
+pub struct Settings {
+    pub lane_code: u32,
+    pub row_bits: u32,
+    pub column_bits: u32,
+    pub mode: Mode,
+    pub t_rcd: u64,
+    pub t_rp: u64,
+    pub t_ras: u64,
+    pub t_rc: u64,
+    pub t_rrd: u64,
+    pub t_wr: u64,
+    pub t_wtr: u64,
+    pub t_rfc: u64,
+    pub t_mrd: u64,
+    pub gap: u64,
+}
+
+impl Settings {
+    /// Refusal 2 for a list of another length, refusal 3 for its lowest bad setting.
+    pub fn read(list: &[u32]) -> Result<Settings, Refusal> {
+        if list.len() != SETTINGS {
+            return refused(2, 0);
+        }
+        for (place, &value) in list.iter().enumerate() {
+            if !setting_is_good(place, value) {
+                return refused(3, place as u32);
+            }
+        }
+        let time = |place: usize| u64::from(list[place]);
+        Ok(Settings {
+            lane_code: list[0],
+            row_bits: list[1],
+            column_bits: list[2],
+            mode: Mode(list[MODE_SETTING]),
+            t_rcd: time(4),
+            t_rp: time(5),
+            t_ras: time(6),
+            t_rc: time(7),
+            t_rrd: time(8),
+            t_wr: time(9),
+            t_wtr: time(10),
+            t_rfc: time(11),
+            t_mrd: time(12),
+            gap: time(GAP_SETTING),
+        })
+    }
+
+    /// How many cells the four banks have together.
+    pub fn cells(&self) -> u64 {
+        4 << (self.row_bits + self.column_bits)
+    }
+}
+
+fn setting_is_good(place: usize, value: u32) -> bool {
+    let (least, most) = LIMITS[place];
+    let in_range = least <= value && value <= most;
+    in_range && (place != MODE_SETTING || Mode(value).is_valid())
+}
+
+/// One event: the cycle it stands at and what its pins ask for.
+#[derive(Clone, Copy, Debug, PartialEq, Eq)]
+pub struct Event {
+    pub cycle: u32,
+    pub pins: u32,
+}
+
+impl Event {
+    pub fn command(&self) -> Command {
+        Command::of_pins(self.pins)
+    }
+}
+
+/// A capture that none of refusals 1 to 4 turns down.
+#[derive(Clone, Debug, PartialEq, Eq)]
+pub struct Capture {
+    pub settings: Settings,
+    pub events: Vec<Event>,
+}
+
+impl Capture {
+    pub fn read(bytes: &[u8]) -> Result<Capture, Refusal> {
+        check_length(bytes)?;
+        check_header(bytes)?;
+        let settings = Settings::read(&words(&bytes[HEADER_BYTES..EVENTS_AT]))?;
+        let events = read_events(&bytes[EVENTS_AT..])?;
+        Ok(Capture { settings, events })
+    }
+}
+
+/// Refusal 1.
+fn check_length(bytes: &[u8]) -> Result<(), Refusal> {
+    if bytes.len() < EVENTS_AT || bytes.len() > MOST_BYTES {
+        return refused(1, 0);
+    }
+    if bytes.len() as u64 != u64::from(word(bytes, 0)) {
+        return refused(1, 0);
+    }
+    Ok(())
+}
+
+/// Refusal 2.
+fn check_header(bytes: &[u8]) -> Result<(), Refusal> {
+    let header = words(&bytes[..HEADER_BYTES]);
+    let [total, settings_count, settings_at, events_count, events_at, last] = header[..] else {
+        unreachable!("the header is six words");
+    };
+    let as_stated = settings_count == SETTINGS as u32
+        && settings_at == HEADER_BYTES as u32
+        && events_count <= MOST_EVENTS
+        && events_at == EVENTS_AT as u32
+        && last == 0;
+    // In 64 bits, so that no event count wraps round to a fitting total.
+    let total_fits = u64::from(total) == 80 + 8 * u64::from(events_count);
+    if as_stated && total_fits {
+        Ok(())
+    } else {
+        refused(2, 0)
+    }
+}
+
+/// Refusal 4, or the events.
+fn read_events(bytes: &[u8]) -> Result<Vec<Event>, Refusal> {
+    let mut events: Vec<Event> = Vec::new();
+    for (place, event) in bytes.chunks(EVENT_BYTES).enumerate() {
+        let event = Event {
+            cycle: word(event, 0),
+            pins: word(event, 4),
+        };
+        let spare_pins_clear = event.pins >> 20 == 0;
+        let cycle_fits = event.cycle <= LAST_CYCLE;
+        let rises = events
+            .last()
+            .is_none_or(|before| event.cycle > before.cycle);
+        if !(spare_pins_clear && cycle_fits && rises) {
+            return refused(4, place as u32);
+        }
+        events.push(event);
+    }
+    Ok(events)
+}
+
+/// The little-endian word at a byte offset.
+pub fn word(bytes: &[u8], at: usize) -> u32 {
+    u32::from_le_bytes([bytes[at], bytes[at + 1], bytes[at + 2], bytes[at + 3]])
+}
+
+fn words(bytes: &[u8]) -> Vec<u32> {
+    (0..bytes.len() / 4).map(|i| word(bytes, 4 * i)).collect()
+}
+
+/// The bytes of a capture. Nothing is checked, so bad captures can be written too.
+pub fn bytes_of(settings: &[u32; SETTINGS], events: &[Event]) -> Vec<u8> {
+    let total = EVENTS_AT + EVENT_BYTES * events.len();
+    let header = [
+        total as u32,
+        SETTINGS as u32,
+        HEADER_BYTES as u32,
+        events.len() as u32,
+        EVENTS_AT as u32,
+        0,
+    ];
+    let events = events.iter().flat_map(|event| [event.cycle, event.pins]);
+    header
+        .into_iter()
+        .chain(settings.iter().copied())
+        .chain(events)
+        .flat_map(u32::to_le_bytes)
+        .collect()
+}

@@ -1,0 +1,36 @@
+//! Seeded inputs: captures that are clean or break a chosen kind of rule, captures that are
+//! damaged, and settings with request lists.
+
+mod captures;
+mod damage;
+mod dice;
+mod requests;
+mod settings;
+mod tally;
+
+pub use captures::{busy_capture, guided_capture};
+pub use damage::damaged_capture;
+pub use dice::Dice;
+pub use requests::request_list;
+pub use tally::Tally;
+
+#[derive(Clone, Debug)]
+pub enum Input {
+    Capture(Vec<u8>),
+    Requests {
+        settings: Vec<u32>,
+        requests: Vec<u32>,
+    },
+}
+
+/// The next input: more than half guided captures, the rest damaged ones and requests.
+pub fn input(dice: &mut Dice) -> Input {
+    match dice.below(20) {
+        0..=10 => Input::Capture(guided_capture(dice)),
+        11..=14 => Input::Capture(damaged_capture(dice)),
+        _ => {
+            let (settings, requests) = request_list(dice);
+            Input::Requests { settings, requests }
+        }
+    }
+}

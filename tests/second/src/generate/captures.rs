@@ -1,0 +1,517 @@
+//! Captures built command by command, most of them legal, with at most one planned fault.
+
+use super::settings::{self, Kind};
+use super::Dice;
+use crate::capture::{bytes_of, Event, Settings, GAP_SETTING, LAST_CYCLE, MOST_EVENTS, SETTINGS};
+use crate::command::{Command, Named, BANKS, EXTENDED_REGISTER, MODE_REGISTER};
+use crate::part::{LookBack, Part};
+use crate::rules::lowest_broken;
+use crate::schedule::earliest;
+
+/// Pin bits that a capture may use.
+const PINS: u32 = 0xf_ffff;
+
+/// How many events are tried in search of one that breaks the rule drawn.
+const FAULT_TRIES: u32 = 12;
+
+/// A capture that no refusal turns down: clean, or broken somewhere.
+pub fn guided_capture(dice: &mut Dice) -> Vec<u8> {
+    match dice.below(1_000) {
+        0..=29 => random_capture(dice),
+        30..=32 => late_capture(dice),
+        33..=36 => full_capture(dice),
+        37..=299 => hasty_capture(dice),
+        _ => usual_capture(dice),
+    }
+}
+
+/// A full, clean capture with given settings, whose GAP must leave room for refreshes.
+pub fn busy_capture(dice: &mut Dice, list: [u32; SETTINGS]) -> Vec<u8> {
+    build(dice, list, MOST_EVENTS, 0)
+}
+
+fn usual_capture(dice: &mut Dice) -> Vec<u8> {
+    let kind = settings::kind(dice);
+    let list = settings::settings(dice, kind);
+    let wanted = match (kind, dice.below(40)) {
+        (Kind::Limits, _) => dice.below(10),
+        (_, 0) => 0,
+        (_, 1) => dice.between(200, 600),
+        (_, 2..=11) => dice.between(40, 150),
+        _ => dice.between(1, 40),
+    };
+    let fault_once_in = dice.pick(&[0, 0, 1, 2, 3, 5, 10, 20]);
+    build(dice, list, wanted, fault_once_in)
+}
+
+/// As many events as a capture may hold.
+fn full_capture(dice: &mut Dice) -> Vec<u8> {
+    let kind = dice.pick(&[Kind::Short, Kind::RealPart]);
+    let mut list = settings::settings(dice, kind);
+    list[GAP_SETTING] = dice.between(1_000, 100_000);
+    let fault_once_in = dice.pick(&[0, 0, 2_000]);
+    build(dice, list, MOST_EVENTS, fault_once_in)
+}
+
+/// Refreshes up to the last cycles that a capture may name, and some commands there.
+fn late_capture(dice: &mut Dice) -> Vec<u8> {
+    let kind = dice.pick(&[Kind::Short, Kind::RealPart, Kind::Limits]);
+    let mut list = settings::settings(dice, kind);
+    let gap = 1_000_000;
+    list[GAP_SETTING] = gap;
+    let refreshes = LAST_CYCLE / gap - 1;
+    let fault_once_in = dice.pick(&[0, 5]);
+    let wanted = refreshes + dice.between(2, 20);
+    let mut builder = Builder::new(dice, &list);
+    builder.refresh_at_every_gap(refreshes);
+    builder.go_to_the_end();
+    builder.fill(wanted, fault_once_in);
+    bytes_of(&list, &builder.events)
+}
+
+fn build(dice: &mut Dice, list: [u32; SETTINGS], wanted: u32, fault_once_in: u32) -> Vec<u8> {
+    let mut builder = Builder::new(dice, &list);
+    builder.fill(wanted, fault_once_in);
+    bytes_of(&list, &builder.events)
+}
+
+/// Commands a few cycles apart, whether or not the rules have them wait longer. What breaks
+/// a rule is mostly put right, and else ends the capture.
+fn hasty_capture(dice: &mut Dice) -> Vec<u8> {
+    let list = settings::settings(dice, Kind::Tight);
+    let wanted = dice.between(1, 80);
+    let mut builder = Builder::new(dice, &list);
+    while builder.events.len() < wanted as usize {
+        if !builder.add_hasty() {
+            builder.add_random_tail(wanted);
+            break;
+        }
+    }
+    bytes_of(&list, &builder.events)
+}
+
+/// Any pins on rising cycles.
+fn random_capture(dice: &mut Dice) -> Vec<u8> {
+    let kind = settings::kind(dice);
+    let list = settings::settings(dice, kind);
+    let mut builder = Builder::new(dice, &list);
+    builder.add_random_tail(40);
+    bytes_of(&list, &builder.events)
+}
+
+/// What makes one capture differ from the next in manner.
+struct Style {
+    banks: u32,
+    auto_precharge_percent: u32,
+    prompt_percent: u32,
+    /// The rule that a fault, if there is one, breaks.
+    fault_rule: u32,
+}
+
+impl Style {
+    fn new(dice: &mut Dice) -> Style {
+        Style {
+            banks: dice.between(1, BANKS as u32),
+            auto_precharge_percent: dice.pick(&[0, 20, 50, 90]),
+            prompt_percent: dice.pick(&[50, 80, 100]),
+            fault_rule: dice.between(1, 14),
+        }
+    }
+}
+
+#[derive(Clone, Copy)]
+enum Fault {
+    Early,
+    RowTooHigh,
+    BadRegister,
+    WrongState,
+    TooLate,
+    TerminateAtOnce,
+    Anything,
+}
+
+const FAULTS: [Fault; 10] = [
+    Fault::Early,
+    Fault::Early,
+    Fault::Early,
+    Fault::Early,
+    Fault::RowTooHigh,
+    Fault::BadRegister,
+    Fault::WrongState,
+    Fault::TooLate,
+    Fault::TerminateAtOnce,
+    Fault::Anything,
+];
+
+struct Builder<'a> {
+    dice: &'a mut Dice,
+    style: Style,
+    part: Part,
+    events: Vec<Event>,
+    /// The first cycle that the next event may have.
+    next: u64,
+}
+
+impl<'a> Builder<'a> {
+    fn new(dice: &'a mut Dice, list: &[u32; SETTINGS]) -> Builder<'a> {
+        let settings = Settings::read(list).expect("the generated settings are valid");
+        let style = Style::new(dice);
+        let part = Part::new(settings, LookBack::Running);
+        Builder {
+            dice,
+            style,
+            part,
+            events: Vec::new(),
+            next: 0,
+        }
+    }
+
+    fn refresh_at_every_gap(&mut self, refreshes: u32) {
+        let gap = self.part.settings.gap;
+        for count in 1..=u64::from(refreshes) {
+            self.push_applied(count * gap, Command::AutoRefresh);
+        }
+    }
+
+    /// Legal events up to the wanted count, or up to a fault and a random tail.
+    fn fill(&mut self, wanted: u32, fault_once_in: u32) {
+        while self.events.len() < wanted as usize {
+            if self.dice.once_in(fault_once_in) && self.add_fault() {
+                return self.add_random_tail(wanted);
+            }
+            if !self.add_legal() {
+                return;
+            }
+        }
+    }
+
+    /// One refresh more, and the next event so late that few fit before the last cycle.
+    fn go_to_the_end(&mut self) {
+        let last = u64::from(LAST_CYCLE);
+        let refresh = last - u64::from(self.dice.between(25_000, 60_000));
+        self.push_applied(refresh, Command::AutoRefresh);
+        let left = self.dice.pick(&[30, 400, 12_000]);
+        self.next = last - u64::from(self.dice.between(0, left));
+    }
+
+    fn push(&mut self, cycle: u64, pins: u32) {
+        self.events.push(Event {
+            cycle: cycle as u32,
+            pins,
+        });
+        self.next = cycle + 1;
+    }
+
+    fn push_applied(&mut self, cycle: u64, command: Command) {
+        let pins = self.pins_with_noise(command);
+        self.push(cycle, pins);
+        self.part.apply(cycle, command);
+    }
+
+    /// The command's pins, those it does not look at being anything.
+    fn pins_with_noise(&mut self, command: Command) -> u32 {
+        let free = match command {
+            Command::Deselect => PINS,
+            Command::Nop | Command::BurstTerminate | Command::AutoRefresh => 0xffff,
+            Command::Precharge { banks: Named::All } => 0xffff,
+            Command::Precharge {
+                banks: Named::One(_),
+            } => 0x3bff,
+            _ => 0,
+        };
+        command.pins() | self.dice.word() & free
+    }
+
+    /// The last cycle that rule 14 lets pass.
+    fn due(&self) -> u64 {
+        self.part.refresh.unwrap_or(0) + self.part.settings.gap
+    }
+
+    /// Adds an event that breaks nothing. False where the capture must end instead.
+    fn add_legal(&mut self) -> bool {
+        let refreshing = self.is_refresh_near();
+        let command = if refreshing {
+            self.refreshing_command()
+        } else {
+            self.usual_command()
+        };
+        let soonest = earliest(&self.part, self.next, command);
+        let slack = if refreshing { 0 } else { self.slack() };
+        let mut cycle = soonest + slack;
+        if command == Command::AutoRefresh && soonest <= self.due() && self.dice.percent(20) {
+            cycle = self.due();
+        }
+        if cycle > self.due() || cycle > u64::from(LAST_CYCLE) {
+            return false;
+        }
+        self.push_applied(cycle, command);
+        true
+    }
+
+    /// Adds an event soon after the one before. False where the capture must end.
+    fn add_hasty(&mut self) -> bool {
+        let command = self.usual_command();
+        let wait = self.dice.pick(&[0, 0, 0, 1, 2, 3]);
+        let mut cycle = self.next + wait;
+        if lowest_broken(&self.part, cycle, command).is_some() {
+            if self.dice.percent(25) {
+                let pins = self.pins_with_noise(command);
+                self.push(cycle, pins);
+                return false;
+            }
+            cycle = earliest(&self.part, self.next, command);
+        }
+        if cycle > self.due() {
+            return false;
+        }
+        self.push_applied(cycle, command);
+        true
+    }
+
+    fn slack(&mut self) -> u64 {
+        if self.dice.percent(self.style.prompt_percent) {
+            return 0;
+        }
+        let most = self.dice.pick(&[1, 2, 4, 20]);
+        u64::from(self.dice.between(0, most))
+    }
+
+    /// Whether closing all banks and refreshing should start now to be in time.
+    fn is_refresh_near(&self) -> bool {
+        let settings = &self.part.settings;
+        let closing = settings.t_ras + settings.t_wr + settings.t_rp + 40;
+        let worth_it = settings.gap > closing + settings.t_rfc + settings.t_mrd;
+        worth_it && self.next + closing > self.due()
+    }
+
+    fn refreshing_command(&mut self) -> Command {
+        if self.part.banks.iter().any(|bank| bank.is_open()) {
+            Command::Precharge { banks: Named::All }
+        } else {
+            Command::AutoRefresh
+        }
+    }
+
+    /// A command that fits the banks as they are, so that it passes after some wait.
+    fn usual_command(&mut self) -> Command {
+        let bank = self.bank();
+        if self.part.banks[bank].is_open() {
+            self.command_for_open(bank)
+        } else if self.part.banks.iter().all(|bank| !bank.is_open()) && self.dice.percent(25) {
+            self.command_for_all_idle()
+        } else {
+            self.command_for_idle(bank)
+        }
+    }
+
+    fn bank(&mut self) -> usize {
+        self.dice.below(self.style.banks) as usize
+    }
+
+    fn command_for_open(&mut self, bank: usize) -> Command {
+        match self.dice.below(100) {
+            0..=33 => self.read(bank),
+            34..=67 => self.write(bank),
+            68..=79 => Command::Precharge {
+                banks: Named::One(bank),
+            },
+            80..=85 => Command::Precharge { banks: Named::All },
+            86..=94 => Command::BurstTerminate,
+            _ => self.idle_command(),
+        }
+    }
+
+    fn command_for_idle(&mut self, bank: usize) -> Command {
+        match self.dice.below(100) {
+            0..=75 => self.active(bank),
+            76..=80 => Command::Precharge {
+                banks: Named::One(bank),
+            },
+            81..=86 => Command::Precharge { banks: Named::All },
+            87..=94 => Command::BurstTerminate,
+            _ => self.idle_command(),
+        }
+    }
+
+    fn command_for_all_idle(&mut self) -> Command {
+        match self.dice.below(10) {
+            0..=4 => Command::AutoRefresh,
+            5..=7 => Command::ModeRegisterSet {
+                register: MODE_REGISTER,
+                address: settings::mode(self.dice),
+            },
+            _ => Command::ModeRegisterSet {
+                register: EXTENDED_REGISTER,
+                address: self.address(),
+            },
+        }
+    }
+
+    fn idle_command(&mut self) -> Command {
+        self.dice.pick(&[Command::Nop, Command::Deselect])
+    }
+
+    fn address(&mut self) -> u32 {
+        self.dice.below(1 << 14)
+    }
+
+    fn active(&mut self, bank: usize) -> Command {
+        let rows = 1 << self.part.settings.row_bits;
+        let any = self.dice.below(rows);
+        let row = self.dice.pick(&[any, any, 0, rows - 1]);
+        Command::Active { bank, row }
+    }
+
+    fn read(&mut self, bank: usize) -> Command {
+        let auto_precharge = self.dice.percent(self.style.auto_precharge_percent);
+        // A10 is the auto precharge flag, never part of the address.
+        Command::Read {
+            bank,
+            address: self.address() & !(1 << 10),
+            auto_precharge,
+        }
+    }
+
+    fn write(&mut self, bank: usize) -> Command {
+        let auto_precharge = self.dice.percent(self.style.auto_precharge_percent);
+        Command::Write {
+            bank,
+            address: self.address() & !(1 << 10),
+            auto_precharge,
+        }
+    }
+
+    /// Adds an event whose lowest broken rule is the one drawn for this capture, so that
+    /// rare rules come up nearly as often as others. False if none was found here.
+    fn add_fault(&mut self) -> bool {
+        for _ in 0..FAULT_TRIES {
+            let Some((cycle, pins)) = self.faulty_event() else {
+                continue;
+            };
+            let rule = lowest_broken(&self.part, cycle, Command::of_pins(pins));
+            if rule == Some(self.style.fault_rule) && cycle <= u64::from(LAST_CYCLE) {
+                self.push(cycle, pins);
+                return true;
+            }
+        }
+        false
+    }
+
+    fn faulty_event(&mut self) -> Option<(u64, u32)> {
+        match self.dice.pick(&FAULTS) {
+            Fault::Early => self.early_event(),
+            Fault::RowTooHigh => self.high_row_event(),
+            Fault::BadRegister => Some(self.bad_register_event()),
+            Fault::WrongState => Some(self.wrong_state_event()),
+            Fault::TooLate => Some(self.late_event()),
+            Fault::TerminateAtOnce => Some((self.next, Command::BurstTerminate.pins())),
+            Fault::Anything => {
+                let wait = u64::from(self.dice.below(4));
+                Some((self.next + wait, self.dice.word() & PINS))
+            }
+        }
+    }
+
+    /// A command one cycle too early, or some cycles.
+    fn early_event(&mut self) -> Option<(u64, u32)> {
+        let command = self.command_to_hurry();
+        let soonest = earliest(&self.part, self.next, command);
+        if soonest == self.next {
+            return None;
+        }
+        let cycle = if self.dice.percent(75) {
+            soonest - 1
+        } else {
+            self.next + self.dice.roll() % (soonest - self.next)
+        };
+        Some((cycle, self.pins_with_noise(command)))
+    }
+
+    /// PRECHARGE more often than usual, as its waits are soon over.
+    fn command_to_hurry(&mut self) -> Command {
+        let bank = self.bank();
+        if self.part.banks[bank].is_open() && self.dice.percent(40) {
+            let one = Named::One(bank);
+            let banks = self.dice.pick(&[one, one, Named::All]);
+            return Command::Precharge { banks };
+        }
+        self.usual_command()
+    }
+
+    /// A row the part lacks, on an otherwise good ACTIVE where a bank is idle.
+    fn high_row_event(&mut self) -> Option<(u64, u32)> {
+        let row_bits = self.part.settings.row_bits;
+        let high_pins = 0x3fff >> row_bits << row_bits;
+        let bank = self.bank();
+        if self.part.banks[bank].is_open() || high_pins == 0 {
+            return None;
+        }
+        let command = self.active(bank);
+        let cycle = earliest(&self.part, self.next, command);
+        let lowest_high_pin = 1 << row_bits;
+        let high = self.dice.pick(&[lowest_high_pin, high_pins, 1 << 13]);
+        Some((cycle, command.pins() | high))
+    }
+
+    fn bad_register_event(&mut self) -> (u64, u32) {
+        let good = settings::mode(self.dice);
+        let high_pin = 1 << self.dice.between(7, 13);
+        let any = self.address();
+        let (register, address) = self.dice.pick(&[
+            (0b01, good),
+            (0b11, good),
+            (MODE_REGISTER, good & !7),
+            (MODE_REGISTER, good & !7 | 5),
+            (MODE_REGISTER, good & 0xf),
+            (MODE_REGISTER, good | 0x40),
+            (MODE_REGISTER, good | high_pin),
+            (MODE_REGISTER, any),
+        ]);
+        let wait = u64::from(self.dice.below(30));
+        (
+            self.next + wait,
+            Command::ModeRegisterSet { register, address }.pins(),
+        )
+    }
+
+    /// A command that the banks are not open or idle for.
+    fn wrong_state_event(&mut self) -> (u64, u32) {
+        let bank = self.dice.below(BANKS as u32) as usize;
+        let command = match (self.part.banks[bank].is_open(), self.dice.below(3)) {
+            (true, 0) => self.active(bank),
+            (true, 1) => Command::AutoRefresh,
+            (true, _) => Command::ModeRegisterSet {
+                register: MODE_REGISTER,
+                address: settings::mode(self.dice),
+            },
+            (false, 0) => self.write(bank),
+            (false, _) => self.read(bank),
+        };
+        let wait = u64::from(self.dice.below(30));
+        (self.next + wait, command.pins())
+    }
+
+    /// A command after the refresh is due, and after its own waits.
+    fn late_event(&mut self) -> (u64, u32) {
+        let command = self.usual_command();
+        let from = self.next.max(self.due() + 1);
+        let wait = self.dice.pick(&[0, 0, 0, 7]);
+        (
+            earliest(&self.part, from, command) + wait,
+            self.pins_with_noise(command),
+        )
+    }
+
+    /// Up to 20 events of any kind, which the judge must not look at after a fault.
+    fn add_random_tail(&mut self, wanted: u32) {
+        let room = wanted.saturating_sub(self.events.len() as u32).min(20);
+        for _ in 0..self.dice.between(0, room) {
+            let cycle = self.next + u64::from(self.dice.below(5));
+            if cycle > u64::from(LAST_CYCLE) {
+                return;
+            }
+            let pins = self.dice.word() & PINS;
+            self.push(cycle, pins);
+        }
+    }
+}

@@ -1,0 +1,184 @@
+//! Captures with one fault or several in their bytes, for refusals 1 to 4.
+
+use super::{guided_capture, Dice};
+use crate::capture::{
+    word, EVENTS_AT, EVENT_BYTES, HEADER_BYTES, LAST_CYCLE, LIMITS, MODE_SETTING, MOST_BYTES,
+};
+
+pub fn damaged_capture(dice: &mut Dice) -> Vec<u8> {
+    let mut bytes = match dice.below(40) {
+        0 => random_bytes(dice),
+        1 => extreme_length(dice),
+        _ => short_capture(dice),
+    };
+    for _ in 0..dice.pick(&[0, 1, 1, 1, 2, 3]) {
+        damage(dice, &mut bytes);
+    }
+    // Mostly with a fitting total, or refusal 1 would hide the rest.
+    if dice.percent(75) {
+        restate_total(&mut bytes);
+    }
+    bytes
+}
+
+/// A guided capture cut to its first few events.
+fn short_capture(dice: &mut Dice) -> Vec<u8> {
+    let mut bytes = guided_capture(dice);
+    let events = (bytes.len() - EVENTS_AT) / EVENT_BYTES;
+    let kept = events.min(dice.below(30) as usize);
+    bytes.truncate(EVENTS_AT + EVENT_BYTES * kept);
+    put(&mut bytes, 12, kept as u32);
+    restate_total(&mut bytes);
+    bytes
+}
+
+fn random_bytes(dice: &mut Dice) -> Vec<u8> {
+    (0..dice.below(200)).map(|_| dice.word() as u8).collect()
+}
+
+/// Around the longest capture, with as many events stated as its bytes hold.
+fn extreme_length(dice: &mut Dice) -> Vec<u8> {
+    let mut bytes = short_capture(dice);
+    let length = MOST_BYTES - 1 + dice.pick(&[0, 1, 1, 2, 9, 10_000]);
+    while bytes.len() < length {
+        let cycle = bytes.len() as u32;
+        bytes.extend(cycle.to_le_bytes());
+        bytes.extend(dice.below(1 << 20).to_le_bytes());
+    }
+    bytes.truncate(length);
+    put(&mut bytes, 12, ((length - EVENTS_AT) / EVENT_BYTES) as u32);
+    restate_total(&mut bytes);
+    bytes
+}
+
+fn damage(dice: &mut Dice, bytes: &mut Vec<u8>) {
+    match dice.below(12) {
+        0 => shorten(dice, bytes),
+        1 => lengthen(dice, bytes),
+        2 => change_header(dice, bytes),
+        3 => change_event_count(dice, bytes),
+        4..=5 => change_setting(dice, bytes),
+        6 => change_mode(dice, bytes),
+        7..=8 => change_cycle(dice, bytes),
+        9..=10 => set_spare_pin(dice, bytes),
+        _ => scribble(dice, bytes),
+    }
+}
+
+/// Puts a word where the bytes reach that far.
+fn put(bytes: &mut [u8], at: usize, value: u32) {
+    if let Some(place) = bytes.get_mut(at..at + 4) {
+        place.copy_from_slice(&value.to_le_bytes());
+    }
+}
+
+fn restate_total(bytes: &mut [u8]) {
+    let total = bytes.len() as u32;
+    put(bytes, 0, total);
+}
+
+fn shorten(dice: &mut Dice, bytes: &mut Vec<u8>) {
+    let few = bytes.len().saturating_sub(dice.between(1, 9) as usize);
+    let any = dice.below(bytes.len() as u32 + 1) as usize;
+    bytes.truncate(dice.pick(&[few, few, any]));
+}
+
+fn lengthen(dice: &mut Dice, bytes: &mut Vec<u8>) {
+    for _ in 0..dice.between(1, 16) {
+        bytes.push(dice.word() as u8);
+    }
+}
+
+fn change_header(dice: &mut Dice, bytes: &mut [u8]) {
+    let at = 4 * dice.below(6) as usize;
+    if bytes.len() < HEADER_BYTES {
+        return;
+    }
+    let held = word(bytes, at);
+    let any = dice.word();
+    let up = held.wrapping_add(1);
+    let down = held.wrapping_sub(1);
+    let value = dice.pick(&[up, down, held ^ 1 << 31, 0, 16, 88, any]);
+    put(bytes, at, value);
+}
+
+fn change_event_count(dice: &mut Dice, bytes: &mut [u8]) {
+    if bytes.len() < HEADER_BYTES {
+        return;
+    }
+    let held = word(bytes, 12);
+    // The first makes 8N wrap round to the true total in 32 bits.
+    let value = dice.pick(&[held ^ 1 << 29, 8_000, 8_001, held + 1, held.wrapping_sub(1)]);
+    put(bytes, 12, value);
+}
+
+fn change_setting(dice: &mut Dice, bytes: &mut [u8]) {
+    let place = dice.below(LIMITS.len() as u32) as usize;
+    let (least, most) = LIMITS[place];
+    let any = dice.word();
+    let value = dice.pick(&[
+        least.wrapping_sub(1),
+        least,
+        most,
+        most + 1,
+        0,
+        u32::MAX,
+        any,
+    ]);
+    put(bytes, HEADER_BYTES + 4 * place, value);
+}
+
+fn change_mode(dice: &mut Dice, bytes: &mut [u8]) {
+    let value = dice.below(140);
+    put(bytes, HEADER_BYTES + 4 * MODE_SETTING, value);
+}
+
+/// The byte offset of some event.
+fn some_event(dice: &mut Dice, bytes: &[u8]) -> Option<usize> {
+    let events = bytes.len().checked_sub(EVENTS_AT)? / EVENT_BYTES;
+    let event = if events == 0 {
+        return None;
+    } else {
+        dice.below(events as u32)
+    };
+    Some(EVENTS_AT + EVENT_BYTES * event as usize)
+}
+
+fn change_cycle(dice: &mut Dice, bytes: &mut [u8]) {
+    let Some(at) = some_event(dice, bytes) else {
+        return;
+    };
+    let before = if at == EVENTS_AT {
+        0
+    } else {
+        word(bytes, at - EVENT_BYTES)
+    };
+    let value = dice.pick(&[
+        before,
+        before.wrapping_sub(1),
+        before.wrapping_add(1),
+        0,
+        LAST_CYCLE,
+        LAST_CYCLE + 1,
+        1 << 31,
+        u32::MAX,
+    ]);
+    put(bytes, at, value);
+}
+
+fn set_spare_pin(dice: &mut Dice, bytes: &mut [u8]) {
+    let Some(at) = some_event(dice, bytes) else {
+        return;
+    };
+    let pins = word(bytes, at + 4) | 1 << dice.between(20, 31);
+    put(bytes, at + 4, pins);
+}
+
+fn scribble(dice: &mut Dice, bytes: &mut [u8]) {
+    for _ in 0..dice.between(1, 4) {
+        if !bytes.is_empty() {
+            let at = dice.below(bytes.len() as u32) as usize;
+            bytes[at] = dice.word() as u8;
+        }
+    }
+}

@@ -1,0 +1,116 @@
+//! Valid settings: mostly short times, so that rules meet often; some of real parts, some
+//! at the limits.
+
+use super::Dice;
+use crate::capture::{GAP_SETTING, LIMITS, MODE_SETTING, SETTINGS};
+
+const PARTS: &str = include_str!("../../../data/part-settings.csv");
+/// The column of the parts' table where the 14 settings start.
+const FIRST_COLUMN: usize = 3;
+const TIMES: std::ops::Range<usize> = 4..13;
+const T_RC: usize = 7;
+const T_WR: usize = 9;
+
+#[derive(Clone, Copy, Debug, PartialEq, Eq)]
+pub enum Kind {
+    Short,
+    /// Long bursts and hardly any waits: bursts of several banks overlap.
+    Tight,
+    RealPart,
+    /// Times up to 10,000 cycles: few events, or the trying of cycles takes too long.
+    Limits,
+}
+
+pub fn kind(dice: &mut Dice) -> Kind {
+    match dice.below(100) {
+        0..=74 => Kind::Short,
+        75..=96 => Kind::RealPart,
+        _ => Kind::Limits,
+    }
+}
+
+pub fn settings(dice: &mut Dice, kind: Kind) -> [u32; SETTINGS] {
+    match kind {
+        Kind::Short => short(dice),
+        Kind::Tight => tight(dice),
+        Kind::RealPart => real_part(dice),
+        Kind::Limits => limits(dice),
+    }
+}
+
+/// Any of the 16 valid mode words.
+pub fn mode(dice: &mut Dice) -> u32 {
+    let length_code = dice.between(1, 4);
+    let order = dice.below(2);
+    let latency = dice.between(2, 3);
+    latency << 4 | order << 3 | length_code
+}
+
+fn organisation(dice: &mut Dice) -> [u32; 4] {
+    let mode = mode(dice);
+    [
+        dice.between(1, 2),
+        dice.between(12, 14),
+        dice.between(8, 11),
+        mode,
+    ]
+}
+
+fn short(dice: &mut Dice) -> [u32; SETTINGS] {
+    let mut settings = [0; SETTINGS];
+    settings[..4].copy_from_slice(&organisation(dice));
+    let longest = dice.pick(&[1, 3, 6, 12]);
+    for time in &mut settings[TIMES] {
+        *time = dice.between(1, longest);
+    }
+    // tRC and tWR decide only where they outlast the other waits.
+    for place in [T_RC, T_WR] {
+        if dice.percent(50) {
+            settings[place] = dice.between(longest, 5 * longest);
+        }
+    }
+    settings[GAP_SETTING] = match dice.below(10) {
+        0 => dice.between(1, 60),
+        1 => dice.between(60, 200),
+        _ => dice.between(200, 3_000),
+    };
+    settings
+}
+
+fn tight(dice: &mut Dice) -> [u32; SETTINGS] {
+    let mut settings = [0; SETTINGS];
+    settings[..4].copy_from_slice(&organisation(dice));
+    if dice.percent(70) {
+        let length_code = dice.between(3, 4);
+        settings[MODE_SETTING] = settings[MODE_SETTING] & !7 | length_code;
+    }
+    for time in &mut settings[TIMES] {
+        *time = dice.pick(&[1, 1, 1, 2, 3]);
+    }
+    settings[GAP_SETTING] = dice.between(200, 1_000);
+    settings
+}
+
+fn real_part(dice: &mut Dice) -> [u32; SETTINGS] {
+    let lines: Vec<&str> = PARTS.lines().skip(1).collect();
+    let fields: Vec<&str> = dice.pick(&lines).split(',').collect();
+    let mut settings = [0; SETTINGS];
+    for (setting, field) in settings.iter_mut().zip(&fields[FIRST_COLUMN..]) {
+        *setting = field.parse().expect("a setting of a part is a decimal");
+    }
+    if dice.percent(70) {
+        settings[MODE_SETTING] = mode(dice);
+    }
+    settings
+}
+
+fn limits(dice: &mut Dice) -> [u32; SETTINGS] {
+    let mut settings = [0; SETTINGS];
+    settings[..4].copy_from_slice(&organisation(dice));
+    for place in TIMES.chain([GAP_SETTING]) {
+        let (least, most) = LIMITS[place];
+        let anywhere = dice.between(least, most);
+        settings[place] = dice.pick(&[least, least, least + 1, most - 1, most, anywhere]);
+    }
+    settings
+}

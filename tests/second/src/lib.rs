@@ -1,0 +1,20 @@
+//! A second implementation of document 01, written from its words alone and slow on
+//! purpose, to hold the verified one against. `fast` and the C next door answer the same
+//! questions at speed.
+
+pub mod capture;
+pub mod command;
+pub mod fast;
+pub mod foreign;
+pub mod generate;
+pub mod memory;
+pub mod packed;
+pub mod part;
+pub mod rules;
+pub mod schedule;
+pub mod verdict;
+
+pub use capture::Refusal;
+pub use memory::{plain, replay, Outcome};
+pub use schedule::schedule;
+pub use verdict::{cells, judge, Answer};

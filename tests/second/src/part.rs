@@ -1,0 +1,258 @@
+//! The part as document 01 tells it: banks, the mode word, and a record of every burst.
+
+use crate::capture::{Mode, Settings};
+use crate::command::{column_of, Command, Named, BANKS, MODE_REGISTER};
+
+#[derive(Clone, Copy, Debug, PartialEq, Eq)]
+pub enum Direction {
+    Read,
+    Write,
+}
+
+/// A READ or WRITE and what is left of it.
+#[derive(Clone, Copy, Debug, PartialEq, Eq)]
+pub struct Burst {
+    pub direction: Direction,
+    pub bank: usize,
+    pub row: u32,
+    pub column: u32,
+    /// k, the cycle it was given at.
+    pub given: u64,
+    /// The mode word when it was given: a later one does not touch it.
+    pub mode: Mode,
+    pub auto_precharge: bool,
+    /// n, the pairs kept so far.
+    pub kept: u64,
+}
+
+impl Burst {
+    /// k + h.
+    pub fn whole_end(&self) -> u64 {
+        self.given + self.mode.pairs()
+    }
+
+    /// The data end of a write, k + 1 + n.
+    pub fn data_end(&self) -> u64 {
+        self.given + 1 + self.kept
+    }
+
+    /// k + CL + n of a read.
+    pub fn bus_free(&self) -> u64 {
+        self.given + self.mode.latency() + self.kept
+    }
+
+    pub fn kept_beats(&self) -> u32 {
+        2 * self.kept as u32
+    }
+
+    /// The cell that beat j reads or stores.
+    pub fn cell(&self, settings: &Settings, beat: u32) -> u32 {
+        let length = self.mode.burst_length();
+        let block = self.column - self.column % length;
+        let place = if self.mode.is_interleaved() {
+            (self.column % length) ^ beat
+        } else {
+            (self.column + beat) % length
+        };
+        let bank_and_row = ((self.bank as u32) << settings.row_bits) + self.row;
+        (bank_and_row << settings.column_bits) + block + place
+    }
+
+    fn cut_at(&mut self, cycle: u64) {
+        if !self.auto_precharge && cycle < self.whole_end() {
+            self.kept = self.kept.min(cycle - self.given);
+        }
+    }
+}
+
+#[derive(Clone, Copy, Debug, Default, PartialEq, Eq)]
+pub struct Bank {
+    /// The open row; none while the bank is idle.
+    pub row: Option<u32>,
+    /// The last ACTIVE of this bank.
+    pub active: Option<u64>,
+    pub precharge: Option<u64>,
+}
+
+impl Bank {
+    pub fn is_open(&self) -> bool {
+        self.row.is_some()
+    }
+
+    fn close(&mut self, cycle: u64) {
+        self.row = None;
+        self.precharge = Some(cycle);
+    }
+}
+
+/// Which bursts an event looks at when it cuts, and rule 13 when it asks.
+#[derive(Clone, Copy, Debug, PartialEq, Eq)]
+pub enum LookBack {
+    /// Every burst given so far, as document 01 says it.
+    All,
+    /// Only those given so lately that they may still run. Long captures need this to be
+    /// judged in good time; a test holds it against `All`.
+    Running,
+}
+
+/// No burst, nor a write's data, lasts longer than this from the cycle it was given at:
+/// 1 + h for the longest burst.
+const LONGEST_RUN: u64 = 9;
+
+#[derive(Clone, Debug, PartialEq, Eq)]
+pub struct Part {
+    pub settings: Settings,
+    pub mode: Mode,
+    pub banks: [Bank; BANKS],
+    pub refresh: Option<u64>,
+    pub mode_set: Option<u64>,
+    /// In the order they were given.
+    pub bursts: Vec<Burst>,
+    look_back: LookBack,
+}
+
+impl Part {
+    pub fn new(settings: Settings, look_back: LookBack) -> Part {
+        Part {
+            settings,
+            mode: settings.mode,
+            banks: [Bank::default(); BANKS],
+            refresh: None,
+            mode_set: None,
+            bursts: Vec::new(),
+            look_back,
+        }
+    }
+
+    /// The bursts that may matter at a cycle.
+    pub fn bursts_at(&self, cycle: u64) -> &[Burst] {
+        &self.bursts[self.first_at(cycle)..]
+    }
+
+    fn first_at(&self, cycle: u64) -> usize {
+        match self.look_back {
+            LookBack::All => 0,
+            LookBack::Running => {
+                let over = |burst: &Burst| burst.given + LONGEST_RUN <= cycle;
+                self.bursts
+                    .iter()
+                    .rposition(over)
+                    .map_or(0, |last| last + 1)
+            }
+        }
+    }
+
+    pub fn last_burst(&self, direction: Direction) -> Option<&Burst> {
+        self.bursts
+            .iter()
+            .rev()
+            .find(|burst| burst.direction == direction)
+    }
+
+    /// The last write to a bank since the bank's ACTIVE.
+    pub fn last_write_of_row(&self, bank: usize) -> Option<&Burst> {
+        let active = self.banks[bank].active?;
+        self.bursts
+            .iter()
+            .rev()
+            .take_while(|burst| burst.given > active)
+            .find(|burst| burst.direction == Direction::Write && burst.bank == bank)
+    }
+
+    /// What an event does, once the rules have passed it.
+    pub fn apply(&mut self, cycle: u64, command: Command) {
+        self.cut_bursts(cycle, command);
+        match command {
+            Command::Deselect | Command::Nop | Command::BurstTerminate => {}
+            Command::Active { bank, row } => {
+                self.banks[bank].row = Some(row);
+                self.banks[bank].active = Some(cycle);
+            }
+            Command::Read {
+                bank,
+                address,
+                auto_precharge,
+            } => {
+                self.start_burst(cycle, Direction::Read, bank, address, auto_precharge);
+            }
+            Command::Write {
+                bank,
+                address,
+                auto_precharge,
+            } => {
+                self.start_burst(cycle, Direction::Write, bank, address, auto_precharge);
+            }
+            Command::Precharge { banks } => self.precharge(cycle, banks),
+            Command::AutoRefresh => self.refresh = Some(cycle),
+            Command::ModeRegisterSet { register, address } => {
+                self.mode_set = Some(cycle);
+                if register == MODE_REGISTER {
+                    self.mode = Mode(address);
+                }
+            }
+        }
+    }
+
+    fn cut_bursts(&mut self, cycle: u64, command: Command) {
+        let first = self.first_at(cycle);
+        for burst in &mut self.bursts[first..] {
+            if cuts(command, burst) {
+                burst.cut_at(cycle);
+            }
+        }
+    }
+
+    fn start_burst(
+        &mut self,
+        cycle: u64,
+        direction: Direction,
+        bank: usize,
+        address: u32,
+        auto_precharge: bool,
+    ) {
+        let row = self.banks[bank].row.expect("rule 3 wants the bank open");
+        self.bursts.push(Burst {
+            direction,
+            bank,
+            row,
+            column: column_of(address, self.settings.column_bits),
+            given: cycle,
+            mode: self.mode,
+            auto_precharge,
+            kept: self.mode.pairs(),
+        });
+        if auto_precharge {
+            let precharge = self.auto_precharge_cycle(cycle, direction, bank);
+            self.banks[bank].close(precharge);
+        }
+    }
+
+    fn auto_precharge_cycle(&self, given: u64, direction: Direction, bank: usize) -> u64 {
+        let active = self.banks[bank]
+            .active
+            .expect("an open bank has had an ACTIVE");
+        let burst_over = match direction {
+            Direction::Read => given + self.mode.pairs(),
+            Direction::Write => given + 1 + self.mode.pairs() + self.settings.t_wr,
+        };
+        burst_over.max(active + self.settings.t_ras)
+    }
+
+    fn precharge(&mut self, cycle: u64, named: Named) {
+        for (number, bank) in self.banks.iter_mut().enumerate() {
+            if named.names(number) && bank.is_open() {
+                bank.close(cycle);
+            }
+        }
+    }
+}
+
+/// Whether a command is one that cuts an earlier burst still running.
+fn cuts(command: Command, burst: &Burst) -> bool {
+    match (command, burst.direction) {
+        (Command::Read { .. } | Command::BurstTerminate, Direction::Read) => true,
+        (Command::Precharge { banks }, Direction::Read) => banks.names(burst.bank),
+        (Command::Write { .. }, Direction::Write) => true,
+        _ => false,
+    }
+}

@@ -1,0 +1,191 @@
+//! Implementations held against each other on generated inputs: the literal one, the one
+//! that looks only at running bursts, the fast one and the C one.
+
+use second::capture::{word, Refusal};
+use second::foreign::C;
+use second::generate::{input, Dice, Input, Tally};
+use second::schedule::schedule_literally;
+use second::verdict::{cells_literally, judge_literally};
+use second::{cells, fast, judge, packed, plain, replay, schedule, Answer};
+
+const SEED: u64 = 1;
+const INPUTS: usize = 20_000;
+/// Room for any answer, and some behind it.
+const CELL_ROOM: usize = 16 * 8_000 + 5;
+const BYTE_ROOM: usize = 64_080 + 5;
+const UNTOUCHED_WORD: u32 = 0xa5a5_a5a5;
+const UNTOUCHED_BYTE: u8 = 0xa5;
+
+fn inputs(count: usize) -> impl Iterator<Item = Input> {
+    let mut dice = Dice::new(SEED);
+    (0..count).map(move |_| input(&mut dice))
+}
+
+/// Buffer lengths around what an answer needs.
+fn lengths(needed: Option<usize>, room: usize) -> Vec<usize> {
+    match needed {
+        Some(needed) => vec![0, needed.saturating_sub(1), needed, needed + 3, room],
+        None => vec![0, room],
+    }
+}
+
+fn needed(answer: Result<u32, Refusal>) -> Option<usize> {
+    answer.ok().map(|count| count as usize)
+}
+
+type CellsOf<'a> = &'a dyn Fn(&[u8], &mut [u32]) -> u64;
+type ScheduleOf<'a> = &'a dyn Fn(&[u32], &[u32], &mut [u8]) -> u64;
+
+/// The answer and the buffer afterwards.
+fn tried_cells(cells: CellsOf, capture: &[u8], length: usize) -> (u64, Vec<u32>) {
+    let mut out = vec![UNTOUCHED_WORD; length];
+    (cells(capture, &mut out), out)
+}
+
+fn tried_schedule(
+    schedule: ScheduleOf,
+    settings: &[u32],
+    requests: &[u32],
+    length: usize,
+) -> (u64, Vec<u8>) {
+    let mut out = vec![UNTOUCHED_BYTE; length];
+    (schedule(settings, requests, &mut out), out)
+}
+
+#[test]
+fn everything_comes_up() {
+    let mut tally = Tally::default();
+    let mut full_and_clean = 0;
+    for input in inputs(INPUTS) {
+        match input {
+            Input::Capture(capture) => {
+                let answer = judge(&capture);
+                tally.count_answer(answer);
+                full_and_clean += u32::from(answer == Answer::Clean { judged: 8_000 });
+                tally.count_cells(cells(&capture, &mut [0; 7]));
+            }
+            Input::Requests { settings, requests } => {
+                tally.count_schedule(schedule(&settings, &requests, &mut [0; 2_000]));
+            }
+        }
+    }
+    println!("{tally}");
+    assert_eq!(tally.missing(), [""; 0]);
+    assert!(
+        tally.rules.iter().all(|&count| count >= 30),
+        "a rule came up too seldom"
+    );
+    assert!(full_and_clean >= 3, "too few full captures are clean");
+}
+
+#[test]
+fn looking_at_running_bursts_only_changes_nothing() {
+    for input in inputs(INPUTS / 4) {
+        match input {
+            Input::Capture(capture) if capture.len() < 10_000 => {
+                assert_eq!(judge(&capture), judge_literally(&capture));
+                let expected = tried_cells(
+                    &|capture, out| packed::of_count(cells_literally(capture, out)),
+                    &capture,
+                    CELL_ROOM,
+                );
+                let found = tried_cells(
+                    &|capture, out| packed::of_count(cells(capture, out)),
+                    &capture,
+                    CELL_ROOM,
+                );
+                assert!(found == expected);
+            }
+            Input::Requests { settings, requests } if requests.len() <= 50 => {
+                let mut expected = vec![UNTOUCHED_BYTE; BYTE_ROOM];
+                let mut found = expected.clone();
+                assert_eq!(
+                    schedule(&settings, &requests, &mut found),
+                    schedule_literally(&settings, &requests, &mut expected)
+                );
+                assert!(found == expected);
+            }
+            _ => {}
+        }
+    }
+}
+
+#[test]
+fn the_fast_judges_agree() {
+    for input in inputs(INPUTS) {
+        if let Input::Capture(capture) = input {
+            let expected = judge(&capture);
+            assert_eq!(fast::judge(&capture), expected);
+            assert_eq!(C.judge(&capture), packed::of_answer(expected));
+        }
+    }
+}
+
+#[test]
+fn the_fast_burst_lists_agree() {
+    let literal: CellsOf = &|capture, out| packed::of_count(cells(capture, out));
+    let fast: CellsOf = &|capture, out| packed::of_count(fast::cells(capture, out));
+    let c: CellsOf = &|capture, out| C.cells(capture, out);
+    for input in inputs(INPUTS / 2) {
+        if let Input::Capture(capture) = input {
+            let needed = needed(cells(&capture, &mut vec![0; CELL_ROOM]));
+            for length in lengths(needed, CELL_ROOM) {
+                let expected = tried_cells(literal, &capture, length);
+                assert!(tried_cells(fast, &capture, length) == expected);
+                assert!(tried_cells(c, &capture, length) == expected);
+            }
+        }
+    }
+}
+
+#[test]
+fn the_fast_schedules_agree() {
+    let literal: ScheduleOf = &|s, r, out| packed::of_count(schedule(s, r, out));
+    let fast: ScheduleOf = &|s, r, out| packed::of_count(fast::schedule(s, r, out));
+    let c: ScheduleOf = &|s, r, out| C.schedule(s, r, out);
+    for input in inputs(INPUTS) {
+        if let Input::Requests { settings, requests } = input {
+            let needed = needed(schedule(&settings, &requests, &mut vec![0; BYTE_ROOM]));
+            for length in lengths(needed, BYTE_ROOM) {
+                let expected = tried_schedule(literal, &settings, &requests, length);
+                assert!(tried_schedule(fast, &settings, &requests, length) == expected);
+                assert!(tried_schedule(c, &settings, &requests, length) == expected);
+            }
+        }
+    }
+}
+
+/// Words and masks as the writes ask for them, the same for the same seed.
+fn supply(seed: u64) -> impl FnMut() -> (u32, u32) {
+    let mut dice = Dice::new(seed);
+    move || (dice.word(), dice.below(16))
+}
+
+#[test]
+fn schedules_are_clean_and_replay_as_plain_memory() {
+    let contents = |cell: u32| cell.wrapping_mul(0x9e37_79b1);
+    let mut tried = 0;
+    for (seed, input) in (0..).zip(inputs(INPUTS)) {
+        let Input::Requests { settings, requests } = input else {
+            continue;
+        };
+        let mut out = vec![0; BYTE_ROOM];
+        let Ok(total) = schedule(&settings, &requests, &mut out) else {
+            continue;
+        };
+        let capture = &out[..total as usize];
+        assert_eq!(
+            judge(capture),
+            Answer::Clean {
+                judged: word(capture, 12)
+            }
+        );
+        let replayed = replay(capture, &contents, &mut supply(seed));
+        assert_eq!(
+            replayed,
+            plain(&settings, &requests, &contents, &mut supply(seed))
+        );
+        tried += 1;
+    }
+    assert!(tried > 1_000);
+}
