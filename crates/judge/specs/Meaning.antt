@@ -1,13 +1,17 @@
 -- What this crate's verdicts mean in document 01, and what is known of events that are walked.
 use Prim.Native.Nat.{ℕ, _+_, _*_, _≤_, _<_}
+use mathlib.Core.Bool.{true}
 use mathlib.Core.List.{List, map}
 use mathlib.Core.Path.{_≡_}
 use lib.ListN.{length}
 use Rattle.reading.specs.Search.{count}
 use Rattle.reading.specs.Settings as reading
-use Rattle.reading.specs.Capture.{Event, eventAt, eventFits}
+use Rattle.reading.specs.Capture as capture
+use Rattle.reading.specs.Capture.{eventAt, eventFits}
 use Rattle.reading.specs.Verdict as is
 use Rattle.reading.specs.Answers.{Answer, refused, answered, Report}
+use Rattle.capture.specs.declared.Opened.{Opened}
+use Rattle.capture.specs.declared.Opened.the-variants.{Accepted, Length, Header, Setting, Event}
 use Rattle.part.specs.declared.Answer as step
 use Rattle.part.specs.declared.Answer.the-variants.{Kept, Broke}
 use Rattle.judge.specs.declared.Verdict.{Verdict}
@@ -24,8 +28,16 @@ abbrev pub found : step.Answer → ℕ → ℕ → Verdict
 found Kept i cycle = Clean i
 found (Broke rule) i cycle = Broken rule i cycle i
 
+-- a capture that is not accepted, as it was opened
+abbrev pub refusing : Opened → Verdict
+refusing Accepted = Clean 0
+refusing Length = Refused 1 0
+refusing Header = Refused 2 0
+refusing (Setting i) = Refused 3 i
+refusing (Event i) = Refused 4 i
+
 -- the first n events of the part from byte 80 on
-abbrev pub eventsIn : List ℕ → ℕ → List Event
+abbrev pub eventsIn : List ℕ → ℕ → List capture.Event
 eventsIn part n = map (eventAt part) (count 0 n)
 
 -- n events fit, and so do the settings

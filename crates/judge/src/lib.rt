@@ -2,12 +2,10 @@
 use capture::Opened;
 use part::Answer;
 ghost use mathlib.Core.Path.{_≡_};
-ghost use Prim.Native.Nat.{_+_, _*_, _≤_};
-ghost use lib.ListN.{length};
 ghost use Rattle.reading.specs.Settings.{settingsOf};
 ghost use Rattle.reading.specs.Capture.{eventCount};
 ghost use Rattle.reading.specs.Answers.{judgeAnswer};
-ghost use Rattle.judge.specs.Meaning.{means, Fit, verdictOn, found};
+ghost use Rattle.judge.specs.Meaning.{means, Fit, verdictOn, found, refusing};
 
 // What is said of a capture.
 pub enum Verdict {
@@ -16,7 +14,10 @@ pub enum Verdict {
     Broken { rule: u32, event: u32, cycle: u32, judged: u32 },
 }
 
-fn refused(o: Opened) -> Verdict {
+// The refusal of a capture that is not accepted.
+fn refusal(o: Opened) -> Verdict
+    ensures { λ r. ⌜ r ≡ refusing o ⌝ }
+{
     match o {
         Opened::Accepted => Verdict::Clean { judged: 0 },
         Opened::Length => Verdict::Refused { number: 1, place: 0 },
@@ -55,4 +56,17 @@ fn walk(s: &[u32; 14], part: &[u8], n: u32) -> Verdict
         i += 1;
     }
     Verdict::Clean { judged: n }
+}
+
+// What document 01 says of these bytes as a capture.
+pub fn judge(capture: &[u8]) -> Verdict
+    ensures { λ r. ⌜ means (eventCount (now (capture .entry))) r ≡ judgeAnswer (now (capture .entry)) ⌝ }
+{
+    let opened = capture::open(capture);
+    let Opened::Accepted = opened else {
+        return refusal(opened);
+    };
+    let settings = capture::setting_words(capture);
+    let n = capture::event_count(capture);
+    walk(&settings, &capture[80..], n)
 }

@@ -1,0 +1,4 @@
+-- Laws of the judge's walk.
+pub mod Events
+pub mod Walking
+pub mod Judging

@@ -1,0 +1,165 @@
+-- The walk over the events: what holds before event i, and what the verdict is where it stops.
+use Prim.Native.Nat.{ℕ, zero, suc, _+_, _-_, _*_, _≤_, _<_, zero-le}
+use mathlib.Core.Bool.{Bool, true, false, cond, not, _&&_}
+use mathlib.Core.List.{List, [], _∷_}
+use mathlib.Core.Option.{Option, none, some}
+use mathlib.Core.Path.{_≡_, refl, sym, ap, _∙_}
+use native.Mathlib.Numerals.{add-one}
+use native.Mathlib.Omega.{arith}
+use lib.Dec.{eqb}
+use lib.ListN.{length, drop}
+use borrow.Author.Tests.{eqb-true, eqb-false, ne-eqb, not-true}
+use Rattle.reading.specs.Search.{every, find}
+use Rattle.reading.specs.Settings.{Settings, settingsOf}
+use Rattle.reading.specs.Capture.{Event, eventAt, eventFits}
+use Rattle.reading.specs.Commands.{commandOf}
+use Rattle.reading.specs.Part.{Part, start, step}
+use Rattle.reading.specs.Rules.{keeps, rules, brokenBy}
+use Rattle.reading.specs.Verdict.{Verdict, clean, broken, onward, judgeFrom, verdictOf}
+use Rattle.capture.proofs.Accepted.{cycle-rises}
+use Rattle.part.specs.declared.Answer as turn-of
+use Rattle.part.specs.declared.Answer.the-variants.{Kept, Broke}
+use Rattle.part.specs.Deadlines.{startOf}
+use Rattle.part.specs.Steps.{answerOf, stepBreaks, stepAfter, modeAfter}
+use Rattle.bridge.specs.Summary.{laid, summary}
+use Rattle.bridge.proofs.Tests.{num}
+use Rattle.bridge.proofs.Next.{Sound}
+use Rattle.bridge.proofs.Turn.{Turned, turned-event, start-laid, start-sound}
+use Rattle.judge.specs.declared.Verdict.the-variants.{Clean, Broken}
+use Rattle.judge.specs.Meaning.{Fit, eventsIn, found, said, verdictOn}
+use Rattle.judge.proofs.Events.{next-of, none-of}
+
+-- no rule has the number 0
+found-positive : (f : ℕ → Bool) (xs : List ℕ) → every (λ r. not (eqb r 0)) xs ≡ true → (r : ℕ) → find f xs ≡ some r → r ≡ 0 → ⊥
+found-positive f [] p r e z = let k : _≡_ {A = ℕ} 0 1 = cc in omega arith
+found-positive f (x ∷ xs) p r e z = go (f x) e (found-positive f xs (both-right (not (eqb x 0)) _ p) r)
+  where
+    both-right : (a b : Bool) → (a && b) ≡ true → b ≡ true
+    both-right true b q = q
+    both-right false b q = let k : _≡_ {A = ℕ} 0 1 = cc in absurd (omega arith)
+
+    both-left : (a b : Bool) → (a && b) ≡ true → a ≡ true
+    both-left true b q = refl
+    both-left false b q = q
+
+    go : (v : Bool) → cond v (some x) (find f xs) ≡ some r → (find f xs ≡ some r → r ≡ 0 → ⊥) → ⊥
+    go true q ih = let k : x ≡ r = cc in eqb-false x 0 (not-true (eqb x 0) (both-left (not (eqb x 0)) _ p)) (k ∙ z)
+    go false q ih = ih q z
+
+positive : (s : Settings) (p : Part) (e : Event) (r : ℕ) → brokenBy s p e ≡ some r → r ≡ 0 → ⊥
+positive s p e r q z = found-positive (λ k. not (keeps k s p (e .cycle) (commandOf (e .pins)))) rules refl r q z
+
+zero-of : (r : ℕ) → answerOf r ≡ Kept → r ≡ 0
+zero-of r e = go (eqb r 0) refl e
+  where
+    go : (v : Bool) → eqb r 0 ≡ v → cond v Kept (Broke r) ≡ Kept → r ≡ 0
+    go true f k = eqb-true r 0 f
+    go false f k = let z : _≡_ {A = ℕ} 0 1 = cc in absurd (omega arith)
+
+not-zero : (r q : ℕ) → answerOf r ≡ Broke q → r ≡ 0 → ⊥
+not-zero r q e z = let k : _≡_ {A = turn-of.Answer} Kept (Broke q) = sym (ap answerOf z) ∙ e in let u : _≡_ {A = ℕ} 0 1 = cc in omega arith
+
+module _ (settings part : List ℕ) (n : ℕ) where
+  abbrev s : Settings
+  s = settingsOf settings
+
+  abbrev es : List Event
+  es = eventsIn part n
+
+  -- before event i the deadlines are the summary of a part, from which the rest decides the verdict
+  pub record Before (d : List ℕ) (mode i : ℕ) : Type 0 where
+    pub reached : Part
+    pub from : ℕ
+    pub sound : Sound from reached
+    pub deadlines : d ≡ laid (summary s reached)
+    pub moded : mode ≡ reached .mode
+    pub in-range : i ≤ n
+    pub above : i < n → from ≤ eventAt part i .cycle
+    pub decides : verdictOf s es ≡ judgeFrom s reached i (drop i es)
+
+  pub begins : Before (startOf s) (s .mode) 0
+  unfolding verdictOf
+  begins =
+      record {
+        reached = start s;
+        from = 0;
+        sound = start-sound s;
+        deadlines = start-laid s;
+        moded = refl;
+        in-range = zero-le;
+        above = λ l. zero-le;
+        decides = refl;
+      }
+
+  module _ (fit : Fit settings part n) (d : List ℕ) (mode i : ℕ) (b : Before d mode i) (l : i < n) where
+    abbrev t : ℕ
+    t = eventAt part i .cycle
+
+    abbrev w : ℕ
+    w = eventAt part i .pins
+
+    turn : Turned s (fit .rows) (b .reached) (b .from) t (b .above l) (b .sound) w (commandOf w)
+    turn = turned-event s (fit .rows) (b .reached) (b .from) (eventAt part i .cycle) (b .above l) (b .sound) (eventAt part i .pins)
+
+    -- the step's answer is the reading's
+    breaks-is : stepBreaks s d t w ≡ num (brokenBy s (b .reached) (eventAt part i))
+    breaks-is = ap (λ (k : List ℕ). stepBreaks s k t w) (b .deadlines) ∙ turn .breaks
+
+    unfolds : verdictOf s es ≡ onward (brokenBy s (b .reached) (eventAt part i)) i t (judgeFrom s (step s (b .reached) (eventAt part i)) (suc i) (drop (suc i) es))
+    unfolding judgeFrom
+    unfolds = b .decides ∙ ap (judgeFrom s (b .reached) i) (next-of (eventAt part) n i l)
+
+    -- the next event's place
+    goes-on : stepBreaks s d t w ≡ 0 → Before (stepAfter s d mode t w) (modeAfter mode w) (i + 1)
+    goes-on z = go (brokenBy s (b .reached) (eventAt part i)) refl
+      where
+        onwards : brokenBy s (b .reached) (eventAt part i) ≡ none → Before (stepAfter s d mode t w) (modeAfter mode w) (i + 1)
+        onwards e =
+            let k = turn .onward e in
+            record {
+              reached = step s (b .reached) (eventAt part i);
+              from = suc t;
+              sound = k .sound;
+              deadlines = rw (b .deadlines, b .moded) (k .leaves);
+              moded = rw (b .moded) (k .sets);
+              in-range = omega arith;
+              above = λ m. let q : i + 1 - 1 ≡ i = omega arith in rw q at (cycle-rises part (i + 1) (fit .events (i + 1) m) (omega arith));
+              decides =
+                  unfolds ∙ ap (λ (o : Option ℕ). onward o i t (judgeFrom s (step s (b .reached) (eventAt part i)) (suc i) (drop (suc i) es))) e
+                  ∙ ap (λ (k : ℕ). judgeFrom s (step s (b .reached) (eventAt part i)) k (drop k es)) (sym (add-one i));
+            }
+
+        go : (o : Option ℕ) → brokenBy s (b .reached) (eventAt part i) ≡ o → Before (stepAfter s d mode t w) (modeAfter mode w) (i + 1)
+        go none e = onwards e
+        go (some r) e = absurd (positive s (b .reached) (eventAt part i) r e (sym (ap num e) ∙ sym breaks-is ∙ z))
+
+    -- the verdict at a broken rule
+    stops : (stepBreaks s d t w ≡ 0 → ⊥) → verdictOn s part n ≡ found (answerOf (stepBreaks s d t w)) i t
+    unfolding verdictOn
+    stops z = go (brokenBy s (b .reached) (eventAt part i)) refl
+      where
+        go : (o : Option ℕ) → brokenBy s (b .reached) (eventAt part i) ≡ o → said n (verdictOf s es) ≡ found (answerOf (stepBreaks s d t w)) i t
+        go none e = absurd (z (breaks-is ∙ ap num e))
+        go (some r) e =
+            ap (said n) (unfolds ∙ ap (λ (o : Option ℕ). onward o i t (judgeFrom s (step s (b .reached) (eventAt part i)) (suc i) (drop (suc i) es))) e)
+            ∙ sym (ap (λ (k : ℕ). found (answerOf k) i t) (breaks-is ∙ ap num e)
+            ∙ ap (λ (v : Bool). found (cond v Kept (Broke r)) i t) (ne-eqb r 0 (positive s (b .reached) (eventAt part i) r e)))
+
+  -- no event is left
+  pub ends : (d : List ℕ) (mode i : ℕ) → Before d mode i → n ≤ i → verdictOn s part n ≡ Clean n
+  unfolding verdictOn judgeFrom
+  ends d mode i b l = ap (said n) (b .decides ∙ ap (judgeFrom s (b .reached) i) (none-of (eventAt part) n i l))
+
+  -- the same, by what a step answered and left
+  module _ (fit : Fit settings part n) {d : List ℕ} {mode i cycle pins : ℕ} {a : turn-of.Answer} (b : Before d mode i) (l : i < n)
+      (e : cycle ≡ eventAt part i .cycle) (f : pins ≡ eventAt part i .pins) (said-so : a ≡ answerOf (stepBreaks s d cycle pins)) where
+    breaks : a ≡ answerOf (stepBreaks s d (eventAt part i .cycle) (eventAt part i .pins))
+    breaks = said-so ∙ rw (e, f)
+
+    pub kept-on : {d′ : List ℕ} {mode′ : ℕ} → d′ ≡ stepAfter s d mode cycle pins → mode′ ≡ modeAfter mode pins → a ≡ Kept → Before d′ mode′ (i + 1)
+    kept-on g h k = rw (g, h, e, f) (goes-on fit d mode i b l (zero-of (stepBreaks s d (eventAt part i .cycle) (eventAt part i .pins)) (sym breaks ∙ k)))
+
+    pub broke-at : {r : ℕ} → a ≡ Broke r → verdictOn s part n ≡ found a i cycle
+    broke-at {r} k =
+        stops fit d mode i b l (λ z. not-zero (stepBreaks s d (eventAt part i .cycle) (eventAt part i .pins)) r (sym breaks ∙ k) z)
+        ∙ sym (ap (λ (x : turn-of.Answer). found x i cycle) breaks ∙ ap (found (answerOf (stepBreaks s d (eventAt part i .cycle) (eventAt part i .pins))) i) e)
