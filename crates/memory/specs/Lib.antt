@@ -1,0 +1,2 @@
+-- What it is to serve requests: of bursts, and of events.
+pub mod Serving
