@@ -9,7 +9,7 @@ use lib.ListN.{set}
 use Rattle.reading.specs.Search.{lesser, later}
 use Rattle.reading.specs.Mode.{h, CL}
 use Rattle.reading.specs.Settings.{Settings}
-use Rattle.part.specs.Deadlines.{OPEN, AGAIN, OTHER, REST, COLUMN, CLOSE, WRITTEN, LOCKED, at, activeAfter, autoAfter, cutWrite, newWrite, restAfter}
+use Rattle.deadlines.specs.Deadlines.{OPEN, AGAIN, OTHER, REST, COLUMN, CLOSE, WRITTEN, LOCKED, at, activeAfter, autoAfter, cutWrite, newWrite, restAfter}
 use Rattle.bridge.specs.Summary.{Held, laid}
 
 -- what stands at the places of bank b

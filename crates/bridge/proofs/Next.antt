@@ -17,7 +17,7 @@ use Rattle.reading.specs.Bursts.{Burst, reads, dataEnd, cuts, cutBy}
 use Rattle.reading.specs.Part.{Part, Bank, openOn, idleFrom, autoPrecharge, bankAfter, burstGiven, partAfter}
 use Rattle.reading.specs.Rules.{bankWrite}
 use Rattle.reading.proofs.Cuts.{All, nil, cons, all-map, auto-uncut}
-use Rattle.part.specs.Deadlines.{activeAfter, readAfter, writeAfter, cutRead, closeAfter, closeAllAfter, restAll, restAfter, refreshAfter, modeSetAfter, cutWrite, newWrite, autoAfter}
+use Rattle.deadlines.specs.Deadlines.{activeAfter, readAfter, writeAfter, cutRead, closeAfter, closeAllAfter, restAll, restAfter, refreshAfter, modeSetAfter, cutWrite, newWrite, autoAfter}
 use Rattle.bridge.specs.Summary.{Held, laid, summary, from, ended, cleared, heldBy, readerOf, writerOf}
 use Rattle.bridge.proofs.Laid.{put, activated, banked, readGiven, writeGiven, timed, active-laid, auto-laid, cut-laid, new-laid, rest-laid}
 use Rattle.bridge.proofs.Bursts.{blind, uncut, find-same, find-map, find-like, held-cut, Given, Ended, Late, nothing, read, write, Over, held-over, find-all, find-holds, lesser-low, lesser-high, lesser-add, lesser-right, lesser-left, later-low, later-high, later-add}

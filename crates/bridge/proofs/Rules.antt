@@ -16,7 +16,7 @@ use Rattle.reading.specs.Bursts.{Burst, reads, dataEnd}
 use Rattle.reading.specs.Part.{Part}
 use Rattle.reading.specs.Rules.{everyBank, after, bankWrite, lowestBroken}
 use Rattle.reading.proofs.Cuts.{All}
-use Rattle.part.specs.Deadlines.{orElse, dueBreaks, activeBreaks, readBreaks, writeBreaks, terminateBreaks, closeBreaks, closeAllBreaks, refreshBreaks, modeBreaks}
+use Rattle.deadlines.specs.Deadlines.{orElse, dueBreaks, activeBreaks, readBreaks, writeBreaks, terminateBreaks, closeBreaks, closeAllBreaks, refreshBreaks, modeBreaks}
 use Rattle.bridge.specs.Summary.{Held, heldBy, laid, summary}
 use Rattle.bridge.proofs.Laid.{stands}
 use Rattle.bridge.proofs.Tests.{num, num-cond, after-is, ended-is, cleared-is, leb-later, held-is, open-is, shut-is, closing-is}

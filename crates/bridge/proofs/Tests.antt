@@ -11,7 +11,7 @@ use Rattle.reading.specs.Search.{implies, ever, every, later, lesser}
 use Rattle.reading.specs.Mode.{h, CL}
 use Rattle.reading.specs.Bursts.{Burst, dataEnd}
 use Rattle.reading.specs.Rules.{after, autoOver}
-use Rattle.part.specs.Deadlines.{orElse}
+use Rattle.deadlines.specs.Deadlines.{orElse}
 use Rattle.bridge.specs.Summary.{from, ended, cleared, heldBy}
 
 -- the rule's number, 0 for none

@@ -16,7 +16,7 @@ use Rattle.reading.specs.Part.{Part, start, partAfter}
 use Rattle.reading.specs.Rules.{after, keeps, rules, lowestBroken}
 use Rattle.reading.proofs.Cuts.{nil}
 use Rattle.reading.proofs.Found.{find-none}
-use Rattle.part.specs.Deadlines.{startOf}
+use Rattle.deadlines.specs.Deadlines.{startOf}
 use Rattle.part.specs.Steps.{codeOf, bankOf, addressOf, tenOf, stepBreaks, stepAfter, modeAfter}
 use Rattle.part.proofs.Codes as codes
 use Rattle.bridge.specs.Summary.{Held, laid, summary, from, heldBy, cleared}

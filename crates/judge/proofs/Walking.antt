@@ -19,7 +19,7 @@ use Rattle.reading.specs.Verdict.{Verdict, clean, broken, onward, judgeFrom, ve
 use Rattle.capture.proofs.Accepted.{cycle-rises}
 use Rattle.part.specs.declared.Answer as turn-of
 use Rattle.part.specs.declared.Answer.the-variants.{Kept, Broke}
-use Rattle.part.specs.Deadlines.{startOf}
+use Rattle.deadlines.specs.Deadlines.{startOf}
 use Rattle.part.specs.Steps.{answerOf, stepBreaks, stepAfter, modeAfter}
 use Rattle.bridge.specs.Summary.{laid, summary}
 use Rattle.bridge.proofs.Tests.{num}

@@ -42,7 +42,7 @@ fn walk(s: &[u32; 14], part: &[u8], n: u32) -> Verdict
     requires { ⌜ Fit (now s) (now part) n ⌝ }
     ensures { λ r. ⌜ r ≡ verdictOn (settingsOf (now (s .entry))) (now (part .entry)) n ⌝ }
 {
-    let mut deadlines = part::start(s);
+    let mut deadlines = effects::start(s);
     let mut mode = s[3];
     let mut i: u32 = 0;
     'events: while i < n {

@@ -1,4 +1,2 @@
--- Laws that the proofs of several functions share.
-pub mod Banks
-pub mod Shifts
+-- Laws that callers of the step use.
 pub mod Codes

@@ -1,4 +1,2 @@
--- What the judge keeps of a part, and what a step answers and leaves.
-pub mod Deadlines
-
+-- What a step answers and leaves.
 pub mod Steps

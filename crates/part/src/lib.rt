@@ -1,16 +1,11 @@
 // What the judge keeps of a part: forty deadlines in a lent array, no rows and no bursts; and the step from event to event.
-mod effects;
-mod places;
-mod rules;
-mod sums;
 ghost use mathlib.Core.Path.{_≡_};
 ghost use mathlib.Core.Bool.{true, cond};
 ghost use Prim.Native.Nat.{_<_};
 ghost use lib.Dec.{eqb};
 ghost use Rattle.reading.specs.Settings.{settingsOf};
-ghost use Rattle.part.specs.Deadlines as is;
+ghost use Rattle.deadlines.specs.Deadlines as is;
 ghost use Rattle.part.specs.Steps.{answerOf, bankOf, stepBreaks, stepAfter, modeAfter};
-ghost use Rattle.part.specs.Deadlines.{startOf};
 
 // What an event answers: all rules are kept, or the lowest that is broken.
 pub enum Answer {
@@ -101,7 +96,7 @@ fn mode_set(s: &[u32; 14], d: &mut [u64; 40], mode: &mut u32, t: u32, b: usize, 
 {
     let rule = rules::mode_breaks(&*d, t, b, word);
     effects::mode_set_after(s, d, t);
-    *mode = sums::pick_mode(b == 0, word, *mode);
+    *mode = deadlines::sums::pick_mode(b == 0, word, *mode);
     said(rule)
 }
 
@@ -143,19 +138,4 @@ pub fn step(s: &[u32; 14], d: &mut [u64; 40], mode: &mut u32, t: u32, w: u32) ->
         0 => mode_set(s, d, mode, t, b, a),
         _ => quiet(&*d, t),
     }
-}
-
-// The deadlines of a part at the start: nothing has happened, and the first AUTO REFRESH is due after GAP.
-pub fn start(s: &[u32; 14]) -> [u64; 40]
-    ensures { λ r. ⌜ r ≡ startOf (settingsOf (now (s .entry))) ⌝ }
-{
-    let mut d = [0u64; 40];
-    d[places::DUE] = sums::after(s[places::GAP], 0);
-    d[places::READER] = 4;
-    let locked = sums::after(s[places::T_RAS], s[places::T_RP]);
-    d[places::LOCKED] = locked;
-    d[places::LOCKED + 1] = locked;
-    d[places::LOCKED + 2] = locked;
-    d[places::LOCKED + 3] = locked;
-    d
 }

@@ -86,6 +86,8 @@ readings =
     -- an AUTO REFRESH is held to rule 14 itself
     ∷ case (at 1000 REFRESH ∷ at 2000 NOP ∷ []) (touches 2 [])
     ∷ case (at 1001 REFRESH ∷ []) (breaks 0 14 0 1001)
+    -- a burst goes to its own bank's row, whatever rows the others are open on: (1 x 8192 + 3) x 1024 + 5
+    ∷ case (at 0 (ACTIVE + 7) ∷ at 2 (ACTIVE + bank 1 + 3) ∷ at 5 (READ + bank 1 + 5) ∷ []) (touches 3 (8391685 ∷ 8391686 ∷ 8391687 ∷ 8391684 ∷ []))
     -- a row or a pin beyond the part
     ∷ case (at 0 (ACTIVE + 0x1fff) ∷ []) (touches 1 [])
     ∷ case (at 0 (ACTIVE + 0x2000) ∷ []) (breaks 0 1 0 0)

@@ -1,0 +1,2 @@
+-- The deadlines that are kept of a part.
+pub mod Deadlines

@@ -1,0 +1,170 @@
+// What a command makes of the deadlines.
+use deadlines::places::AGAIN;
+use deadlines::places::BUSY;
+use deadlines::places::CLOSE;
+use deadlines::places::COLUMN;
+use deadlines::places::DATA;
+use deadlines::places::DUE;
+use deadlines::places::END;
+use deadlines::places::GAP;
+use deadlines::places::LOCKED;
+use deadlines::places::OPEN;
+use deadlines::places::OTHER;
+use deadlines::places::READER;
+use deadlines::places::READS;
+use deadlines::places::REST;
+use deadlines::places::T_MRD;
+use deadlines::places::T_RAS;
+use deadlines::places::T_RC;
+use deadlines::places::T_RCD;
+use deadlines::places::T_RFC;
+use deadlines::places::T_RP;
+use deadlines::places::T_RRD;
+use deadlines::places::T_WR;
+use deadlines::places::T_WTR;
+use deadlines::places::WRITER;
+use deadlines::places::WRITES;
+use deadlines::places::WRITTEN;
+use deadlines::sums::after;
+use deadlines::sums::after2;
+use deadlines::sums::data_after;
+use deadlines::sums::data_after2;
+use deadlines::sums::half;
+use deadlines::sums::latency;
+use deadlines::sums::latest;
+use deadlines::sums::least;
+use deadlines::sums::pick;
+ghost use mathlib.Core.Path.{_≡_};
+ghost use mathlib.Core.Bool.{cond};
+ghost use Prim.Native.Nat.{_+_, _<_};
+ghost use Rattle.reading.specs.Mode.{h};
+ghost use Rattle.reading.specs.Settings.{settingsOf};
+ghost use Rattle.deadlines.specs.Deadlines as is;
+
+pub fn active_after(s: &[u32; 14], d: &mut [u64; 40], t: u32, b: usize)
+    requires { ⌜ b < 4 ⌝ }
+    ensures { λ r. ⌜ now (d .exit) ≡ is.activeAfter (settingsOf (now (s .entry))) (now (d .entry)) t b ⌝ }
+{
+    d[OPEN + b] = 1;
+    d[AGAIN + b] = after(t, s[T_RC]);
+    d[OTHER + b] = after(t, s[T_RRD]);
+    d[COLUMN + b] = after(t, s[T_RCD]);
+    d[CLOSE + b] = after(t, s[T_RAS]);
+    d[WRITTEN + b] = 0;
+    d[LOCKED + b] = after2(t, s[T_RAS], s[T_RP]);
+}
+
+// The bank of a burst stays open, or is precharged from a cycle on that lets the next ACTIVE through at `from`.
+fn auto_after(d: &mut [u64; 40], b: usize, auto: bool, from: u64)
+    requires { ⌜ b < 4 ⌝ }
+    ensures { λ r. ⌜ now (d .exit) ≡ is.autoAfter (now (d .entry)) b auto from ⌝ }
+{
+    d[OPEN + b] = pick(auto, 0, 1);
+    d[REST + b] = pick(auto, latest(d[LOCKED + b], from), d[REST + b]);
+}
+
+pub fn read_after(s: &[u32; 14], d: &mut [u64; 40], mode: u32, t: u32, b: usize, auto: bool)
+    requires { ⌜ b < 4 ⌝ }
+    ensures { λ r. ⌜ now (d .exit) ≡ is.readAfter (settingsOf (now (s .entry))) (now (d .entry)) mode t b auto ⌝ }
+{
+    let h = half(mode);
+    d[DATA] = after2(t, latency(mode), h);
+    d[READER] = pick(auto, 4, b as u64);
+    d[READS] = pick(auto, after(t, h), d[READS]);
+    auto_after(d, b, auto, after2(t, h, s[T_RP]));
+}
+
+fn cut_write(s: &[u32; 14], d: &mut [u64; 40], t: u32)
+    ensures { λ r. ⌜ now (d .exit) ≡ is.cutWrite (settingsOf (now (s .entry))) (now (d .entry)) t ⌝ }
+{
+    let o = (d[WRITER] % 4) as usize;
+    d[WRITTEN + o] = least(d[WRITTEN + o], data_after(t, 0, s[T_WR]));
+}
+
+fn new_write(s: &[u32; 14], d: &mut [u64; 40], t: u32, pairs: u32, b: usize)
+    requires { ⌜ b < 4 ⌝ }
+    ensures { λ r. ⌜ now (d .exit) ≡ is.newWrite (settingsOf (now (s .entry))) (now (d .entry)) t pairs b ⌝ }
+{
+    d[WRITTEN + b] = data_after(t, pairs, s[T_WR]);
+    d[END] = data_after(t, pairs, s[T_WTR]);
+    d[WRITER] = b as u64;
+}
+
+pub fn write_after(s: &[u32; 14], d: &mut [u64; 40], mode: u32, t: u32, b: usize, auto: bool)
+    requires { ⌜ b < 4 ⌝ }
+    ensures { λ r. ⌜ now (d .exit) ≡ is.writeAfter (settingsOf (now (s .entry))) (now (d .entry)) mode t b auto ⌝ }
+{
+    let h = half(mode);
+    cut_write(s, d, t);
+    new_write(s, d, t, h, b);
+    d[WRITES] = pick(auto, after(t, h), d[WRITES]);
+    auto_after(d, b, auto, data_after2(t, h, s[T_WR], s[T_RP]));
+}
+
+pub fn cut_read(d: &mut [u64; 40], mode: u32, t: u32, cut: bool)
+    ensures { λ r. ⌜ now (d .exit) ≡ is.cutRead (now (d .entry)) mode t cut ⌝ }
+{
+    d[DATA] = pick(cut, least(d[DATA], after(t, latency(mode))), d[DATA]);
+}
+
+fn rest_after(d: &mut [u64; 40], b: usize, from: u64)
+    requires { ⌜ b < 4 ⌝ }
+    ensures { λ r. ⌜ now (d .exit) ≡ is.restAfter (now (d .entry)) b from ⌝ }
+{
+    d[REST + b] = pick(d[OPEN + b] == 0, d[REST + b], from);
+    d[OPEN + b] = 0;
+}
+
+pub fn close_after(s: &[u32; 14], d: &mut [u64; 40], mode: u32, t: u32, b: usize)
+    requires { ⌜ b < 4 ⌝ }
+    ensures { λ r. ⌜ now (d .exit) ≡ is.closeAfter (settingsOf (now (s .entry))) (now (d .entry)) mode t b ⌝ }
+{
+    rest_after(d, b, after(t, s[T_RP]));
+    let cut = d[READER] == b as u64;
+    cut_read(d, mode, t, cut);
+}
+
+fn rest_all(d: &mut [u64; 40], from: u64)
+    ensures { λ r. ⌜ now (d .exit) ≡ is.restAll (now (d .entry)) from ⌝ }
+{
+    rest_after(d, 0, from);
+    rest_after(d, 1, from);
+    rest_after(d, 2, from);
+    rest_after(d, 3, from);
+}
+
+pub fn close_all_after(s: &[u32; 14], d: &mut [u64; 40], mode: u32, t: u32)
+    ensures { λ r. ⌜ now (d .exit) ≡ is.closeAllAfter (settingsOf (now (s .entry))) (now (d .entry)) mode t ⌝ }
+{
+    rest_all(d, after(t, s[T_RP]));
+    let cut = d[READER] < 4;
+    cut_read(d, mode, t, cut);
+}
+
+pub fn refresh_after(s: &[u32; 14], d: &mut [u64; 40], t: u32)
+    ensures { λ r. ⌜ now (d .exit) ≡ is.refreshAfter (settingsOf (now (s .entry))) (now (d .entry)) t ⌝ }
+{
+    d[BUSY] = after(t, s[T_RFC]);
+    d[DUE] = after(t, s[GAP]);
+}
+
+pub fn mode_set_after(s: &[u32; 14], d: &mut [u64; 40], t: u32)
+    ensures { λ r. ⌜ now (d .exit) ≡ is.modeSetAfter (settingsOf (now (s .entry))) (now (d .entry)) t ⌝ }
+{
+    d[BUSY] = after(t, s[T_MRD]);
+}
+
+// The deadlines of a part at the start: nothing has happened, and the first AUTO REFRESH is due after GAP.
+pub fn start(s: &[u32; 14]) -> [u64; 40]
+    ensures { λ r. ⌜ r ≡ is.startOf (settingsOf (now (s .entry))) ⌝ }
+{
+    let mut d = [0u64; 40];
+    d[DUE] = after(s[GAP], 0);
+    d[READER] = 4;
+    let locked = after(s[T_RAS], s[T_RP]);
+    d[LOCKED] = locked;
+    d[LOCKED + 1] = locked;
+    d[LOCKED + 2] = locked;
+    d[LOCKED + 3] = locked;
+    d
+}

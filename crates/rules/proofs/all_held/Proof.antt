@@ -1,0 +1,88 @@
+use Prim.Native.Nat.{_+_, _-_}
+use mathlib.Core.Bool.{_||_, or-true}
+use mathlib.Core.Path.{sym, _∙_}
+use native.Mathlib.Omega.{arith}
+use lib.Dec.{leb, eqb}
+use borrow.Author.Needs.{needs}
+use borrow.Author.Tests.{eq-eqb, ne-eqb}
+use Rattle.deadlines.specs.Deadlines.{OPEN, CLOSE, at}
+use Rattle.rules.proofs.Banks.{Passed, none, more, passed, left}
+use Rattle.rules.proofs.all_held.Statement.{statement}
+use Rattle.rules.proofs.all_held.Tie as tie
+
+abbrev Inv-banks : tie.InvT-banks
+Inv-banks d t rest i₀ i = Passed (λ j. leb (at d (CLOSE + j)) t || eqb (at d (OPEN + j)) 0) i
+
+abbrev μ-banks : tie.MeasureT-banks
+μ-banks d t rest i₀ i = 4 - i
+
+banks-holds : tie.Need-banks-holds Inv-banks μ-banks
+banks-holds c = none
+
+add-past : tie.Need-add-past Inv-banks μ-banks
+add-past c = omega arith
+
+mul-past : tie.Need-mul-past Inv-banks μ-banks
+mul-past c = omega arith
+
+element-copy-out-past : tie.Need-element-copy-out-past Inv-banks μ-banks
+element-copy-out-past c = omega arith
+
+past-requires : tie.Need-past-requires Inv-banks μ-banks
+past-requires c κs = search needs
+
+add-i : tie.Need-add-i Inv-banks μ-banks
+add-i c = omega arith
+
+banks-less : tie.Need-banks-less Inv-banks μ-banks
+banks-less c = omega arith
+
+banks-again : tie.Need-banks-again Inv-banks μ-banks
+banks-again c = more (c .before .before .before .before .banks .inv) (rw (sym (c .before .past .ensures) ∙ c .if1 .taken))
+
+add-if2 : tie.Need-add-if2 Inv-banks μ-banks
+add-if2 c = omega arith
+
+mul-if2 : tie.Need-mul-if2 Inv-banks μ-banks
+mul-if2 c = omega arith
+
+element-copy-out-if2 : tie.Need-element-copy-out-if2 Inv-banks μ-banks
+element-copy-out-if2 c = omega arith
+
+add-i-2 : tie.Need-add-i-2 Inv-banks μ-banks
+add-i-2 c = omega arith
+
+banks-less-2 : tie.Need-banks-less-2 Inv-banks μ-banks
+banks-less-2 c = omega arith
+
+banks-again-2 : tie.Need-banks-again-2 Inv-banks μ-banks
+banks-again-2 c = more (c .before .before .before .before .before .before .banks .inv) (rw (eq-eqb _ _ (c .if2 .taken), or-true _))
+
+returns : tie.Need-returns Inv-banks μ-banks
+returns c = left (c .before .before .before .before .before .before .banks .inv) (omega arith) (rw (sym (c .before .before .before .past .ensures) ∙ c .before .before .if1 .left, ne-eqb _ _ (c .if2 .left))) _ _
+
+returns-2 : tie.Need-returns-2 Inv-banks μ-banks
+returns-2 c = passed (c .before .banks .inv) (omega arith) _ _
+
+pub all-held-spec : {M : Type 1} → statement M
+all-held-spec =
+    tie.close
+    (tie.spec
+    Inv-banks
+    μ-banks
+    banks-holds
+    add-past
+    mul-past
+    element-copy-out-past
+    past-requires
+    add-i
+    banks-less
+    banks-again
+    add-if2
+    mul-if2
+    element-copy-out-if2
+    add-i-2
+    banks-less-2
+    banks-again-2
+    returns
+    returns-2)

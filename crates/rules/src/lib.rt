@@ -1,0 +1,211 @@
+// Which rule a command breaks: a comparison for each timed rule, a search for each rule that looks at several banks.
+use deadlines::places::AGAIN;
+use deadlines::places::BUSY;
+use deadlines::places::CLOSE;
+use deadlines::places::COLUMN;
+use deadlines::places::DATA;
+use deadlines::places::DUE;
+use deadlines::places::END;
+use deadlines::places::OPEN;
+use deadlines::places::OTHER;
+use deadlines::places::READS;
+use deadlines::places::REST;
+use deadlines::places::ROW_BITS;
+use deadlines::places::T_WTR;
+use deadlines::places::WRITES;
+use deadlines::places::WRITTEN;
+use deadlines::sums::after;
+use deadlines::sums::past;
+use deadlines::sums::rows;
+ghost use mathlib.Core.Path.{_≡_};
+ghost use mathlib.Core.Bool.{_||_, cond};
+ghost use Prim.Native.Nat.{_+_, _<_};
+ghost use lib.Dec.{leb, eqb};
+ghost use Rattle.reading.specs.Mode.{modeWord};
+ghost use Rattle.reading.specs.Settings.{settingsOf};
+ghost use Rattle.reading.specs.Rules.{everyBank};
+ghost use Rattle.deadlines.specs.Deadlines as is;
+ghost use Rattle.deadlines.specs.Deadlines.{at, orElse};
+
+fn or_else(kept: bool, rule: u32, rest: u32) -> u32
+    ensures { λ r. ⌜ r ≡ orElse kept rule rest ⌝ }
+{
+    if kept { rest } else { rule }
+}
+
+pub fn due_breaks(d: &[u64; 40], t: u32) -> u32
+    ensures { λ r. ⌜ r ≡ is.dueBreaks (now (d .entry)) t ⌝ }
+{
+    or_else((t as u64) <= d[DUE], 14, 0)
+}
+
+// The searches: the banks in order, left at the first that breaks the rule, with its number.
+
+fn all_idle(d: &[u64; 40], rest: u32) -> u32
+    ensures { λ r. ⌜ r ≡ orElse (everyBank (λ i. eqb (at (now (d .entry)) (is.OPEN + i)) 0)) 3 rest ⌝ }
+{
+    'banks: for i in 0..4 {
+        if d[OPEN + i] == 0 {
+            continue 'banks;
+        }
+        return 3;
+    }
+    rest
+}
+
+fn all_rested(d: &[u64; 40], t: u32, rest: u32) -> u32
+    ensures { λ r. ⌜ r ≡ orElse (everyBank (λ i. leb (at (now (d .entry)) (is.REST + i)) t)) 5 rest ⌝ }
+{
+    'banks: for i in 0..4 {
+        if past(d[REST + i], t) {
+            continue 'banks;
+        }
+        return 5;
+    }
+    rest
+}
+
+fn others_apart(d: &[u64; 40], t: u32, b: usize, rest: u32) -> u32
+    ensures { λ r. ⌜ r ≡ orElse (everyBank (λ i. leb (at (now (d .entry)) (is.OTHER + i)) t || eqb i b)) 7 rest ⌝ }
+{
+    'banks: for i in 0..4 {
+        if past(d[OTHER + i], t) {
+            continue 'banks;
+        }
+        if i == b {
+            continue 'banks;
+        }
+        return 7;
+    }
+    rest
+}
+
+fn all_held(d: &[u64; 40], t: u32, rest: u32) -> u32
+    ensures { λ r. ⌜ r ≡ orElse (everyBank (λ i. leb (at (now (d .entry)) (is.CLOSE + i)) t || eqb (at (now (d .entry)) (is.OPEN + i)) 0)) 9 rest ⌝ }
+{
+    'banks: for i in 0..4 {
+        if past(d[CLOSE + i], t) {
+            continue 'banks;
+        }
+        if d[OPEN + i] == 0 {
+            continue 'banks;
+        }
+        return 9;
+    }
+    rest
+}
+
+fn all_written(d: &[u64; 40], t: u32, rest: u32) -> u32
+    ensures { λ r. ⌜ r ≡ orElse (everyBank (λ i. leb (at (now (d .entry)) (is.WRITTEN + i)) t || eqb (at (now (d .entry)) (is.OPEN + i)) 0)) 10 rest ⌝ }
+{
+    'banks: for i in 0..4 {
+        if past(d[WRITTEN + i], t) {
+            continue 'banks;
+        }
+        if d[OPEN + i] == 0 {
+            continue 'banks;
+        }
+        return 10;
+    }
+    rest
+}
+
+// The lowest rule that a command breaks, 0 for none. Each reads the deadlines of the banks and the part that it concerns.
+
+pub fn active_breaks(s: &[u32; 14], d: &[u64; 40], t: u32, b: usize, row: u32) -> u32
+    requires { ⌜ b < 4 ⌝ }
+    ensures { λ r. ⌜ r ≡ is.activeBreaks (settingsOf (now (s .entry))) (now (d .entry)) t b row ⌝ }
+{
+    let due = due_breaks(d, t);
+    let apart = others_apart(d, t, b, due);
+    let again = or_else(past(d[AGAIN + b], t), 6, apart);
+    let rested = or_else(past(d[REST + b], t), 5, again);
+    let busy = or_else(past(d[BUSY], t), 4, rested);
+    let idle = or_else(d[OPEN + b] == 0, 3, busy);
+    or_else(row < rows(s[ROW_BITS]), 1, idle)
+}
+
+pub fn read_breaks(d: &[u64; 40], t: u32, b: usize) -> u32
+    requires { ⌜ b < 4 ⌝ }
+    ensures { λ r. ⌜ r ≡ is.readBreaks (now (d .entry)) t b ⌝ }
+{
+    let due = due_breaks(d, t);
+    let held = or_else(past(d[READS], t), 13, due);
+    let end = or_else(past(d[END], t), 11, held);
+    let column = or_else(past(d[COLUMN + b], t), 8, end);
+    let busy = or_else(past(d[BUSY], t), 4, column);
+    or_else(d[OPEN + b] != 0, 3, busy)
+}
+
+pub fn write_breaks(d: &[u64; 40], t: u32, b: usize) -> u32
+    requires { ⌜ b < 4 ⌝ }
+    ensures { λ r. ⌜ r ≡ is.writeBreaks (now (d .entry)) t b ⌝ }
+{
+    let due = due_breaks(d, t);
+    let held = or_else(past(d[WRITES], t), 13, due);
+    let data = or_else(past(d[DATA], t), 12, held);
+    let column = or_else(past(d[COLUMN + b], t), 8, data);
+    let busy = or_else(past(d[BUSY], t), 4, column);
+    or_else(d[OPEN + b] != 0, 3, busy)
+}
+
+pub fn terminate_breaks(s: &[u32; 14], d: &[u64; 40], t: u32) -> u32
+    ensures { λ r. ⌜ r ≡ is.terminateBreaks (settingsOf (now (s .entry))) (now (d .entry)) t ⌝ }
+{
+    let due = due_breaks(d, t);
+    let writing = or_else(d[END] <= after(t, s[T_WTR]), 13, due);
+    let held = or_else(past(d[READS], t), 13, writing);
+    or_else(past(d[BUSY], t), 4, held)
+}
+
+fn may_close(d: &[u64; 40], t: u32, from: u64, b: usize, rule: u32, rest: u32) -> u32
+    requires { ⌜ b < 4 ⌝ }
+    ensures { λ r. ⌜ r ≡ orElse (leb from t || eqb (at (now (d .entry)) (is.OPEN + b)) 0) rule rest ⌝ }
+{
+    let idle = or_else(d[OPEN + b] == 0, rule, rest);
+    or_else(past(from, t), idle, rest)
+}
+
+pub fn close_breaks(d: &[u64; 40], t: u32, b: usize) -> u32
+    requires { ⌜ b < 4 ⌝ }
+    ensures { λ r. ⌜ r ≡ is.closeBreaks (now (d .entry)) t b ⌝ }
+{
+    let due = due_breaks(d, t);
+    let written = may_close(d, t, d[WRITTEN + b], b, 10, due);
+    let held = may_close(d, t, d[CLOSE + b], b, 9, written);
+    or_else(past(d[BUSY], t), 4, held)
+}
+
+pub fn close_all_breaks(d: &[u64; 40], t: u32) -> u32
+    ensures { λ r. ⌜ r ≡ is.closeAllBreaks (now (d .entry)) t ⌝ }
+{
+    let due = due_breaks(d, t);
+    let written = all_written(d, t, due);
+    let held = all_held(d, t, written);
+    or_else(past(d[BUSY], t), 4, held)
+}
+
+pub fn refresh_breaks(d: &[u64; 40], t: u32) -> u32
+    ensures { λ r. ⌜ r ≡ is.refreshBreaks (now (d .entry)) t ⌝ }
+{
+    let due = due_breaks(d, t);
+    let data = or_else(past(d[DATA], t), 12, due);
+    let rested = all_rested(d, t, data);
+    let busy = or_else(past(d[BUSY], t), 4, rested);
+    all_idle(d, busy)
+}
+
+fn register_fits(b: usize, word: u32) -> bool
+    ensures { λ r. ⌜ r ≡ cond (eqb b 0) (modeWord word) (eqb b 2) ⌝ }
+{
+    if b == 0 {
+        return settings::mode_word(word);
+    }
+    b == 2
+}
+
+pub fn mode_breaks(d: &[u64; 40], t: u32, b: usize, word: u32) -> u32
+    ensures { λ r. ⌜ r ≡ is.modeBreaks (now (d .entry)) t b word ⌝ }
+{
+    or_else(register_fits(b, word), 2, refresh_breaks(d, t))
+}
