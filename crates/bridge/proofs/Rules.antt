@@ -91,9 +91,14 @@ module _ (s : Settings) (p : Part) (t : ℕ) where
   unfolding closeBreaks
   close-agrees b a l =
       simp num-cond
-      (rw (one-is (λ i. p .banks i .opened) (λ i. after (s .tRAS) (p .banks i .active) t) b l,
-      one-is (λ i. p .banks i .opened) (λ i. ever (find (bankWrite p i) (p .bursts)) (λ x. leb (dataEnd x + s .tWR) t)) b l,
-      stands (summary s p) b l .opened, stands (summary s p) b l .close, stands (summary s p) b l .written, open-is (p .banks b .opened))
+      (rw (
+        one-is (λ i. p .banks i .opened) (λ i. after (s .tRAS) (p .banks i .active) t) b l,
+        one-is (λ i. p .banks i .opened) (λ i. ever (find (bankWrite p i) (p .bursts)) (λ x. leb (dataEnd x + s .tWR) t)) b l,
+        stands (summary s p) b l .opened,
+        stands (summary s p) b l .close,
+        stands (summary s p) b l .written,
+        open-is (p .banks b .opened),
+      )
       (simp (leb-later, after-is, ended-is)))
 
   pub close-all-agrees : (b a : ℕ) → says PRECHARGE b a true ≡ closeAllBreaks (laid (summary s p)) t

@@ -9,9 +9,19 @@ ghost use Rattle.judge.specs.Meaning.{means, Fit, verdictOn, found, refu
 
 // What is said of a capture.
 pub enum Verdict {
-    Refused { number: u32, place: u32 },
-    Clean { judged: u32 },
-    Broken { rule: u32, event: u32, cycle: u32, judged: u32 },
+    Refused {
+        number: u32,
+        place: u32,
+    },
+    Clean {
+        judged: u32,
+    },
+    Broken {
+        rule: u32,
+        event: u32,
+        cycle: u32,
+        judged: u32,
+    },
 }
 
 // The refusal of a capture that is not accepted.
@@ -20,10 +30,22 @@ fn refusal(o: Opened) -> Verdict
 {
     match o {
         Opened::Accepted => Verdict::Clean { judged: 0 },
-        Opened::Length => Verdict::Refused { number: 1, place: 0 },
-        Opened::Header => Verdict::Refused { number: 2, place: 0 },
-        Opened::Setting(i) => Verdict::Refused { number: 3, place: i },
-        Opened::Event(i) => Verdict::Refused { number: 4, place: i },
+        Opened::Length => Verdict::Refused {
+            number: 1,
+            place: 0,
+        },
+        Opened::Header => Verdict::Refused {
+            number: 2,
+            place: 0,
+        },
+        Opened::Setting(i) => Verdict::Refused {
+            number: 3,
+            place: i,
+        },
+        Opened::Event(i) => Verdict::Refused {
+            number: 4,
+            place: i,
+        },
     }
 }
 
@@ -33,7 +55,12 @@ fn broken(a: Answer, i: u32, cycle: u32) -> Verdict
 {
     match a {
         Answer::Kept => Verdict::Clean { judged: i },
-        Answer::Broke(rule) => Verdict::Broken { rule, event: i, cycle, judged: i },
+        Answer::Broke(rule) => Verdict::Broken {
+            rule,
+            event: i,
+            cycle,
+            judged: i,
+        },
     }
 }
 

@@ -1,8 +1,8 @@
 // The report: a capture on standard input, what document 01 says of it on standard output.
 use judge::Verdict;
+use libc::STDERR_FILENO;
 use libc::STDIN_FILENO;
 use libc::STDOUT_FILENO;
-use libc::STDERR_FILENO;
 
 // One byte more than the longest capture, so that a longer input is seen to be too long and nothing is judged in part.
 const ROOM: usize = 64_081;
@@ -27,7 +27,12 @@ fn print_verdict(events: u32, v: Verdict) {
             print_counts(events, judged);
             io::write_all(STDOUT_FILENO, b"\nclean");
         }
-        Verdict::Broken { rule, event, cycle, judged } => {
+        Verdict::Broken {
+            rule,
+            event,
+            cycle,
+            judged,
+        } => {
             print_counts(events, judged);
             print_number(b"\nbroken rule ", rule);
             print_number(b" event ", event);
@@ -62,7 +67,10 @@ fn main() {
     let n = io::read_full(STDIN_FILENO, &mut buffer);
     if n < ROOM {
         if !at_end() {
-            io::write_all(STDERR_FILENO, b"report: standard input could not be read to its end; nothing was judged\n");
+            io::write_all(
+                STDERR_FILENO,
+                b"report: standard input could not be read to its end; nothing was judged\n",
+            );
             return;
         }
     }

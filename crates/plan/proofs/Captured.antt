@@ -1,0 +1,245 @@
+-- A schedule written as a whole capture is accepted, holds the settings and the events, and is judged clean.
+use Prim.Native.Nat.{ℕ, zero, suc, _+_, _-_, _*_, _^_, _≤_, _<_}
+use mathlib.Core.Bool.{Bool, true, false, not, _&&_}
+use mathlib.Core.List.{List, [], _∷_, _++_, map, append-nil}
+use mathlib.Core.Option.{none}
+use mathlib.Core.Path.{_≡_, refl, sym, ap, _∙_}
+use native.Mathlib.Nat.{add-zero, zero-add, add-suc, suc-add}
+use native.Mathlib.Omega.{arith}
+use lib.Dec.{leb, eqb·suc-zero}
+use lib.ListN.{length, getD, length-append, List·getD-append}
+use lib.Seq.{getD-append-add}
+use borrow.Author.Tests.{leb-true, le-leb, lt-ltb, le-ltb, eq-eqb, not-false}
+use Rattle.reading.specs.Search.{every, find, count}
+use Rattle.reading.specs.Words.{wordAt, bytesOf}
+use Rattle.reading.specs.Settings.{Limits, limits, settingsOf, settingFits, badSetting}
+use Rattle.reading.specs.Capture.{Event, headerWord, eventCount, settingWords, eventPart, eventAt, eventsOf, badLength, goodHeader, lastCycle, eventFits, badEvent}
+use Rattle.reading.specs.Verdict.{clean, verdictOf}
+use Rattle.reading.specs.Schedule.{badRequest, freeFrom, planned, scheduleOf, eventWords, captureOf}
+use Rattle.reading.specs.Answers.{Answer, Report, answered, accepted, verdictIn, judgeAnswer}
+use Rattle.reading.proofs.Meaning.{eventOf}
+use Rattle.words.proofs.Words.{bytesOf-length, word-drop, word-of-bytes}
+use Rattle.words.proofs.Search.{none-below}
+use Rattle.settings.proofs.Fitting.{rowAt, at-most}
+use Rattle.plan.proofs.Ranged.{ranged}
+use Rattle.plan.proofs.Reached.{Rises}
+use Rattle.plan.proofs.Ready.{Planned, few-requests, schedule-planned}
+
+-- ---- lists by their places
+
+-- a list that f counts out
+counted : {A : Type 0} (f : ℕ → A) (x : A) (k n : ℕ) (xs : List A) → length xs ≡ n → ((i : ℕ) → i < n → f (k + i) ≡ getD xs i x) → map f (count k n) ≡ xs
+counted f x k zero [] l e = refl
+counted f x k zero (y ∷ xs) l e = absurd (omega arith)
+counted f x k (suc n) [] l e = absurd (omega arith)
+counted f x k (suc n) (y ∷ xs) l e =
+    rw (sym (ap f (add-zero k)) ∙ e 0 (omega arith), counted f x (suc k) n xs (omega arith) (λ i j. ap f (suc-add k i ∙ sym (add-suc k i)) ∙ e (suc i) (omega arith)))
+
+nowhere : (f : ℕ → Bool) (k n : ℕ) → ((i : ℕ) → i < n → f (k + i) ≡ false) → find f (count k n) ≡ none
+nowhere f k zero e = refl
+nowhere f k (suc n) e =
+    rw (sym (ap f (add-zero k)) ∙ e 0 (omega arith)) (nowhere f (suc k) n (λ i j. ap f (suc-add k i ∙ sym (add-suc k i)) ∙ e (suc i) (omega arith)))
+
+every-at : {A : Type 0} (f : A → Bool) (x : A) → f x ≡ true → (xs : List A) → every f xs ≡ true → (i : ℕ) → f (getD xs i x) ≡ true
+every-at f x d [] h i = d
+every-at f x d (y ∷ xs) h i = go (f y) refl h i (every-at f x d xs)
+  where
+    go : (v : Bool) → f y ≡ v → (v && every f xs) ≡ true → (i : ℕ) → (every f xs ≡ true → (j : ℕ) → f (getD xs j x) ≡ true) → f (getD (y ∷ xs) i x) ≡ true
+    go true e k zero ih = e
+    go true e k (suc j) ih = ih k j
+    go false e k j ih = let z : _≡_ {A = ℕ} 0 1 = cc in absurd (omega arith)
+
+-- ---- events that rise
+
+above : (from : ℕ) (es : List Event) → Rises from es → from ≤ freeFrom from es
+unfolding freeFrom
+above from [] r = omega arith
+above from (e ∷ es) r = omega (arith, r .0, above (suc (e .cycle)) es (r .2))
+
+record Within (from free : ℕ) (e : Event) : Type 0 where
+  low : from ≤ e .cycle
+  high : e .cycle < free
+  pins : e .pins < 2 ^ 20
+
+within : (from : ℕ) (es : List Event) → Rises from es → (i : ℕ) → i < length es → Within from (freeFrom from es) (eventOf es i)
+unfolding freeFrom
+within from [] r i l = absurd (omega arith)
+within from (e ∷ es) r zero l = record { low = r .0; high = above (suc (e .cycle)) es (r .2); pins = r .1 }
+within from (e ∷ es) r (suc i) l =
+    let w = within (suc (e .cycle)) es (r .2) i (omega arith) in
+    record { low = omega (arith, r .0, w .low); high = w .high; pins = w .pins }
+
+rising : (from : ℕ) (es : List Event) → Rises from es → (i : ℕ) → suc i < length es → eventOf es i .cycle < eventOf es (suc i) .cycle
+rising from [] r i l = absurd (omega arith)
+rising from (e ∷ es) r zero l = within (suc (e .cycle)) es (r .2) 0 (omega arith) .low
+rising from (e ∷ es) r (suc i) l = rising (suc (e .cycle)) es (r .2) i (omega arith)
+
+-- the words of the events
+words-length : (es : List Event) → length (eventWords es) ≡ 2 * length es
+unfolding eventWords
+words-length [] = refl
+words-length (e ∷ es) = omega (arith, words-length es)
+
+cycle-word : (es : List Event) (i : ℕ) → getD (eventWords es) (2 * i) 0 ≡ eventOf es i .cycle
+unfolding eventWords
+cycle-word [] i = refl
+cycle-word (e ∷ es) zero = refl
+cycle-word (e ∷ es) (suc i) = let k : 2 * suc i ≡ suc (suc (2 * i)) = omega arith in rw k (cycle-word es i)
+
+pins-word : (es : List Event) (i : ℕ) → getD (eventWords es) (2 * i + 1) 0 ≡ eventOf es i .pins
+unfolding eventWords
+pins-word [] i = refl
+pins-word (e ∷ es) zero = refl
+pins-word (e ∷ es) (suc i) = let k : 2 * suc i + 1 ≡ suc (suc (2 * i + 1)) = omega arith in rw k (pins-word es i)
+
+-- ---- the capture
+
+settings-fit : (ws : List ℕ) → badSetting ws ≡ none → (i : ℕ) → i < 14 → settingFits i (getD ws i 0) ≡ true
+unfolding badSetting
+settings-fit ws good i l = not-false (settingFits i (getD ws i 0)) (none-below (λ j. not (settingFits j (getD ws j 0))) 14 good i l)
+
+-- clean, all events judged
+abbrev pub allClean : List Event → Report
+allClean es = record { events = length es; judged = length es; verdict = clean }
+
+abbrev header : List Event → List ℕ
+header es = (80 + 8 * length es) ∷ 14 ∷ 24 ∷ length es ∷ 80 ∷ 0 ∷ []
+
+module _ (ws : List ℕ) (es : List Event) (fourteen : length ws ≡ 14) where
+  abbrev all : List ℕ
+  all = header es ++ ws ++ eventWords es
+
+  all-length : length all ≡ 20 + 2 * length es
+  all-length = omega (arith, length-append (header es ++ ws) (eventWords es), length-append (header es) ws, words-length es)
+
+  pub size : length (captureOf ws es) ≡ 80 + 8 * length es
+  unfolding captureOf
+  size = omega (arith, bytesOf-length all, all-length)
+
+  word : (i : ℕ) → i < length all → getD all i 0 < 2 ^ 32 → wordAt (captureOf ws es) (4 * i) ≡ getD all i 0
+  unfolding captureOf
+  word i l k = ap (λ (x : List ℕ). wordAt x (4 * i)) (sym (append-nil (bytesOf all))) ∙ word-of-bytes all [] i l k
+
+  head : (i : ℕ) → i < 6 → getD all i 0 < 2 ^ 32 → headerWord (captureOf ws es) i ≡ getD all i 0
+  head i l k = word i (omega (arith, all-length)) k
+
+module _ (ws : List ℕ) (es : List Event) (fourteen : length ws ≡ 14) (good : badSetting ws ≡ none) (few : length es ≤ 8000) (rises : Rises 0 es)
+    (early : freeFrom 0 es ≤ lastCycle) where
+  abbrev C : List ℕ
+  C = captureOf ws es
+
+  abbrev W : List ℕ
+  W = all ws es fourteen
+
+  pub counts : eventCount C ≡ length es
+  counts = head ws es fourteen 3 (omega arith) (omega arith)
+
+  -- settings
+  small : (i : ℕ) → i < 14 → getD ws i 0 < 2 ^ 32
+  small i l =
+      omega (arith, at-most i (getD ws i 0) (settings-fit ws good i l), leb-true (rowAt i .most) 1000000 (every-at (λ (r : Limits). leb (r .most) 1000000) _ refl limits refl i))
+
+  setting-word : (i : ℕ) → i < 14 → wordAt C (24 + 4 * i) ≡ getD ws i 0
+  setting-word i l =
+      let k : 24 + 4 * i ≡ 4 * (6 + i) = omega arith in
+      let e : getD W (6 + i) 0 ≡ getD ws i 0 = getD-append-add (header es) (ws ++ eventWords es) i 0 ∙ List·getD-append ws (eventWords es) 0 i (omega arith) in
+      ap (wordAt C) k ∙ word ws es fourteen (6 + i) (omega (arith, all-length ws es fourteen)) (rw e (small i l)) ∙ e
+
+  pub settings-back : settingWords C ≡ ws
+  unfolding settingWords
+  settings-back = counted (λ i. wordAt C (24 + 4 * i)) 0 0 14 ws fourteen (λ i l. rw (zero-add i) (setting-word i l))
+
+  -- events
+  event-word : (j v : ℕ) → getD (eventWords es) j 0 ≡ v → j < 2 * length es → v < 2 ^ 32 → wordAt (eventPart C) (4 * j) ≡ v
+  event-word j v e l k =
+      let m : 80 + 4 * j ≡ 4 * (20 + j) = omega arith in
+      let n : 20 ≡ length (header es ++ ws) = omega (arith, length-append (header es) ws) in
+      let f : getD W (20 + j) 0 ≡ v = ap (λ (x : ℕ). getD W (x + j) 0) n ∙ getD-append-add (header es ++ ws) (eventWords es) j 0 ∙ e in
+      word-drop 80 C (4 * j) ∙ ap (wordAt C) m ∙ word ws es fourteen (20 + j) (omega (arith, all-length ws es fourteen)) (rw f k) ∙ f
+
+  cycle-back : (i : ℕ) → i < length es → eventAt (eventPart C) i .cycle ≡ eventOf es i .cycle
+  cycle-back i l =
+      let m : 8 * i ≡ 4 * (2 * i) = omega arith in
+      ap (wordAt (eventPart C)) m ∙ event-word (2 * i) (eventOf es i .cycle) (cycle-word es i) (omega arith) (omega (arith, within 0 es rises i l .high))
+
+  pins-back : (i : ℕ) → i < length es → eventAt (eventPart C) i .pins ≡ eventOf es i .pins
+  pins-back i l =
+      let m : 8 * i + 4 ≡ 4 * (2 * i + 1) = omega arith in
+      ap (wordAt (eventPart C)) m ∙ event-word (2 * i + 1) (eventOf es i .pins) (pins-word es i) (omega arith) (omega (arith, within 0 es rises i l .pins))
+
+  pub events-back : eventsOf C ≡ es
+  unfolding eventsOf
+  events-back =
+      rw counts (counted (eventAt (eventPart C)) (record { cycle = 0; pins = 0 }) 0 (length es) es refl (λ i l. rw (zero-add i) (λ u. record { cycle = cycle-back i l u; pins = pins-back i l u })))
+
+  event-fits : (i : ℕ) → i < length es → eventFits (eventPart C) i ≡ true
+  unfolding eventFits
+  event-fits zero l =
+      let w = within 0 es rises 0 l in
+      rw (pins-back 0 l, cycle-back 0 l, lt-ltb (eventOf es 0 .pins) (2 ^ 20) (w .pins), le-leb (eventOf es 0 .cycle) lastCycle (omega (arith, w .high)))
+  event-fits (suc i) l =
+      let w = within 0 es rises (suc i) l in
+      let k : suc i - 1 ≡ i = omega arith in
+      rw (
+        k,
+        eqb·suc-zero i,
+        pins-back (suc i) l,
+        cycle-back (suc i) l,
+        cycle-back i (omega arith),
+        lt-ltb (eventOf es (suc i) .pins) (2 ^ 20) (w .pins),
+        le-leb (eventOf es (suc i) .cycle) lastCycle (omega (arith, w .high)),
+        lt-ltb (eventOf es i .cycle) (eventOf es (suc i) .cycle) (rising 0 es rises i l),
+      )
+
+  right-length : badLength C ≡ false
+  unfolding badLength
+  right-length =
+      rw (
+        head ws es fourteen 0 (omega arith) (omega arith),
+        size ws es fourteen,
+        le-ltb (80 + 8 * length es) 80 (omega arith),
+        le-ltb 64080 (80 + 8 * length es) (omega arith),
+        eq-eqb (80 + 8 * length es) (80 + 8 * length es) refl,
+      )
+
+  right-header : goodHeader C ≡ true
+  unfolding goodHeader
+  right-header =
+      rw (
+        head ws es fourteen 1 (omega arith) (omega arith),
+        head ws es fourteen 2 (omega arith) (omega arith),
+        counts,
+        head ws es fourteen 4 (omega arith) (omega arith),
+        head ws es fourteen 5 (omega arith) (omega arith),
+        head ws es fourteen 0 (omega arith) (omega arith),
+        le-leb (length es) 8000 few,
+        eq-eqb (80 + 8 * length es) (80 + 8 * length es) refl,
+      )
+
+  right-events : badEvent (eventPart C) (eventCount C) ≡ none
+  unfolding badEvent
+  right-events = rw counts (nowhere (λ i. not (eventFits (eventPart C) i)) 0 (length es) (λ i l. rw (zero-add i) (ap not (event-fits i l))))
+
+  pub captured : {A : Type 0} (rest : Answer A) → accepted C rest ≡ rest
+  unfolding accepted
+  captured rest = rw (right-length, right-header, settings-back, good, right-events)
+
+  pub captured-verdict : verdictIn C ≡ verdictOf (settingsOf ws) es
+  unfolding verdictIn
+  captured-verdict = rw (settings-back, events-back)
+
+  pub captured-clean : verdictOf (settingsOf ws) es ≡ clean → judgeAnswer C ≡ answered (allClean es)
+  unfolding judgeAnswer
+  captured-clean c = captured _ ∙ rw (counts, captured-verdict, c)
+
+-- ---- the schedule of settings and requests that are not refused
+
+module _ (ws qs : List ℕ) (fourteen : length ws ≡ 14) (right : badSetting ws ≡ none) (asked : badRequest (settingsOf ws) qs ≡ none) (es : List Event)
+    (is : scheduleOf (settingsOf ws) qs ≡ planned es) where
+  pub schedule-fits : Planned (settingsOf ws) qs es
+  schedule-fits = schedule-planned (settingsOf ws) qs asked (ranged ws (settings-fit ws right)) es is
+
+  pub schedule-clean : judgeAnswer (captureOf ws es) ≡ answered (allClean es)
+  schedule-clean =
+      let y = schedule-fits in
+      captured-clean ws es fourteen right (omega (arith, y .few, few-requests (settingsOf ws) qs asked)) (y .rises) (y .early) (y .judged)

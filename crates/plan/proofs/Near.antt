@@ -1,0 +1,173 @@
+-- No deadline but that of rule 14 is far ahead of the next free cycle, so a command never waits long.
+use Prim.Native.Nat.{ℕ, zero, suc, _+_, _%_, _^_, _≤_, _<_}
+use mathlib.Core.Bool.{Bool, true, false, cond}
+use mathlib.Core.List.{List, [], _∷_}
+use mathlib.Core.Path.{_≡_}
+use native.Mathlib.Nat.{pow-le-pow-right}
+use native.Mathlib.Omega.{arith}
+use lib.Dec.{leb, eqb}
+use lib.ListN.{set, replicate}
+use lib.Seq.{getD-set-other}
+use Rattle.reading.specs.Search.{lesser, later}
+use Rattle.reading.specs.Mode.{h, CL}
+use Rattle.reading.specs.Settings.{Settings}
+use Rattle.reading.proofs.Cuts.{All, nil, cons}
+use Rattle.deadlines.specs.Deadlines.{OPEN, AGAIN, OTHER, REST, COLUMN, CLOSE, LOCKED, BUSY, DUE, DATA, READS, WRITES, END, WRITTEN, READER, WRITER, at, startOf, activeAfter, autoAfter, readAfter, cutWrite, newWrite, writeAfter, refreshAfter}
+use Rattle.bridge.proofs.Bursts.{lesser-left}
+use Rattle.plan.specs.Soonest.{latest, otherBank, activeSoonest, readSoonest, writeSoonest, burstSoonest, refreshSoonest}
+use Rattle.plan.proofs.Ranged.{Ranged}
+
+-- two waits of at most 10,000 cycles, a burst and its latency
+abbrev pub wait : ℕ
+wait = 20100
+
+pub record Near (free : ℕ) (d : List ℕ) : Type 0 where
+  pub by : (j : ℕ) → (j ≡ DUE → ⊥) → at d j ≤ free + wait
+
+h-small : (m : ℕ) → h m ≤ 64
+h-small m =
+    let l : m % 8 ≤ 7 = omega arith in
+    let k : 2 ^ (m % 8) ≤ 2 ^ 7 = pow-le-pow-right {n = 2} (omega arith) l in
+    omega arith
+
+pub later-most : (a b m : ℕ) → a ≤ m → b ≤ m → later a b ≤ m
+later-most a b m l k = go (leb a b)
+  where
+    go : (v : Bool) → cond v b a ≤ m
+    go true = k
+    go false = l
+
+-- ---- stores
+
+stored : (d : List ℕ) (i v j m : ℕ) → v ≤ m → at d j ≤ m → at (set d i v) j ≤ m
+stored [] i v j m l k = k
+stored (x ∷ d) zero v zero m l k = l
+stored (x ∷ d) zero v (suc j) m l k = k
+stored (x ∷ d) (suc i) v zero m l k = k
+stored (x ∷ d) (suc i) v (suc j) m l k = stored d i v j m l k
+
+module _ {n : ℕ} {d : List ℕ} (near : Near n d) where
+  near-set : (i v : ℕ) → v ≤ n + wait → Near n (set d i v)
+  near-set i v l = record { by = λ j u. stored d i v j (n + wait) l (near .by j u) }
+
+  near-due : (v : ℕ) → Near n (set d DUE v)
+  near-due v = record { by = λ j u. rw (getD-set-other d DUE j v 0 u) (near .by j u) }
+
+  near-on : (m : ℕ) → n ≤ m → Near m d
+  near-on m l = record { by = λ j u. omega (arith, near .by j u) }
+
+-- ---- what each command makes of the deadlines
+
+-- an auto precharge from the cycle c on
+near-auto : {n : ℕ} {d : List ℕ} → Near n d → (b c : ℕ) → b < 4 → c ≤ n + wait → Near n (autoAfter d b true c)
+unfolding autoAfter
+near-auto {n} {d} near b c lb l =
+    let closed = near-set near (OPEN + b) 0 (omega arith) in
+    near-set closed (REST + b) _ (later-most _ c (n + wait) (closed .by (LOCKED + b) (omega arith)) l)
+
+module _ (s : Settings) (g : Ranged s) {n : ℕ} {d : List ℕ} (near : Near n d) (t : ℕ) (l : n ≤ t) where
+  now : Near (suc t) d
+  now = near-on near (suc t) (omega arith)
+
+  pub near-refresh : Near (suc t) (refreshAfter s d t)
+  unfolding refreshAfter
+  near-refresh = near-due (near-set now BUSY (t + s .tRFC) (omega (arith, g .tRFC))) (t + s .GAP)
+
+  module _ (b : ℕ) (lb : b < 4) where
+    pub near-active : Near (suc t) (activeAfter s d t b)
+    unfolding activeAfter
+    near-active =
+        let d₁ = near-set now (OPEN + b) 1 (omega arith) in
+        let d₂ = near-set d₁ (AGAIN + b) (t + s .tRC) (omega (arith, g .tRC)) in
+        let d₃ = near-set d₂ (OTHER + b) (t + s .tRRD) (omega (arith, g .tRRD)) in
+        let d₄ = near-set d₃ (COLUMN + b) (t + s .tRCD) (omega (arith, g .tRCD)) in
+        let d₅ = near-set d₄ (CLOSE + b) (t + s .tRAS) (omega (arith, g .tRAS)) in
+        let d₆ = near-set d₅ (WRITTEN + b) 0 (omega arith) in
+        near-set d₆ (LOCKED + b) (t + s .tRAS + s .tRP) (omega (arith, g .tRAS, g .tRP))
+
+    module _ (m : ℕ) where
+      pub near-read : Near (suc t) (readAfter s d m t b true)
+      unfolding readAfter
+      near-read =
+          let d₁ = near-set now DATA (t + CL m + h m) (omega (arith, h-small m)) in
+          let d₂ = near-set d₁ READER 4 (omega arith) in
+          let d₃ = near-set d₂ READS (t + h m) (omega (arith, h-small m)) in
+          near-auto d₃ b (t + h m + s .tRP) lb (omega (arith, h-small m, g .tRP))
+
+      pub near-write : Near (suc t) (writeAfter s d m t b true)
+      unfolding writeAfter newWrite cutWrite
+      near-write =
+          let o : ℕ = WRITTEN + at d WRITER % 4 in
+          let least = lesser-left (at d o) (t + 1 + 0 + s .tWR) in
+          let d₁ = near-set now o (lesser (at d o) (t + 1 + 0 + s .tWR)) (omega (arith, least, now .by o (omega arith))) in
+          let d₂ = near-set d₁ (WRITTEN + b) (t + 1 + h m + s .tWR) (omega (arith, h-small m, g .tWR)) in
+          let d₃ = near-set d₂ END (t + 1 + h m + s .tWTR) (omega (arith, h-small m, g .tWTR)) in
+          let d₄ = near-set d₃ WRITER b (omega arith) in
+          let d₅ = near-set d₄ WRITES (t + h m) (omega (arith, h-small m)) in
+          near-auto d₅ b (t + 1 + h m + s .tWR + s .tRP) lb (omega (arith, h-small m, g .tWR, g .tRP))
+
+-- ---- at the start, and the latest of several
+
+pub near-start : (s : Settings) → Ranged s → Near 0 (startOf s)
+unfolding startOf
+near-start s g =
+    let d₀ : Near 0 (replicate 40 0) = record { by = λ j u. nothing 40 j } in
+    let d₁ = near-due d₀ (s .GAP + 0) in
+    let d₂ = near-set d₁ READER 4 (omega arith) in
+    let d₃ = near-set d₂ LOCKED (s .tRAS + s .tRP) (omega (arith, g .tRAS, g .tRP)) in
+    let d₄ = near-set d₃ (LOCKED + 1) (s .tRAS + s .tRP) (omega (arith, g .tRAS, g .tRP)) in
+    let d₅ = near-set d₄ (LOCKED + 2) (s .tRAS + s .tRP) (omega (arith, g .tRAS, g .tRP)) in
+    near-set d₅ (LOCKED + 3) (s .tRAS + s .tRP) (omega (arith, g .tRAS, g .tRP))
+  where
+    nothing : (k j : ℕ) → at (replicate k 0) j ≤ 0 + wait
+    nothing zero j = omega arith
+    nothing (suc k) zero = omega arith
+    nothing (suc k) (suc j) = nothing k j
+
+latest-most : (m c : ℕ) (xs : List ℕ) → c ≤ m → All (λ x. x ≤ m) xs → latest c xs ≤ m
+unfolding latest
+latest-most m c [] l nil = l
+latest-most m c (x ∷ xs) l (cons k r) = later-most c (latest x xs) m l (latest-most m x xs k r)
+
+module _ {n : ℕ} {d : List ℕ} (near : Near n d) where
+  other-most : (b i : ℕ) → i < 4 → otherBank d b i ≤ n + wait
+  other-most b i l = go (eqb i b)
+    where
+      go : (v : Bool) → cond v 0 (at d (OTHER + i)) ≤ n + wait
+      go true = omega arith
+      go false = near .by (OTHER + i) (omega arith)
+
+  pub refresh-most : refreshSoonest d ≤ n + wait
+  unfolding refreshSoonest
+  refresh-most =
+      latest-most (n + wait) _ _ (near .by BUSY (omega arith))
+      (cons (near .by REST (omega arith))
+      (cons (near .by (REST + 1) (omega arith))
+      (cons (near .by (REST + 2) (omega arith))
+      (cons (near .by (REST + 3) (omega arith))
+      (cons (near .by DATA (omega arith)) nil)))))
+
+  module _ (b : ℕ) (lb : b < 4) where
+    pub active-most : activeSoonest d b ≤ n + wait
+    unfolding activeSoonest
+    active-most =
+        latest-most (n + wait) _ _ (near .by BUSY (omega arith))
+        (cons (near .by (REST + b) (omega arith))
+        (cons (near .by (AGAIN + b) (omega arith))
+        (cons (other-most b 0 (omega arith))
+        (cons (other-most b 1 (omega arith))
+        (cons (other-most b 2 (omega arith))
+        (cons (other-most b 3 (omega arith)) nil))))))
+
+    pub burst-most : (write : Bool) → burstSoonest write d b ≤ n + wait
+    unfolding readSoonest writeSoonest
+    burst-most true =
+        latest-most (n + wait) _ _ (near .by BUSY (omega arith))
+        (cons (near .by (COLUMN + b) (omega arith))
+        (cons (near .by DATA (omega arith))
+        (cons (near .by WRITES (omega arith)) nil)))
+    burst-most false =
+        latest-most (n + wait) _ _ (near .by BUSY (omega arith))
+        (cons (near .by (COLUMN + b) (omega arith))
+        (cons (near .by END (omega arith))
+        (cons (near .by READS (omega arith)) nil)))

@@ -1,0 +1,210 @@
+-- A schedule between two requests; the schedule of requests that fit is clean, short, and rises.
+use Prim.Native.Nat.{ℕ, suc, _+_, _*_, _≤_}
+use mathlib.Core.Bool.{Bool, true, false, cond, not}
+use mathlib.Core.List.{List, [], _∷_}
+use mathlib.Core.Option.{Option, none, some}
+use mathlib.Core.Path.{_≡_, refl, sym, ap, _∙_, subst}
+use native.Mathlib.Omega.{arith}
+use lib.Dec.{leb, ltb, leb·zero}
+use lib.ListN.{length, getD}
+use borrow.Author.Tests.{leb-true, le-leb, ltb-false, not-false}
+use Rattle.reading.specs.Search.{orZero, later, lowest}
+use Rattle.reading.specs.Settings.{Settings}
+use Rattle.reading.specs.Capture.{Event, lastCycle}
+use Rattle.reading.specs.Verdict.{clean, judgeFrom, verdictOf}
+use Rattle.reading.specs.Schedule.{asksWrite, requestFits, badRequest, firstCell, cellBank, activePins, burstPins, refreshPins, freeFrom, placed, send, sendRequest, refreshInTime, served, planned, onwards, scheduleFrom, scheduleOf}
+use Rattle.memory.specs.Serving.{EachFits}
+use Rattle.words.proofs.Search.{none-below}
+use Rattle.deadlines.specs.Deadlines.{DUE, at, activeAfter, refreshAfter}
+use Rattle.plan.specs.Soonest.{latest, activeSoonest, burstSoonest, refreshSoonest}
+use Rattle.plan.specs.Behind.{partOf, deadlinesOf, burstAfter}
+use Rattle.plan.proofs.Ranged.{Ranged}
+use Rattle.plan.proofs.Sending.{free-sent, length-sent, clean-sent}
+use Rattle.plan.proofs.Reached.{Rises, Reached, Sent, start-reached}
+use Rattle.plan.proofs.Placed.{Idle, Opened, refresh-sent, refresh-idle, active-sent, active-opens, active-refreshed, burst-sent, burst-idle, burst-refreshes}
+
+-- the last cycle that rule 14 lets through
+abbrev pub dueOf : Settings → List Event → ℕ
+dueOf s es = orZero (partOf s es .refreshed) + s .GAP
+
+in-time : (s : Settings) (es : List Event) → refreshInTime s es ≡ leb (placed s es refreshPins) (dueOf s es)
+unfolding refreshInTime
+in-time s es = refl
+
+in-time-le : (s : Settings) (es : List Event) → refreshInTime s es ≡ true → placed s es refreshPins ≤ dueOf s es
+in-time-le s es k = leb-true (placed s es refreshPins) (dueOf s es) (sym (in-time s es) ∙ k)
+
+-- the test of a schedule, by the deadlines
+pub in-time-is : {s : Settings} → Ranged s → {es : List Event} → Reached s es → Idle s es →
+    refreshInTime s es ≡ leb (later (freeFrom 0 es) (refreshSoonest (deadlinesOf s es))) (at (deadlinesOf s es) DUE)
+unfolding deadlinesOf
+in-time-is {s} g {es} r idle = in-time s es ∙ ap (λ (t : ℕ). leb t (dueOf s es)) (refresh-sent g r idle .cycle)
+
+-- a command in time for rule 14
+timely-clean : {s : Settings} {es : List Event} {pins soonest : ℕ} {d : List ℕ} → Sent s es pins soonest d → verdictOf s es ≡ clean →
+    placed s es pins ≤ dueOf s es → verdictOf s (send s es pins) ≡ clean
+timely-clean {s} {es} {pins} w c l = clean-sent s es pins c (w .passed) (le-leb (placed s es pins) (dueOf s es) l)
+
+-- between requests: all banks are idle, all events are clean, and an AUTO REFRESH placed next comes in time
+pub record Ready (s : Settings) (es : List Event) : Type 0 where
+  pub reached : Reached s es
+  pub idle : Idle s es
+  pub judged : verdictOf s es ≡ clean
+  pub timely : refreshInTime s es ≡ true
+
+pub start-ready : (s : Settings) → Ranged s → Ready s []
+unfolding verdictOf judgeFrom deadlinesOf refreshSoonest latest freeFrom
+start-ready s g =
+    let r = start-reached s g in
+    record {
+      reached = r;
+      idle = λ i. refl;
+      judged = refl;
+      timely = in-time-is g r (λ i. refl) ∙ leb·zero (0 + s .GAP);
+    }
+
+module _ (s : Settings) (g : Ranged s) (q : ℕ) (fits : requestFits s q ≡ true) (es : List Event) (r : Reached s es) (idle : Idle s es) where
+  abbrev bank : ℕ
+  bank = cellBank s (firstCell q)
+
+  abbrev opened : List Event
+  opened = send s es (activePins s q)
+
+  abbrev alone : List Event
+  alone = sendRequest s es q
+
+  pub first-sent : Sent s es (activePins s q) (activeSoonest (deadlinesOf s es) bank) (activeAfter s (deadlinesOf s es) (placed s es (activePins s q)) bank)
+  first-sent = active-sent g r q fits idle
+
+  o : Opened s opened bank
+  o = active-opens g r q fits idle
+
+  pub second-sent : Sent s opened (burstPins s q) (burstSoonest (asksWrite q) (deadlinesOf s opened) bank)
+      (burstAfter (asksWrite q) s (deadlinesOf s opened) (s .mode) (placed s opened (burstPins s q)) bank)
+  second-sent = burst-sent g (first-sent .reached) q fits o
+
+  pub request-reached : Reached s (sendRequest s es q)
+  unfolding sendRequest
+  request-reached = second-sent .reached
+
+  pub request-idle : Idle s (sendRequest s es q)
+  unfolding sendRequest
+  request-idle = burst-idle g (first-sent .reached) q fits o
+
+  same-due : dueOf s (sendRequest s es q) ≡ dueOf s es
+  unfolding sendRequest
+  same-due = ap (λ (x : Option ℕ). orZero x + s .GAP) (burst-refreshes g (first-sent .reached) q fits o ∙ active-refreshed g r q fits idle)
+
+  request-length : length (sendRequest s es q) ≡ suc (suc (length es))
+  unfolding sendRequest
+  request-length = length-sent s opened (burstPins s q) ∙ ap suc (length-sent s es (activePins s q))
+
+  -- the request's events come before the AUTO REFRESH that is in time
+  request-ready : verdictOf s es ≡ clean → refreshInTime s (sendRequest s es q) ≡ true → Ready s (sendRequest s es q)
+  unfolding sendRequest
+  request-ready c k =
+      let last : placed s alone refreshPins ≤ dueOf s es = omega (arith, in-time-le s alone k, same-due) in
+      let burst : placed s opened (burstPins s q) ≤ dueOf s es =
+      omega (arith, last, refresh-sent g request-reached request-idle .not-before, free-sent s opened (burstPins s q)) in
+      let active : placed s es (activePins s q) ≤ dueOf s es = omega (arith, burst, second-sent .not-before, free-sent s es (activePins s q)) in
+      let due : dueOf s opened ≡ dueOf s es = ap (λ (x : Option ℕ). orZero x + s .GAP) (active-refreshed g r q fits idle) in
+      record {
+        reached = request-reached;
+        idle = request-idle;
+        judged = timely-clean second-sent (timely-clean first-sent c active) (omega (arith, burst, due));
+        timely = k;
+      }
+
+-- ---- the next request
+
+pub record Served (s : Settings) (es next : List Event) : Type 0 where
+  pub ready : Ready s next
+  pub few : length next ≤ length es + 3
+
+module _ (s : Settings) (g : Ranged s) where
+  pub served-ready : (es : List Event) → Ready s es → (q : ℕ) → requestFits s q ≡ true → (next : List Event) → served s es q ≡ some next → Served s es next
+  unfolding served
+  served-ready es y q fits next e = go (refreshInTime s alone) refl (refreshInTime s refreshed) refl e
+    where
+      alone : List Event
+      alone = sendRequest s es q
+
+      first : List Event
+      first = send s es refreshPins
+
+      refreshed : List Event
+      refreshed = sendRequest s first q
+
+      ahead : Sent s es refreshPins (refreshSoonest (deadlinesOf s es)) (refreshAfter s (deadlinesOf s es) (placed s es refreshPins))
+      ahead = refresh-sent g (y .reached) (y .idle)
+
+      go : (v : Bool) → refreshInTime s alone ≡ v → (w : Bool) → refreshInTime s refreshed ≡ w →
+          cond v (some alone) (cond w (some refreshed) none) ≡ some next → Served s es next
+      go true k w m f =
+          subst (λ (n : List Event). Served s es n) (let z : alone ≡ next = cc in z)
+          (record {
+            ready = request-ready s g q fits es (y .reached) (y .idle) (y .judged) k;
+            few = omega (arith, request-length s g q fits es (y .reached) (y .idle));
+          })
+      go false k true m f =
+          subst (λ (n : List Event). Served s es n) (let z : refreshed ≡ next = cc in z)
+          (record {
+            ready =
+                request-ready s g q fits first (ahead .reached) (refresh-idle g (y .reached) (y .idle))
+                (timely-clean ahead (y .judged) (in-time-le s es (y .timely))) m;
+            few = omega (arith, request-length s g q fits first (ahead .reached) (refresh-idle g (y .reached) (y .idle)), length-sent s es refreshPins);
+          })
+      go false k false m f = let z : _≡_ {A = ℕ} 0 1 = cc in absurd (omega arith)
+
+  -- ---- all requests
+
+  from-ready : (es : List Event) → Ready s es → (i : ℕ) (qs : List ℕ) → EachFits s qs → (last : List Event) → scheduleFrom s es i qs ≡ planned last →
+      Ready s last × (length last ≤ length es + 3 * length qs)
+  unfolding scheduleFrom
+  from-ready es y i [] fits last e =
+      let z : es ≡ last = cc in subst (λ (n : List Event). Ready s n × (length n ≤ length es + 0)) z (y, omega arith)
+  from-ready es y i (q ∷ qs) fits last e =
+      go (served s es q) refl e (λ next v k. from-ready next (v .ready) (suc i) qs (λ j l. fits (suc j) (omega arith)) last k)
+    where
+      go : (x : Option (List Event)) → served s es q ≡ x → onwards x (λ next. scheduleFrom s next (suc i) qs) i ≡ planned last →
+          ((next : List Event) → Served s es next → scheduleFrom s next (suc i) qs ≡ planned last → Ready s last × (length last ≤ length next + 3 * length qs)) →
+          Ready s last × (length last ≤ length es + 3 * length (q ∷ qs))
+      go none k f ih = let z : _≡_ {A = ℕ} 0 1 = cc in absurd (omega arith)
+      go (some next) k f ih =
+          let v = served-ready es y q (fits 0 (omega arith)) next k in
+          let h = ih next v f in
+          (h .0, omega (arith, v .few, h .1))
+
+-- ---- the schedule of a list of requests that is not refused
+
+pub record Planned (s : Settings) (qs : List ℕ) (es : List Event) : Type 0 where
+  pub judged : verdictOf s es ≡ clean
+  pub few : length es ≤ 3 * length qs
+  pub rises : Rises 0 es
+  pub early : freeFrom 0 es ≤ lastCycle
+
+module _ (s : Settings) (qs : List ℕ) (good : badRequest s qs ≡ none) where
+  parted : (b : Bool) (x : Option ℕ) → cond b (some 2000) x ≡ none → (b ≡ false) × (x ≡ none)
+  parted true x e = let z : _≡_ {A = ℕ} 0 1 = cc in absurd (omega arith)
+  parted false x e = (refl, e)
+
+  nothing-bad : (ltb 2000 (length qs) ≡ false) × (lowest (λ i. not (requestFits s (getD qs i 0))) (length qs) ≡ none)
+  unfolding badRequest
+  nothing-bad = parted (ltb 2000 (length qs)) (lowest (λ i. not (requestFits s (getD qs i 0))) (length qs)) good
+
+  pub few-requests : length qs ≤ 2000
+  few-requests = ltb-false 2000 (length qs) (nothing-bad .0)
+
+  pub requests-fit : EachFits s qs
+  requests-fit i l = not-false (requestFits s (getD qs i 0)) (none-below (λ j. not (requestFits s (getD qs j 0))) (length qs) (nothing-bad .1) i l)
+
+  pub schedule-planned : Ranged s → (es : List Event) → scheduleOf s qs ≡ planned es → Planned s qs es
+  unfolding scheduleOf
+  schedule-planned g es e =
+      let (y, few) = from-ready s g [] (start-ready s g) 0 qs requests-fit es e in
+      record {
+        judged = y .judged;
+        few = omega arith;
+        rises = y .reached .rises;
+        early = omega (arith, y .reached .early, few-requests);
+      }

@@ -1,0 +1,129 @@
+-- One command sent behind a list of events: where it goes, and what holds after it.
+use Prim.Native.Nat.{ℕ, suc, _+_, _≤_}
+use mathlib.Core.Bool.{Bool, true, false, cond, not, _&&_}
+use mathlib.Core.List.{List, [], _∷_, _++_}
+use mathlib.Core.Option.{Option, none, some}
+use mathlib.Core.Path.{_≡_, refl, _∙_}
+use native.Mathlib.Nat.{le-refl}
+use native.Mathlib.Omega.{arith}
+use lib.Dec.{leb}
+use lib.ListN.{length, length-append}
+use borrow.Author.Tests.{leb-true, leb-false, le-leb, lt-leb}
+use Rattle.reading.specs.Search.{every, find, later}
+use Rattle.reading.specs.Settings.{Settings}
+use Rattle.reading.specs.Capture.{Event, lastCycle}
+use Rattle.reading.specs.Commands.{commandOf}
+use Rattle.reading.specs.Part.{Part, start, partAfter, step, run}
+use Rattle.reading.specs.Rules.{keeps, rule14, placingRules, brokenBy}
+use Rattle.reading.specs.Verdict.{clean, onward, judgeFrom, verdictOf}
+use Rattle.reading.specs.Schedule.{passes, earliest, freeFrom, placed, send}
+use Rattle.reading.proofs.Found.{earliest-is}
+use Rattle.plan.specs.Behind.{partOf}
+use Rattle.plan.proofs.Near.{wait, later-most}
+
+-- ---- the earliest cycle of a test that holds from m on
+
+pub later-first : (a b : ℕ) → a ≤ later a b
+later-first a b = go (leb a b) refl
+  where
+    go : (v : Bool) → leb a b ≡ v → a ≤ cond v b a
+    go true e = leb-true a b e
+    go false e = omega arith
+
+pub later-second : (a b : ℕ) → b ≤ later a b
+later-second a b = go (leb a b) refl
+  where
+    go : (v : Bool) → leb a b ≡ v → b ≤ cond v b a
+    go true e = omega arith
+    go false e = omega (arith, leb-false a b e)
+
+earliest-from : (f : ℕ → Bool) (m : ℕ) → ((t : ℕ) → f t ≡ leb m t) → (from n : ℕ) → m ≤ from + n → earliest f from n ≡ later from m
+earliest-from f m is from n l = go (leb from m) refl
+  where
+    go : (v : Bool) → leb from m ≡ v → earliest f from n ≡ cond v m from
+    go true e =
+        earliest-is f from n m (leb-true from m e) l (is m ∙ le-leb m m (le-refl m)) (λ u k j. is u ∙ lt-leb m u j)
+    go false e =
+        earliest-is f from n from (le-refl from) (omega arith) (is from ∙ le-leb m from (omega (arith, leb-false from m e)))
+        (λ u k j. absurd (omega arith))
+
+-- ---- one more event
+
+run-more : (s : Settings) (p : Part) (es : List Event) (e : Event) → run s p (es ++ (e ∷ [])) ≡ step s (run s p es) e
+run-more s p [] e = refl
+run-more s p (x ∷ es) e = run-more s (step s p x) es e
+
+free-more : (from : ℕ) (es : List Event) (e : Event) → freeFrom from (es ++ (e ∷ [])) ≡ suc (e .cycle)
+unfolding freeFrom
+free-more from [] e = refl
+free-more from (x ∷ es) e = free-more (suc (x .cycle)) es e
+
+clean-more : (s : Settings) (p : Part) (i : ℕ) (es : List Event) (e : Event) → judgeFrom s p i es ≡ clean → brokenBy s (run s p es) e ≡ none →
+    judgeFrom s p i (es ++ (e ∷ [])) ≡ clean
+unfolding judgeFrom
+clean-more s p i [] e c n = rw n
+clean-more s p i (x ∷ es) e c n = go (brokenBy s p x) c (λ k. clean-more s (step s p x) (suc i) es e k n)
+  where
+    go : (o : Option ℕ) → onward o i (x .cycle) (judgeFrom s (step s p x) (suc i) es) ≡ clean →
+        (judgeFrom s (step s p x) (suc i) es ≡ clean → judgeFrom s (step s p x) (suc i) (es ++ (e ∷ [])) ≡ clean) →
+        onward o i (x .cycle) (judgeFrom s (step s p x) (suc i) (es ++ (e ∷ []))) ≡ clean
+    go none k ih = ih k
+    go (some r) k ih = let z : _≡_ {A = ℕ} 0 1 = cc in absurd (omega arith)
+
+-- a list of rules, and one more
+none-with : (f : ℕ → Bool) (r : ℕ) (rs : List ℕ) → every f rs ≡ true → f r ≡ true → find (λ q. not (f q)) (rs ++ (r ∷ [])) ≡ none
+none-with f r [] a b = rw b
+none-with f r (q ∷ rs) a b = go (f q) refl a (none-with f r rs)
+  where
+    go : (v : Bool) → f q ≡ v → (v && every f rs) ≡ true → (every f rs ≡ true → f r ≡ true → find (λ x. not (f x)) (rs ++ (r ∷ [])) ≡ none) →
+        cond (not v) (some q) (find (λ x. not (f x)) (rs ++ (r ∷ []))) ≡ none
+    go true e k ih = ih k b
+    go false e k ih = let z : _≡_ {A = ℕ} 0 1 = cc in absurd (omega arith)
+
+-- ---- a command behind a list of events
+
+module _ (s : Settings) (es : List Event) (pins : ℕ) where
+  abbrev event : Event
+  event = record { cycle = placed s es pins; pins = pins }
+
+  pub free-sent : freeFrom 0 (send s es pins) ≡ suc (placed s es pins)
+  unfolding send
+  free-sent = free-more 0 es event
+
+  pub length-sent : length (send s es pins) ≡ suc (length es)
+  unfolding send
+  length-sent = omega (arith, length-append es (event ∷ []))
+
+  pub part-sent : partOf s (send s es pins) ≡ partAfter s (partOf s es) (placed s es pins) (commandOf pins)
+  unfolding send
+  part-sent = run-more s (start s) es event
+
+  -- where rules 1 to 13 pass it, and in time for rule 14, it is judged clean too
+  pub clean-sent : verdictOf s es ≡ clean → passes s (partOf s es) pins (placed s es pins) ≡ true →
+      rule14 s (partOf s es) (placed s es pins) (commandOf pins) ≡ true → verdictOf s (send s es pins) ≡ clean
+  unfolding verdictOf send passes
+  clean-sent c k l =
+      clean-more s (start s) 0 es event c (none-with (λ r. keeps r s (partOf s es) (placed s es pins) (commandOf pins)) 14 placingRules k l)
+
+-- rules 1 to 13 pass it from the cycle `soonest` on, which is not far
+pub record Goes (s : Settings) (es : List Event) (pins soonest : ℕ) : Type 0 where
+  pub passing : (t : ℕ) → passes s (partOf s es) pins t ≡ leb soonest t
+  pub soon : soonest ≤ freeFrom 0 es + wait
+
+module _ {s : Settings} {es : List Event} {pins soonest : ℕ} (w : Goes s es pins soonest) where
+  pub goes-at : placed s es pins ≡ later (freeFrom 0 es) soonest
+  unfolding placed
+  goes-at = earliest-from (passes s (partOf s es) pins) soonest (w .passing) (freeFrom 0 es) lastCycle (omega (arith, w .soon))
+
+  pub goes-free : freeFrom 0 es ≤ placed s es pins
+  goes-free = rw goes-at (later-first (freeFrom 0 es) soonest)
+
+  pub goes-soonest : soonest ≤ placed s es pins
+  goes-soonest = rw goes-at (later-second (freeFrom 0 es) soonest)
+
+  pub goes-soon : placed s es pins ≤ freeFrom 0 es + wait
+  goes-soon = rw goes-at (later-most (freeFrom 0 es) soonest (freeFrom 0 es + wait) (omega arith) (w .soon))
+
+  -- the search ends where it should: at a cycle that rules 1 to 13 pass
+  pub goes-passes : passes s (partOf s es) pins (placed s es pins) ≡ true
+  goes-passes = w .passing (placed s es pins) ∙ le-leb soonest (placed s es pins) goes-soonest
