@@ -1,9 +1,9 @@
 -- The bursts of a part after the cuts of one event: what is found among them, and what is held by them.
 use Prim.Native.Nat.{ℕ, zero, suc, _+_, _-_, _≤_, _<_}
-use mathlib.Core.Bool.{Bool, true, false, cond, not, _&&_, _||_}
+use mathlib.Core.Bool.{Bool, true, false, cond, not, _&&_, _||_, and-true}
 use mathlib.Core.List.{List, [], _∷_, map}
 use mathlib.Core.Option.{Option, none, some, Option·map}
-use mathlib.Core.Path.{_≡_, refl, sym, ap, _∙_}
+use mathlib.Core.Path.{_≡_, refl, sym, ap, _∙_, subst}
 use native.Mathlib.Omega.{arith}
 use lib.Dec.{leb, ltb, eqb, leb·zero}
 use borrow.Author.Tests.{leb-true, leb-false, le-leb, lt-leb, ltb-true, ltb-false}
@@ -145,7 +145,7 @@ pub late-is : {from : ℕ} (w t : ℕ) → from ≤ t → {xs : List Burst} → 
     every (writeOver t) xs ≡ leb (ended (find (λ x. x .writes) xs) w) (t + w)
 late-is w t l nothing = sym (leb·zero (t + w))
 late-is w t l (read e rest) = rw e (late-is w t l rest)
-late-is w t l (write {x = x} e rest) = rw (e, all-over t l rest) (mathlib.Core.Bool.and-true (leb (dataEnd x) t) ∙ sym (leb-add w (dataEnd x) t))
+late-is w t l (write {x = x} e rest) = rw (e, all-over t l rest) (and-true (leb (dataEnd x) t) ∙ sym (leb-add w (dataEnd x) t))
 
 -- ---- BURST TERMINATE
 
@@ -186,7 +186,7 @@ find-all q nil e = let z : _≡_ {A = ℕ} 0 1 = cc in absurd (omega arith)
 find-all {P} q (cons {x = y} {xs = ys} g r) {x} e = go (q y) e (find-all q r)
   where
     go : (v : Bool) → cond v (some y) (find q ys) ≡ some x → (find q ys ≡ some x → P x) → P x
-    go true f ih = let w : y ≡ x = cc in mathlib.Core.Path.subst P w g
+    go true f ih = let w : y ≡ x = cc in subst P w g
     go false f ih = ih f
 
 pub find-holds : (q : Burst → Bool) (xs : List Burst) {x : Burst} → find q xs ≡ some x → q x ≡ true

@@ -1,6 +1,6 @@
 -- The summary of the part after an event that breaks no rule is what a step makes of the summary before it.
 use Prim.Native.Nat.{ℕ, zero, suc, _+_, _-_, _%_, _≤_, _<_}
-use mathlib.Core.Bool.{Bool, true, false, cond, not, _&&_, _||_}
+use mathlib.Core.Bool.{Bool, true, false, cond, not, _&&_, _||_, and-false}
 use mathlib.Core.List.{List, [], _∷_, map}
 use mathlib.Core.Logic.{_⊎_, inl, inr}
 use mathlib.Core.Option.{Option, none, some, Option·map}
@@ -8,7 +8,8 @@ use mathlib.Core.Path.{_≡_, refl, sym, ap, _∙_, fun-ext}
 use native.Mathlib.Nat.{mod-eq-of-lt}
 use native.Mathlib.Omega.{arith}
 use lib.Dec.{leb, ltb, eqb, leb·zero}
-use borrow.Author.Tests.{leb-true, leb-false, le-leb, lt-leb, eqb-true, eqb-false, eq-eqb, ne-eqb}
+use lib.ListN.{getD, set}
+use borrow.Author.Tests.{leb-true, leb-false, le-leb, lt-leb, lt-ltb, eqb-true, eqb-false, ne-eqb, not-true}
 use Rattle.reading.specs.Search.{ever, find, lesser, later, orZero}
 use Rattle.reading.specs.Mode.{h, CL}
 use Rattle.reading.specs.Settings.{Settings}
@@ -21,6 +22,7 @@ use Rattle.deadlines.specs.Deadlines.{activeAfter, readAfter, writeAfter, cutRe
 use Rattle.bridge.specs.Summary.{Held, laid, summary, from, ended, cleared, heldBy, readerOf, writerOf}
 use Rattle.bridge.proofs.Laid.{put, activated, banked, readGiven, writeGiven, timed, active-laid, auto-laid, cut-laid, new-laid, rest-laid}
 use Rattle.bridge.proofs.Bursts.{blind, uncut, find-same, find-map, find-like, held-cut, Given, Ended, Late, nothing, read, write, Over, held-over, find-all, find-holds, lesser-low, lesser-high, lesser-add, lesser-right, lesser-left, later-low, later-high, later-add}
+use Rattle.bridge.proofs.Tests.{first-of}
 use Rattle.bridge.proofs.Cut.{cut-until, Latency, same-latency, same-reader}
 use Rattle.bridge.proofs.Rules.{does}
 
@@ -78,7 +80,7 @@ fresh : (from t i : ℕ) → from ≤ t → {xs : List Burst} → All (Given fro
     find (λ x. x .writes && (eqb i (x .bank) && leb t (x .k))) xs ≡ none
 fresh from t i l nil = refl
 fresh from t i l (cons {x = x} g r) =
-    rw (lt-leb t (x .k) (omega (arith, g .before)), mathlib.Core.Bool.and-false (eqb i (x .bank)), mathlib.Core.Bool.and-false (x .writes))
+    rw (lt-leb t (x .k) (omega (arith, g .before)), and-false (eqb i (x .bank)), and-false (x .writes))
     (fresh from t i l r)
 
 module _ (s : Settings) (p : Part) (from₀ t : ℕ) (l : from₀ ≤ t) (g : Sound from₀ p) where
@@ -188,12 +190,8 @@ module _ (s : Settings) (p : Part) (from₀ t : ℕ) (l : from₀ ≤ t) (g : So
   written-stays c e i o q =
       find-same (λ x. x .writes && (eqb i (x .bank) && ever o (λ a. leb a (x .k)))) (cutBy t c)
       (blind (λ x. x .writes && (eqb i (x .bank) && ever o (λ a. leb a (x .k)))) (λ n x. refl) t c)
-      (λ x h. uncut t c x (rw (first (x .writes) _ h, e))) xs
+      (λ x h. uncut t c x (rw (first-of (x .writes) _ h, e))) xs
       ∙ ap (λ (v : Option ℕ). find (λ x. x .writes && (eqb i (x .bank) && ever v (λ a. leb a (x .k)))) xs) q
-    where
-      first : (u v : Bool) → (u && v) ≡ true → u ≡ true
-      first true v f = refl
-      first false v f = f
 
   -- ---- auto precharge
 
@@ -269,11 +267,7 @@ module _ (s : Settings) (p : Part) (from₀ t : ℕ) (l : from₀ ≤ t) (g : So
   isWrite x = x .writes
 
   reads-stay : (c : Command) → ((x : Burst) → x .writes ≡ false → cuts c x ≡ false) → find reads (map (cutBy t c) xs) ≡ find reads xs
-  reads-stay c e = find-same reads (cutBy t c) (blind reads (λ n x. refl) t c) (λ x h. uncut t c x (e x (unwritten (x .writes) h))) xs
-    where
-      unwritten : (v : Bool) → not v ≡ true → v ≡ false
-      unwritten true f = sym f
-      unwritten false f = refl
+  reads-stay c e = find-same reads (cutBy t c) (blind reads (λ n x. refl) t c) (λ x h. uncut t c x (e x (not-true (x .writes) h))) xs
 
   write-end : (b a : ℕ) (ten : Bool) (x : Burst) → Given from₀ x → Over t isWrite x → x .writes ≡ true →
       dataEnd (cutBy t (does WRITE b a ten) x) ≡ lesser (dataEnd x) (t + 1)
@@ -290,7 +284,7 @@ module _ (s : Settings) (p : Part) (from₀ t : ℕ) (l : from₀ ≤ t) (g : So
     where
       unfound : y .writes ≡ false → find isWrite (y ∷ ys) ≡ find isWrite ys
       unfound f = rw f
-  ended-other (write {x = y} {xs = ys} w r) i x e n = find-all (bankWrite p i) r found .by (first (x .writes) _ (find-holds (bankWrite p i) ys found))
+  ended-other (write {x = y} {xs = ys} w r) i x e n = find-all (bankWrite p i) r found .by (first-of (x .writes) _ (find-holds (bankWrite p i) ys found))
     where
       other : eqb i (y .bank) ≡ false
       other = ne-eqb i (y .bank) (λ q. n (q ∙ sym (ap writerOf last)))
@@ -299,11 +293,7 @@ module _ (s : Settings) (p : Part) (from₀ t : ℕ) (l : from₀ ≤ t) (g : So
           last = rw w
 
       found : find (bankWrite p i) ys ≡ some x
-      found = rw (other, mathlib.Core.Bool.and-false (y .writes)) at e
-
-      first : (u v : Bool) → (u && v) ≡ true → u ≡ true
-      first true v f = refl
-      first false v f = f
+      found = rw (other, and-false (y .writes)) at e
 
   writer-small : X .writer % 4 ≡ X .writer
   writer-small = go (find isWrite xs) refl
@@ -321,23 +311,16 @@ module _ (s : Settings) (p : Part) (from₀ t : ℕ) (l : from₀ ≤ t) (g : So
       c : Command
       c = does WRITE b a ten
 
-      zero-less : (v : ℕ) → lesser 0 v ≡ 0
-      zero-less v = lesser-low 0 v (omega arith)
-
       is-written : (x : Burst) → find (bankWrite p i) xs ≡ some x → dataEnd (cutBy t c x) ≡ lesser (dataEnd x) (t + 1)
       is-written x f =
           write-end b a ten x (find-all (bankWrite p i) (g .bursts) f) (find-all (bankWrite p i) (held-over isWrite t xs q) f)
-          (first (x .writes) _ (find-holds (bankWrite p i) xs f))
-        where
-          first : (u v : Bool) → (u && v) ≡ true → u ≡ true
-          first true v f = refl
-          first false v f = f
+          (first-of (x .writes) _ (find-holds (bankWrite p i) xs f))
 
       go : (v : Bool) → eqb i (X .writer) ≡ v → (o : Option Burst) → find (bankWrite p i) xs ≡ o →
           ended (Option·map (cutBy t c) o) (s .tWR) ≡ cond v (lesser (X .written (X .writer)) (t + 1 + 0 + s .tWR)) (X .written i)
       go true f none h =
           sym (ap (λ (j : ℕ). lesser (X .written j) (t + 1 + 0 + s .tWR)) (sym (eqb-true i (X .writer) f))
-          ∙ ap (λ (u : Option Burst). lesser (ended u (s .tWR)) (t + 1 + 0 + s .tWR)) h ∙ zero-less (t + 1 + 0 + s .tWR))
+          ∙ ap (λ (u : Option Burst). lesser (ended u (s .tWR)) (t + 1 + 0 + s .tWR)) h ∙ lesser-low 0 (t + 1 + 0 + s .tWR) (omega arith))
       go true f (some x) h =
           ap (λ (u : ℕ). u + s .tWR) (is-written x h) ∙ sym (lesser-add (s .tWR) (dataEnd x) (t + 1))
           ∙ ap (λ (u : ℕ). lesser (dataEnd x + s .tWR) (u + s .tWR)) (omega arith)
@@ -360,11 +343,11 @@ module _ (s : Settings) (p : Part) (from₀ t : ℕ) (l : from₀ ≤ t) (g : So
       ap laid entries
       ∙ sym (ap
       (λ (d : List ℕ).
-      autoAfter (lib.ListN.set (newWrite s d t (h (p .mode)) b) 36 (cond ten (t + h (p .mode)) (lib.ListN.getD (newWrite s d t (h (p .mode)) b) 36 0))) b ten
+      autoAfter (set (newWrite s d t (h (p .mode)) b) 36 (cond ten (t + h (p .mode)) (getD (newWrite s d t (h (p .mode)) b) 36 0))) b ten
       (t + 1 + h (p .mode) + s .tWR + s .tRP)) (cut-laid s X t)
       ∙ ap
       (λ (d : List ℕ).
-      autoAfter (lib.ListN.set d 36 (cond ten (t + h (p .mode)) (lib.ListN.getD d 36 0))) b ten (t + 1 + h (p .mode) + s .tWR + s .tRP)) (new-laid s cutHeld t (h (p .mode)) b m)
+      autoAfter (set d 36 (cond ten (t + h (p .mode)) (getD d 36 0))) b ten (t + 1 + h (p .mode) + s .tWR + s .tRP)) (new-laid s cutHeld t (h (p .mode)) b m)
       ∙ auto-laid newHeld b ten (t + 1 + h (p .mode) + s .tWR + s .tRP) m)
     where
       c : Command
@@ -448,15 +431,11 @@ module _ (s : Settings) (p : Part) (from₀ t : ℕ) (l : from₀ ≤ t) (g : So
       c : Command
       c = does BURST-TERMINATE b a ten
 
-      unwritten : (v : Bool) → not v ≡ true → v ≡ false
-      unwritten true f = sym f
-      unwritten false f = refl
-
       go : (o : Option Burst) → find reads xs ≡ o → Latency from₀ (p .mode) o →
           cleared (Option·map (cutBy t c) o) ≡ lesser (cleared o) (t + CL (p .mode))
       go none f y = sym (lesser-low 0 (t + CL (p .mode)) (omega arith))
       go (some x) f y =
-          cut-clear c x f y (rw (unwritten (x .writes) (find-holds reads xs f)))
+          cut-clear c x f y (rw (not-true (x .writes) (find-holds reads xs f)))
           (λ a. find-all reads (held-over reads t xs q) f .by (find-holds reads xs f) a)
 
   pub terminate-next : (b a : ℕ) (ten : Bool) → X .reads ≤ t → laid (after (does BURST-TERMINATE b a ten)) ≡ cutRead (laid X) (p .mode) t true
@@ -487,12 +466,8 @@ module _ (s : Settings) (p : Part) (from₀ t : ℕ) (l : from₀ ≤ t) (g : So
       c : Command
       c = does PRECHARGE b a ten
 
-      unwritten : (v : Bool) → not v ≡ true → v ≡ false
-      unwritten true f = sym f
-      unwritten false f = refl
-
       cutting : (x : Burst) → find reads xs ≡ some x → cuts c x ≡ named (x .bank)
-      cutting x f = rw (unwritten (x .writes) (find-holds reads xs f)) (e x f)
+      cutting x f = rw (not-true (x .writes) (find-holds reads xs f)) (e x f)
 
       by : (x : Burst) → find reads xs ≡ some x → Latency from₀ (p .mode) (some x) → (w : Bool) → x .auto ≡ w → (v : Bool) → named (x .bank) ≡ v →
           cleared (some (cutBy t c x)) ≡ cond (named (cond w 4 (x .bank))) (lesser (cleared (some x)) (t + CL (p .mode))) (cleared (some x))
@@ -536,7 +511,7 @@ module _ (s : Settings) (p : Part) (from₀ t : ℕ) (l : from₀ ≤ t) (g : So
   unfolding closeAfter cutRead
   close-next b a m =
       ap laid entries
-      ∙ sym (ap (λ (d : List ℕ). cutRead d (p .mode) t (eqb (lib.ListN.getD d 38 0) b)) (rest-laid X b (t + s .tRP) m))
+      ∙ sym (ap (λ (d : List ℕ). cutRead d (p .mode) t (eqb (getD d 38 0) b)) (rest-laid X b (t + s .tRP) m))
     where
       c : Command
       c = does PRECHARGE b a false
@@ -589,7 +564,7 @@ module _ (s : Settings) (p : Part) (from₀ t : ℕ) (l : from₀ ≤ t) (g : So
       keeps-active i = neither (λ x. x .active) (p .banks i) (y i) refl (p .banks i .opened && true)
 
       small : (x : Burst) → find reads xs ≡ some x → true ≡ ltb (x .bank) 4
-      small x f = sym (borrow.Author.Tests.lt-ltb (x .bank) 4 (read-given x f .bank))
+      small x f = sym (lt-ltb (x .bank) 4 (read-given x f .bank))
 
       entries : after c ≡
           readGiven (cond (ltb (X .reader) 4) (lesser (X .bus) (t + CL (p .mode))) (X .bus)) (X .reads) (X .reader)

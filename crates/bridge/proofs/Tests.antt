@@ -1,6 +1,6 @@
 -- A rule's test of the part is a comparison with a deadline of its summary.
 use Prim.Native.Nat.{ℕ, zero, suc, _+_, _≤_, _<_}
-use mathlib.Core.Bool.{Bool, true, false, cond, not, _&&_, _||_}
+use mathlib.Core.Bool.{Bool, true, false, cond, not, _&&_, _||_, and-false}
 use mathlib.Core.List.{List, [], _∷_}
 use mathlib.Core.Option.{Option, none, some}
 use mathlib.Core.Path.{_≡_, refl, sym, ap, _∙_}
@@ -43,7 +43,7 @@ leb-later a b t = go (leb a b) refl
       where
         by : (w : Bool) → leb b t ≡ w → w ≡ (leb a t && w)
         by true f = sym (rw (le-leb a t (omega (arith, leb-true a b e, leb-true b t f))))
-        by false f = sym (mathlib.Core.Bool.and-false (leb a t))
+        by false f = sym (and-false (leb a t))
     go false e = by (leb a t) refl
       where
         by : (w : Bool) → leb a t ≡ w → w ≡ (w && leb b t)
@@ -83,3 +83,7 @@ ltb-is t c = go (leb c t) refl
     go : (v : Bool) → leb c t ≡ v → ltb t c ≡ not v
     go true e = le-ltb t c (leb-true c t e)
     go false e = lt-ltb t c (leb-false c t e)
+
+pub first-of : (a b : Bool) → (a && b) ≡ true → a ≡ true
+first-of true b e = refl
+first-of false b e = e

@@ -20,7 +20,7 @@ use Rattle.deadlines.specs.Deadlines.{startOf}
 use Rattle.part.specs.Steps.{codeOf, bankOf, addressOf, tenOf, stepBreaks, stepAfter, modeAfter}
 use Rattle.part.proofs.Codes as codes
 use Rattle.bridge.specs.Summary.{Held, laid, summary, from, heldBy, cleared}
-use Rattle.bridge.proofs.Tests.{num, after-is, leb-later, held-is, cleared-is}
+use Rattle.bridge.proofs.Tests.{num, first-of, after-is, leb-later, held-is, cleared-is}
 use Rattle.bridge.proofs.Bursts.{terminate-is, nothing}
 use Rattle.bridge.proofs.Rules.{does, quiet, deselect, read-agrees, write-agrees, active-agrees, terminate-agrees, close-agrees, close-all-agrees, refresh-agrees, mode-agrees}
 use Rattle.bridge.proofs.Next.{Sound, quiet-next, deselect-next, refresh-next, mode-next, active-next, read-next, write-next, terminate-next, close-next, close-all-next}
@@ -172,14 +172,10 @@ module _ (s : Settings) (wide : s .rowBits < 32) (p : Part) (from₀ t : ℕ) (l
       c : Command
       c = does BURST-TERMINATE b a ten
 
-      left : (u v : Bool) → (u && v) ≡ true → u ≡ true
-      left true v f = refl
-      left false v f = f
-
       held : lowestBroken s p t c ≡ none → X .reads ≤ t
       held z =
           leb-true (X .reads) t
-          (left (leb (X .reads) t) _ (sym (terminate-is from₀ t l (s .tWTR) (g .bursts) (g .late)) ∙ kept c z 13 thirteenth))
+          (first-of (leb (X .reads) t) _ (sym (terminate-is from₀ t l (s .tWTR) (g .bursts) (g .late)) ∙ kept c z 13 thirteenth))
 
   turn-refresh : codeOf w ≡ 8 → Turned (commandOf w)
   unfolding b a ten

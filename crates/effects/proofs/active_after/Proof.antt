@@ -2,140 +2,103 @@ use Rattle.deadlines.specs.Deadlines.{activeAfter}
 use borrow.Author.Needs.{needs}
 use Rattle.effects.proofs.active_after.Statement.{statement}
 use Rattle.effects.proofs.active_after.Tie as tie
-use Rattle.effects.proofs.active_after.Reads as reads
-use Rattle.effects.proofs.active_after.Lts as lts
-use Rattle.deadlines.proofs.sums.after.Reads as after-reads
-use Rattle.deadlines.proofs.sums.after2.Reads as after2-reads
 
--- src/effects.rt:15:7
 add-d : tie.Need-add-d
 add-d c = search needs
 
--- src/effects.rt:15:5
 mul-d : tie.Need-mul-d
 mul-d c = search needs
 
--- src/effects.rt:15:5
 element-write-d : tie.Need-element-write-d
 element-write-d c = search needs
 
--- src/effects.rt:16:29
 element-copy-out-after : tie.Need-element-copy-out-after
 element-copy-out-after c = search needs
 
--- src/effects.rt:16:20
 after-requires : tie.Need-after-requires
 after-requires c κs = search needs
 
--- src/effects.rt:16:7
 add-d-2 : tie.Need-add-d-2
 add-d-2 c = search needs
 
--- src/effects.rt:16:5
 mul-d-2 : tie.Need-mul-d-2
 mul-d-2 c = search needs
 
--- src/effects.rt:16:5
 element-write-d-2 : tie.Need-element-write-d-2
 element-write-d-2 c = search needs
 
--- src/effects.rt:17:29
 element-copy-out-after-2 : tie.Need-element-copy-out-after-2
 element-copy-out-after-2 c = search needs
 
--- src/effects.rt:17:20
 after-requires-2 : tie.Need-after-requires-2
 after-requires-2 c κs = search needs
 
--- src/effects.rt:17:7
 add-d-3 : tie.Need-add-d-3
 add-d-3 c = search needs
 
--- src/effects.rt:17:5
 mul-d-3 : tie.Need-mul-d-3
 mul-d-3 c = search needs
 
--- src/effects.rt:17:5
 element-write-d-3 : tie.Need-element-write-d-3
 element-write-d-3 c = search needs
 
--- src/effects.rt:18:30
 element-copy-out-after-3 : tie.Need-element-copy-out-after-3
 element-copy-out-after-3 c = search needs
 
--- src/effects.rt:18:21
 after-requires-3 : tie.Need-after-requires-3
 after-requires-3 c κs = search needs
 
--- src/effects.rt:18:7
 add-d-4 : tie.Need-add-d-4
 add-d-4 c = search needs
 
--- src/effects.rt:18:5
 mul-d-4 : tie.Need-mul-d-4
 mul-d-4 c = search needs
 
--- src/effects.rt:18:5
 element-write-d-4 : tie.Need-element-write-d-4
 element-write-d-4 c = search needs
 
--- src/effects.rt:19:29
 element-copy-out-after-4 : tie.Need-element-copy-out-after-4
 element-copy-out-after-4 c = search needs
 
--- src/effects.rt:19:20
 after-requires-4 : tie.Need-after-requires-4
 after-requires-4 c κs = search needs
 
--- src/effects.rt:19:7
 add-d-5 : tie.Need-add-d-5
 add-d-5 c = search needs
 
--- src/effects.rt:19:5
 mul-d-5 : tie.Need-mul-d-5
 mul-d-5 c = search needs
 
--- src/effects.rt:19:5
 element-write-d-5 : tie.Need-element-write-d-5
 element-write-d-5 c = search needs
 
--- src/effects.rt:20:7
 add-d-6 : tie.Need-add-d-6
 add-d-6 c = search needs
 
--- src/effects.rt:20:5
 mul-d-6 : tie.Need-mul-d-6
 mul-d-6 c = search needs
 
--- src/effects.rt:20:5
 element-write-d-6 : tie.Need-element-write-d-6
 element-write-d-6 c = search needs
 
--- src/effects.rt:21:31
 element-copy-out-after2 : tie.Need-element-copy-out-after2
 element-copy-out-after2 c = search needs
 
--- src/effects.rt:21:41
 element-copy-out-after2-2 : tie.Need-element-copy-out-after2-2
 element-copy-out-after2-2 c = search needs
 
--- src/effects.rt:21:21
 after2-requires : tie.Need-after2-requires
 after2-requires c κs = search needs
 
--- src/effects.rt:21:7
 add-d-7 : tie.Need-add-d-7
 add-d-7 c = search needs
 
--- src/effects.rt:21:5
 mul-d-7 : tie.Need-mul-d-7
 mul-d-7 c = search needs
 
--- src/effects.rt:21:5
 element-write-d-7 : tie.Need-element-write-d-7
 element-write-d-7 c = search needs
 
--- src/effects.rt:11:1
 returns : tie.Need-returns
 unfolding activeAfter
 returns c = rw (c .after22 .ensures, c .before .before .before .after4 .ensures, c .before .before .before .before .before .after3 .ensures, c .before .before .before .before .before .before .before .after2 .ensures, c .before .before .before .before .before .before .before .before .before .after .ensures)

@@ -2,52 +2,37 @@ use Rattle.deadlines.specs.Deadlines.{cutWrite}
 use borrow.Author.Needs.{needs}
 use Rattle.effects.proofs.cut_write.Statement.{statement}
 use Rattle.effects.proofs.cut_write.Tie as tie
-use Rattle.effects.proofs.cut_write.Reads as reads
-use Rattle.effects.proofs.cut_write.Lts as lts
-use Rattle.deadlines.proofs.sums.data_after.Reads as data-after-reads
-use Rattle.deadlines.proofs.sums.least.Reads as least-reads
 
--- src/effects.rt:47:14
 element-copy-out-o : tie.Need-element-copy-out-o
 element-copy-out-o c = search needs
 
--- src/effects.rt:48:30
 add-least : tie.Need-add-least
 add-least c = search needs
 
--- src/effects.rt:48:28
 mul-least : tie.Need-mul-least
 mul-least c = search needs
 
--- src/effects.rt:48:28
 element-copy-out-least : tie.Need-element-copy-out-least
 element-copy-out-least c = search needs
 
--- src/effects.rt:48:61
 element-copy-out-data-after : tie.Need-element-copy-out-data-after
 element-copy-out-data-after c = search needs
 
--- src/effects.rt:48:44
 data-after-requires : tie.Need-data-after-requires
 data-after-requires c κs = search needs
 
--- src/effects.rt:48:22
 least-requires : tie.Need-least-requires
 least-requires c κs = search needs
 
--- src/effects.rt:48:7
 add-d : tie.Need-add-d
 add-d c = search needs
 
--- src/effects.rt:48:5
 mul-d : tie.Need-mul-d
 mul-d c = search needs
 
--- src/effects.rt:48:5
 element-write-d : tie.Need-element-write-d
 element-write-d c = search needs
 
--- src/effects.rt:44:1
 returns : tie.Need-returns
 unfolding cutWrite
 returns c = rw (c .least .ensures, c .before .data-after .ensures)

@@ -2,23 +2,16 @@ use Rattle.deadlines.specs.Deadlines.{modeSetAfter}
 use borrow.Author.Needs.{needs}
 use Rattle.effects.proofs.mode_set_after.Statement.{statement}
 use Rattle.effects.proofs.mode_set_after.Tie as tie
-use Rattle.effects.proofs.mode_set_after.Reads as reads
-use Rattle.effects.proofs.mode_set_after.Lts as lts
-use Rattle.deadlines.proofs.sums.after.Reads as after-reads
 
--- src/effects.rt:114:24
 element-copy-out-after : tie.Need-element-copy-out-after
 element-copy-out-after c = search needs
 
--- src/effects.rt:114:15
 after-requires : tie.Need-after-requires
 after-requires c κs = search needs
 
--- src/effects.rt:114:5
 element-write-d : tie.Need-element-write-d
 element-write-d c = search needs
 
--- src/effects.rt:111:1
 returns : tie.Need-returns
 unfolding modeSetAfter
 returns c = rw (c .after .ensures)

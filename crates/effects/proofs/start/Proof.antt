@@ -2,79 +2,58 @@ use Rattle.deadlines.specs.Deadlines.{startOf}
 use borrow.Author.Needs.{needs}
 use Rattle.effects.proofs.start.Statement.{statement}
 use Rattle.effects.proofs.start.Tie as tie
-use Rattle.effects.proofs.start.Reads as reads
-use Rattle.effects.proofs.start.Lts as lts
-use Rattle.deadlines.proofs.sums.after.Reads as after-reads
 
--- src/lib.rt:153:34
 element-copy-out-after : tie.Need-element-copy-out-after
 element-copy-out-after c = search needs
 
--- src/lib.rt:153:22
 after-requires : tie.Need-after-requires
 after-requires c κs = search needs
 
--- src/lib.rt:153:5
 array-write-d : tie.Need-array-write-d
 array-write-d c = search needs
 
--- src/lib.rt:154:5
 array-write-d-2 : tie.Need-array-write-d-2
 array-write-d-2 c = search needs
 
--- src/lib.rt:155:30
 element-copy-out-after-2 : tie.Need-element-copy-out-after-2
 element-copy-out-after-2 c = search needs
 
--- src/lib.rt:155:48
 element-copy-out-after-3 : tie.Need-element-copy-out-after-3
 element-copy-out-after-3 c = search needs
 
--- src/lib.rt:155:9
 after-requires-2 : tie.Need-after-requires-2
 after-requires-2 c κs = search needs
 
--- src/lib.rt:156:5
 array-write-d-3 : tie.Need-array-write-d-3
 array-write-d-3 c = search needs
 
--- src/lib.rt:157:7
 add-d : tie.Need-add-d
 add-d c = search needs
 
--- src/lib.rt:157:5
 mul-d : tie.Need-mul-d
 mul-d c = search needs
 
--- src/lib.rt:157:5
 array-write-d-4 : tie.Need-array-write-d-4
 array-write-d-4 c = search needs
 
--- src/lib.rt:158:7
 add-d-2 : tie.Need-add-d-2
 add-d-2 c = search needs
 
--- src/lib.rt:158:5
 mul-d-2 : tie.Need-mul-d-2
 mul-d-2 c = search needs
 
--- src/lib.rt:158:5
 array-write-d-5 : tie.Need-array-write-d-5
 array-write-d-5 c = search needs
 
--- src/lib.rt:159:7
 add-d-3 : tie.Need-add-d-3
 add-d-3 c = search needs
 
--- src/lib.rt:159:5
 mul-d-3 : tie.Need-mul-d-3
 mul-d-3 c = search needs
 
--- src/lib.rt:159:5
 array-write-d-6 : tie.Need-array-write-d-6
 array-write-d-6 c = search needs
 
--- src/lib.rt:149:1
 returns : tie.Need-returns
 unfolding startOf
 returns c = rw (c .after2 .ensures, c .before .before .before .after .ensures)

@@ -2,103 +2,73 @@ use Rattle.deadlines.specs.Deadlines.{activeBreaks}
 use borrow.Author.Needs.{needs}
 use Rattle.rules.proofs.active_breaks.Statement.{statement}
 use Rattle.rules.proofs.active_breaks.Tie as tie
-use Rattle.rules.proofs.active_breaks.Reads as reads
-use Rattle.rules.proofs.active_breaks.Lts as lts
-use Rattle.rules.proofs.due_breaks.Reads as due-breaks-reads
-use Rattle.rules.proofs.or_else.Reads as or-else-reads
-use Rattle.rules.proofs.others_apart.Reads as others-apart-reads
-use Rattle.deadlines.proofs.sums.past.Reads as past-reads
-use Rattle.deadlines.proofs.sums.rows.Reads as rows-reads
 
--- src/rules.rt:102:9
 due-breaks-requires : tie.Need-due-breaks-requires
 due-breaks-requires c κs = search needs
 
--- src/rules.rt:103:9
 others-apart-requires : tie.Need-others-apart-requires
 others-apart-requires c κs = search needs
 
--- src/rules.rt:104:32
 add-past : tie.Need-add-past
 add-past c = search needs
 
--- src/rules.rt:104:30
 mul-past : tie.Need-mul-past
 mul-past c = search needs
 
--- src/rules.rt:104:30
 element-copy-out-past : tie.Need-element-copy-out-past
 element-copy-out-past c = search needs
 
--- src/rules.rt:104:25
 past-requires : tie.Need-past-requires
 past-requires c κs = search needs
 
--- src/rules.rt:104:9
 or-else-requires : tie.Need-or-else-requires
 or-else-requires c κs = search needs
 
--- src/rules.rt:105:33
 add-past-2 : tie.Need-add-past-2
 add-past-2 c = search needs
 
--- src/rules.rt:105:31
 mul-past-2 : tie.Need-mul-past-2
 mul-past-2 c = search needs
 
--- src/rules.rt:105:31
 element-copy-out-past-2 : tie.Need-element-copy-out-past-2
 element-copy-out-past-2 c = search needs
 
--- src/rules.rt:105:26
 past-requires-2 : tie.Need-past-requires-2
 past-requires-2 c κs = search needs
 
--- src/rules.rt:105:9
 or-else-requires-2 : tie.Need-or-else-requires-2
 or-else-requires-2 c κs = search needs
 
--- src/rules.rt:106:29
 element-copy-out-past-3 : tie.Need-element-copy-out-past-3
 element-copy-out-past-3 c = search needs
 
--- src/rules.rt:106:24
 past-requires-3 : tie.Need-past-requires-3
 past-requires-3 c κs = search needs
 
--- src/rules.rt:106:9
 or-else-requires-3 : tie.Need-or-else-requires-3
 or-else-requires-3 c κs = search needs
 
--- src/rules.rt:107:26
 add-or-else : tie.Need-add-or-else
 add-or-else c = search needs
 
--- src/rules.rt:107:24
 mul-or-else : tie.Need-mul-or-else
 mul-or-else c = search needs
 
--- src/rules.rt:107:24
 element-copy-out-or-else : tie.Need-element-copy-out-or-else
 element-copy-out-or-else c = search needs
 
--- src/rules.rt:107:9
 or-else-requires-4 : tie.Need-or-else-requires-4
 or-else-requires-4 c κs = search needs
 
--- src/rules.rt:108:24
 element-copy-out-rows : tie.Need-element-copy-out-rows
 element-copy-out-rows c = search needs
 
--- src/rules.rt:108:19
 rows-requires : tie.Need-rows-requires
 rows-requires c κs = search needs
 
--- src/rules.rt:108:5
 or-else-requires-5 : tie.Need-or-else-requires-5
 or-else-requires-5 c κs = search needs
 
--- src/rules.rt:98:1
 returns : tie.Need-returns
 unfolding activeBreaks
 returns c = rw (c .or-else5 .ensures, c .before .rows .ensures, c .before .before .before .or-else4 .ensures, c .before .before .before .before .before .or-else3 .ensures, c .before .before .before .before .before .before .past3 .ensures, c .before .before .before .before .before .before .before .before .or-else2 .ensures, c .before .before .before .before .before .before .before .before .before .past2 .ensures, c .before .before .before .before .before .before .before .before .before .before .before .or-else .ensures, c .before .before .before .before .before .before .before .before .before .before .before .before .past .ensures, c .before .before .before .before .before .before .before .before .before .before .before .before .before .before .others-apart .ensures, c .before .before .before .before .before .before .before .before .before .before .before .before .before .before .before .due-breaks .ensures)

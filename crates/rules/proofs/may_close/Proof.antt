@@ -5,36 +5,25 @@ use Rattle.rules.proofs.Banks.{either}
 use borrow.Author.Needs.{needs}
 use Rattle.rules.proofs.may_close.Statement.{statement}
 use Rattle.rules.proofs.may_close.Tie as tie
-use Rattle.rules.proofs.may_close.Reads as reads
-use Rattle.rules.proofs.may_close.Lts as lts
-use Rattle.rules.proofs.or_else.Reads as or-else-reads
-use Rattle.deadlines.proofs.sums.past.Reads as past-reads
 
--- src/rules.rt:148:26
 add-or-else : tie.Need-add-or-else
 add-or-else c = search needs
 
--- src/rules.rt:148:24
 mul-or-else : tie.Need-mul-or-else
 mul-or-else c = search needs
 
--- src/rules.rt:148:24
 element-copy-out-or-else : tie.Need-element-copy-out-or-else
 element-copy-out-or-else c = search needs
 
--- src/rules.rt:148:9
 or-else-requires : tie.Need-or-else-requires
 or-else-requires c κs = search needs
 
--- src/rules.rt:149:13
 past-requires : tie.Need-past-requires
 past-requires c κs = search needs
 
--- src/rules.rt:149:5
 or-else-requires-2 : tie.Need-or-else-requires-2
 or-else-requires-2 c κs = search needs
 
--- src/rules.rt:144:1
 returns : tie.Need-returns
 returns c = rw (c .or-else2 .ensures, c .before .past .ensures, c .before .before .or-else .ensures) (either (leb (c .before .before .before .before .args .from) (c .before .before .before .before .args .t)) (eqb (at (c .before .before .before .before .args .d .now) (OPEN + c .before .before .before .before .args .b)) 0) (c .before .before .before .before .args .rule) (c .before .before .before .before .args .rest))
 

@@ -2,51 +2,34 @@ use Rattle.deadlines.specs.Deadlines.{refreshBreaks}
 use borrow.Author.Needs.{needs}
 use Rattle.rules.proofs.refresh_breaks.Statement.{statement}
 use Rattle.rules.proofs.refresh_breaks.Tie as tie
-use Rattle.rules.proofs.refresh_breaks.Reads as reads
-use Rattle.rules.proofs.refresh_breaks.Lts as lts
-use Rattle.rules.proofs.all_idle.Reads as all-idle-reads
-use Rattle.rules.proofs.all_rested.Reads as all-rested-reads
-use Rattle.rules.proofs.due_breaks.Reads as due-breaks-reads
-use Rattle.rules.proofs.or_else.Reads as or-else-reads
-use Rattle.deadlines.proofs.sums.past.Reads as past-reads
 
--- src/rules.rt:174:9
 due-breaks-requires : tie.Need-due-breaks-requires
 due-breaks-requires c κs = search needs
 
--- src/rules.rt:175:29
 element-copy-out-past : tie.Need-element-copy-out-past
 element-copy-out-past c = search needs
 
--- src/rules.rt:175:24
 past-requires : tie.Need-past-requires
 past-requires c κs = search needs
 
--- src/rules.rt:175:9
 or-else-requires : tie.Need-or-else-requires
 or-else-requires c κs = search needs
 
--- src/rules.rt:176:9
 all-rested-requires : tie.Need-all-rested-requires
 all-rested-requires c κs = search needs
 
--- src/rules.rt:177:29
 element-copy-out-past-2 : tie.Need-element-copy-out-past-2
 element-copy-out-past-2 c = search needs
 
--- src/rules.rt:177:24
 past-requires-2 : tie.Need-past-requires-2
 past-requires-2 c κs = search needs
 
--- src/rules.rt:177:9
 or-else-requires-2 : tie.Need-or-else-requires-2
 or-else-requires-2 c κs = search needs
 
--- src/rules.rt:178:5
 all-idle-requires : tie.Need-all-idle-requires
 all-idle-requires c κs = search needs
 
--- src/rules.rt:171:1
 returns : tie.Need-returns
 unfolding refreshBreaks
 returns c = rw (c .all-idle .ensures, c .before .or-else2 .ensures, c .before .before .past2 .ensures, c .before .before .before .before .all-rested .ensures, c .before .before .before .before .before .or-else .ensures, c .before .before .before .before .before .before .past .ensures, c .before .before .before .before .before .before .before .before .due-breaks .ensures)

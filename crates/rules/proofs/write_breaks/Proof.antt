@@ -2,89 +2,64 @@ use Rattle.deadlines.specs.Deadlines.{writeBreaks}
 use borrow.Author.Needs.{needs}
 use Rattle.rules.proofs.write_breaks.Statement.{statement}
 use Rattle.rules.proofs.write_breaks.Tie as tie
-use Rattle.rules.proofs.write_breaks.Reads as reads
-use Rattle.rules.proofs.write_breaks.Lts as lts
-use Rattle.rules.proofs.due_breaks.Reads as due-breaks-reads
-use Rattle.rules.proofs.or_else.Reads as or-else-reads
-use Rattle.deadlines.proofs.sums.past.Reads as past-reads
 
--- src/rules.rt:127:9
 due-breaks-requires : tie.Need-due-breaks-requires
 due-breaks-requires c κs = search needs
 
--- src/rules.rt:128:29
 element-copy-out-past : tie.Need-element-copy-out-past
 element-copy-out-past c = search needs
 
--- src/rules.rt:128:24
 past-requires : tie.Need-past-requires
 past-requires c κs = search needs
 
--- src/rules.rt:128:9
 or-else-requires : tie.Need-or-else-requires
 or-else-requires c κs = search needs
 
--- src/rules.rt:129:29
 element-copy-out-past-2 : tie.Need-element-copy-out-past-2
 element-copy-out-past-2 c = search needs
 
--- src/rules.rt:129:24
 past-requires-2 : tie.Need-past-requires-2
 past-requires-2 c κs = search needs
 
--- src/rules.rt:129:9
 or-else-requires-2 : tie.Need-or-else-requires-2
 or-else-requires-2 c κs = search needs
 
--- src/rules.rt:130:33
 add-past : tie.Need-add-past
 add-past c = search needs
 
--- src/rules.rt:130:31
 mul-past : tie.Need-mul-past
 mul-past c = search needs
 
--- src/rules.rt:130:31
 element-copy-out-past-3 : tie.Need-element-copy-out-past-3
 element-copy-out-past-3 c = search needs
 
--- src/rules.rt:130:26
 past-requires-3 : tie.Need-past-requires-3
 past-requires-3 c κs = search needs
 
--- src/rules.rt:130:9
 or-else-requires-3 : tie.Need-or-else-requires-3
 or-else-requires-3 c κs = search needs
 
--- src/rules.rt:131:29
 element-copy-out-past-4 : tie.Need-element-copy-out-past-4
 element-copy-out-past-4 c = search needs
 
--- src/rules.rt:131:24
 past-requires-4 : tie.Need-past-requires-4
 past-requires-4 c κs = search needs
 
--- src/rules.rt:131:9
 or-else-requires-4 : tie.Need-or-else-requires-4
 or-else-requires-4 c κs = search needs
 
--- src/rules.rt:132:15
 add-or-else : tie.Need-add-or-else
 add-or-else c = search needs
 
--- src/rules.rt:132:13
 mul-or-else : tie.Need-mul-or-else
 mul-or-else c = search needs
 
--- src/rules.rt:132:13
 element-copy-out-or-else : tie.Need-element-copy-out-or-else
 element-copy-out-or-else c = search needs
 
--- src/rules.rt:132:5
 or-else-requires-5 : tie.Need-or-else-requires-5
 or-else-requires-5 c κs = search needs
 
--- src/rules.rt:123:1
 returns : tie.Need-returns
 unfolding writeBreaks
 returns c = rw (c .or-else5 .ensures, c .before .before .or-else4 .ensures, c .before .before .before .past4 .ensures, c .before .before .before .before .before .or-else3 .ensures, c .before .before .before .before .before .before .past3 .ensures, c .before .before .before .before .before .before .before .before .or-else2 .ensures, c .before .before .before .before .before .before .before .before .before .past2 .ensures, c .before .before .before .before .before .before .before .before .before .before .before .or-else .ensures, c .before .before .before .before .before .before .before .before .before .before .before .before .past .ensures, c .before .before .before .before .before .before .before .before .before .before .before .before .before .before .due-breaks .ensures)

@@ -4,14 +4,10 @@ use Rattle.deadlines.proofs.Shifts.{one-shifted}
 use borrow.Author.Needs.{needs}
 use Rattle.deadlines.proofs.sums.rows.Statement.{statement}
 use Rattle.deadlines.proofs.sums.rows.Tie as tie
-use Rattle.deadlines.proofs.sums.rows.Reads as reads
-use Rattle.deadlines.proofs.sums.rows.Lts as lts
 
--- src/sums.rt:77:5
 shl-result : tie.Need-shl-result
 shl-result c = search needs
 
--- src/sums.rt:74:1
 returns : tie.Need-returns
 returns c = rw (one-shifted (c .args .bits % 32) (omega arith))
 
