@@ -1,0 +1,2 @@
+-- The demands, each short enough to read aloud.
+pub mod Judging

@@ -1,0 +1,2 @@
+-- What the contracts of the public functions allow.
+pub mod Allowed

@@ -1,0 +1,1 @@
+// The demands, stated about what the public functions' contracts allow. There is no code here.
