@@ -1,2 +1,3 @@
 -- The demands, each short enough to read aloud.
 pub mod Judging
+pub mod Scheduling

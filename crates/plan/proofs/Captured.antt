@@ -94,7 +94,7 @@ pins-word (e ∷ es) (suc i) = let k : 2 * suc i + 1 ≡ suc (suc (2 * i + 1)) =
 
 -- ---- the capture
 
-settings-fit : (ws : List ℕ) → badSetting ws ≡ none → (i : ℕ) → i < 14 → settingFits i (getD ws i 0) ≡ true
+pub settings-fit : (ws : List ℕ) → badSetting ws ≡ none → (i : ℕ) → i < 14 → settingFits i (getD ws i 0) ≡ true
 unfolding badSetting
 settings-fit ws good i l = not-false (settingFits i (getD ws i 0)) (none-below (λ j. not (settingFits j (getD ws j 0))) 14 good i l)
 

@@ -1,0 +1,101 @@
+-- Demand 3, for whatever a schedule call may answer and leave in its buffer.
+use Prim.Native.Nat.{ℕ, _≤_, _<_}
+use mathlib.Core.Bool.{Bool, true, false, not}
+use mathlib.Core.List.{List, [], _∷_, _++_}
+use mathlib.Core.Option.{Option, none, some}
+use mathlib.Core.Path.{_≡_, refl, sym, ap, _∙_, subst}
+use native.Mathlib.Omega.{arith}
+use lib.Dec.{ltb, eqb}
+use lib.ListN.{length, take, drop}
+use lib.Seq.{take-append-seam, drop-append-seam}
+use borrow.Author.Tests.{eqb-true, not-false}
+use Rattle.reading.specs.Search.{given}
+use Rattle.reading.specs.Settings.{settingsOf, badSetting}
+use Rattle.reading.specs.Capture.{Event, eventsOf}
+use Rattle.reading.specs.Schedule.{Schedule, planned, late, badRequest, scheduleOf, captureOf}
+use Rattle.reading.specs.Memory.{Run, replay, plain}
+use Rattle.reading.specs.Answers.{Answer, refused, answered, unless, Outcome, leaves, fitting, keptUp, settingsIn, judgeAnswer, scheduleOutcome}
+use Rattle.memory.proofs.Same.{schedule-is-plain}
+use Rattle.plan.proofs.Ranged.{ranged}
+use Rattle.plan.proofs.Ready.{Planned, requests-fit, few-requests}
+use Rattle.plan.proofs.Captured.{allClean, settings-fit, settings-back, events-back, schedule-fits, schedule-clean}
+
+-- what stands behind a schedule that was written
+pub record Written (ws qs out : List ℕ) (n : ℕ) : Type 0 where
+  pub events : List Event
+  pub fourteen : length ws ≡ 14
+  pub settings : badSetting ws ≡ none
+  pub requests : badRequest (settingsOf ws) qs ≡ none
+  pub schedule : scheduleOf (settingsOf ws) qs ≡ planned events
+  pub bytes : take n (scheduleOutcome ws qs out .buffer) ≡ captureOf ws events
+  pub behind : drop n (scheduleOutcome ws qs out .buffer) ≡ drop n out
+
+not-given : (b : Bool) → given 0 b ≡ none → b ≡ false
+not-given true e = let z : _≡_ {A = ℕ} 0 1 = cc in absurd (omega arith)
+not-given false e = refl
+
+unrefused : {B : Type 0} {number place n : ℕ} → _≡_ {A = Answer ℕ} (refused number place) (answered n) → B
+unrefused e = let z : _≡_ {A = ℕ} 0 1 = cc in absurd (omega arith)
+
+module _ (ws qs out : List ℕ) (n : ℕ) (e : scheduleOutcome ws qs out .answer ≡ answered n) where
+  -- the schedule fits the buffer
+  fits : (es : List Event) → length ws ≡ 14 → badSetting ws ≡ none → badRequest (settingsOf ws) qs ≡ none → scheduleOf (settingsOf ws) qs ≡ planned es →
+      (v : Bool) →
+      leaves (unless 7 (given (length (captureOf ws es)) v) (answered (captureOf ws es))) out ≡ scheduleOutcome ws qs out → Written ws qs out n
+  fits es l b r s true h = unrefused (ap (λ o. o .answer) h ∙ e)
+  fits es l b r s false h =
+      let k : _≡_ {A = Answer ℕ} (answered (length (captureOf ws es))) (answered n) = ap (λ o. o .answer) h ∙ e in
+      let m : length (captureOf ws es) ≡ n = cc in
+      record {
+        events = es;
+        fourteen = l;
+        settings = b;
+        requests = r;
+        schedule = s;
+        bytes = rw (← m, ← h) (take-append-seam (captureOf ws es) (drop (length (captureOf ws es)) out));
+        behind = rw (← m, ← h) (drop-append-seam (captureOf ws es) (drop (length (captureOf ws es)) out));
+      }
+
+  -- no refusal applied
+  go : (a b c : Option ℕ) (x : Schedule) → given 0 (not (eqb (length ws) 14)) ≡ a → badSetting ws ≡ b → badRequest (settingsOf ws) qs ≡ c →
+      scheduleOf (settingsOf ws) qs ≡ x →
+      leaves (unless 2 a (unless 3 b (unless 5 c (keptUp x (λ es. fitting out (captureOf ws es)))))) out ≡ scheduleOutcome ws qs out → Written ws qs out n
+  go (some i) b c x p q r s h = unrefused (ap (λ o. o .answer) h ∙ e)
+  go none (some i) c x p q r s h = unrefused (ap (λ o. o .answer) h ∙ e)
+  go none none (some i) x p q r s h = unrefused (ap (λ o. o .answer) h ∙ e)
+  go none none none (late i) p q r s h = unrefused (ap (λ o. o .answer) h ∙ e)
+  go none none none (planned es) p q r s h =
+      fits es (eqb-true (length ws) 14 (not-false (eqb (length ws) 14) (not-given _ p))) q r s (ltb (length out) (length (captureOf ws es))) h
+
+  pub written : Written ws qs out n
+  unfolding scheduleOutcome
+  written =
+      go (given 0 (not (eqb (length ws) 14))) (badSetting ws) (badRequest (settingsOf ws) qs) (scheduleOf (settingsOf ws) qs) refl refl refl refl refl
+
+  abbrev capture : List ℕ
+  capture = take n (scheduleOutcome ws qs out .buffer)
+
+  -- Demand 3: the schedule that was written is a capture, and judging it says clean, with every event judged.
+  pub schedule-is-clean : judgeAnswer capture ≡ answered (allClean (written .events))
+  schedule-is-clean =
+      rw (written .bytes) (schedule-clean ws qs (written .fourteen) (written .settings) (written .requests) (written .events) (written .schedule))
+
+  -- Demand 3: for any starting contents, any words and masks, a part run by what was written returns the words, and ends
+  -- with the contents, of a plain memory that does the requests one after another.
+  pub schedule-is-memory : (r : Run) → replay (settingsIn capture) (eventsOf capture) r ≡ plain (settingsOf ws) qs r
+  schedule-is-memory r =
+      rw (written .bytes, settings-back ws es l (written .settings) few (y .rises) (y .early), events-back ws es l (written .settings) few (y .rises) (y .early))
+      (schedule-is-plain (settingsOf ws) (ranged ws (settings-fit ws (written .settings)) .sized) qs es
+      (requests-fit (settingsOf ws) qs (written .requests)) (written .schedule) r)
+    where
+      es : List Event
+      es = written .events
+
+      l : length ws ≡ 14
+      l = written .fourteen
+
+      y : Planned (settingsOf ws) qs es
+      y = schedule-fits ws qs l (written .settings) (written .requests) es (written .schedule)
+
+      few : length es ≤ 8000
+      few = omega (arith, y .few, few-requests (settingsOf ws) qs (written .requests))
