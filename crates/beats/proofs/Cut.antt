@@ -1,0 +1,89 @@
+-- What a burst keeps in the end, of all events behind it, is what is found by looking ahead.
+use Prim.Native.Nat.{ℕ, suc, _+_, _-_, _≤_}
+use mathlib.Core.Bool.{Bool, true, false, cond, not, _&&_}
+use mathlib.Core.List.{List, [], _∷_}
+use mathlib.Core.Path.{_≡_, refl, ap, _∙_}
+use native.Mathlib.Omega.{arith}
+use borrow.Author.Tests.{ltb-false, le-ltb}
+use lib.Dec.{ltb, eqb}
+use Rattle.reading.specs.Search.{lesser}
+use Rattle.reading.specs.Mode.{h}
+use Rattle.reading.specs.Settings.{Settings}
+use Rattle.reading.specs.Capture.{Event}
+use Rattle.reading.specs.Commands.{commandOf}
+use Rattle.reading.specs.Bursts.{Burst, keep, cuts, cutBy}
+use Rattle.reading.specs.Part.{Part, burstGiven}
+use Rattle.reading.proofs.Cuts.{auto-uncut}
+use Rattle.part.specs.Steps.{codeOf, bankOf, tenOf}
+use Rattle.beats.specs.Kept.{gives, cutsBurst, keptBy, keptAhead, keptOf}
+use Rattle.beats.proofs.Commands.{write-is, cuts-is}
+
+-- events whose cycles rise, none before `from`
+abbrev pub Rises : ℕ → List Event → Type 0
+Rises from [] = Unit {0}
+Rises from (e ∷ es) = (from ≤ e .cycle) × Rises (suc (e .cycle)) es
+
+-- a burst as the events behind it cut it
+abbrev pub cutByAll : List Event → Burst → Burst
+cutByAll [] x = x
+cutByAll (e ∷ es) x = cutByAll es (cutBy (e .cycle) (commandOf (e .pins)) x)
+
+-- ---- a burst that can be cut
+
+-- nothing cuts it from k + h on
+past-end : (b k end pairs from : ℕ) (es : List Event) → end ≤ from → Rises from es → keptAhead b k end pairs es ≡ pairs
+unfolding keptAhead
+past-end b k end pairs from [] l r = refl
+past-end b k end pairs from (e ∷ es) l r = rw (le-ltb (e .cycle) end (omega (arith, r .0)))
+
+-- the pins b gave it
+module _ (b : ℕ) (x : Burst) (w : x .writes ≡ eqb (codeOf b) 2) (f : x .bank ≡ bankOf b) (a : x .auto ≡ false) where
+  abbrev end : ℕ
+  end = x .k + h (x .mode)
+
+  one-cut : (pairs : ℕ) (e : Event) (v : Bool) → ltb (e .cycle) end ≡ v →
+      cutBy (e .cycle) (commandOf (e .pins)) (keep pairs x) ≡ keep (cond v (keptBy b (x .k) pairs e) pairs) x
+  one-cut pairs e v l =
+      ap (λ (z : Bool). cond z (keep (lesser pairs (e .cycle - x .k)) x) (keep pairs x)) tested ∙ go (cutsBurst b (e .pins)) v
+    where
+      tested : (cuts (commandOf (e .pins)) x && (not (x .auto) && ltb (e .cycle) end)) ≡ (cutsBurst b (e .pins) && (not false && v))
+      tested = rw (cuts-is (e .pins) b x w f, a, l)
+
+      go : (u v : Bool) → cond (u && (not false && v)) (keep (lesser pairs (e .cycle - x .k)) x) (keep pairs x) ≡ keep (cond v (cond u (lesser pairs (e .cycle - x .k)) pairs) pairs) x
+      go true true = refl
+      go true false = refl
+      go false true = refl
+      go false false = refl
+
+  cut-ahead : (es : List Event) (from pairs : ℕ) → Rises from es → cutByAll es (keep pairs x) ≡ keep (keptAhead b (x .k) end pairs es) x
+  unfolding keptAhead
+  cut-ahead [] from pairs r = refl
+  cut-ahead (e ∷ es) from pairs r = go (ltb (e .cycle) end) refl (λ left. cut-ahead es (suc (e .cycle)) left (r .1))
+    where
+      go : (v : Bool) → ltb (e .cycle) end ≡ v → ((left : ℕ) → cutByAll es (keep left x) ≡ keep (keptAhead b (x .k) end left es) x) →
+          cutByAll es (cutBy (e .cycle) (commandOf (e .pins)) (keep pairs x)) ≡ keep (cond (ltb (e .cycle) end) (keptAhead b (x .k) end (keptBy b (x .k) pairs e) es) pairs) x
+      go true l ih = ap (cutByAll es) (one-cut pairs e true l) ∙ ih (keptBy b (x .k) pairs e) ∙ rw l
+      go false l ih =
+          ap (cutByAll es) (one-cut pairs e false l) ∙ ih pairs
+          ∙ ap (λ (n : ℕ). keep n x) (past-end b (x .k) end pairs (suc (e .cycle)) es (omega (arith, ltb-false (e .cycle) end l)) (r .1))
+          ∙ rw l
+
+-- ---- a burst with auto precharge
+
+uncut : (es : List Event) (x : Burst) → x .auto ≡ true → cutByAll es x ≡ x
+uncut [] x a = refl
+uncut (e ∷ es) x a = ap (cutByAll es) (auto-uncut (e .cycle) (commandOf (e .pins)) x a) ∙ uncut es x a
+
+-- ---- either
+
+module _ (s : Settings) (p : Part) (e : Event) (es : List Event) (r : Rises (suc (e .cycle)) es) (g : gives (e .pins) ≡ true) where
+  abbrev x : Burst
+  x = burstGiven s p (e .cycle) (commandOf (e .pins))
+
+  pub kept-in-the-end : cutByAll es x ≡ keep (keptOf (p .mode) e es) x
+  unfolding keptOf
+  kept-in-the-end = go (tenOf (e .pins)) refl
+    where
+      go : (v : Bool) → tenOf (e .pins) ≡ v → cutByAll es x ≡ keep (keptOf (p .mode) e es) x
+      go true a = uncut es x a ∙ rw (g, a)
+      go false a = cut-ahead (e .pins) x (write-is (e .pins)) refl a es (suc (e .cycle)) (h (p .mode)) r ∙ rw (g, a)

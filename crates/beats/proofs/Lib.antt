@@ -1,0 +1,8 @@
+-- Laws of columns and cells, of the events from one on, and of kept pairs; and that a capture's cells are found so.
+pub mod Columns
+pub mod Storing
+pub mod Events
+pub mod Looking
+pub mod Commands
+pub mod Cut
+pub mod Ahead

@@ -1,0 +1,98 @@
+-- A turn of the look ahead: the pairs in the end are those that the events from j on leave of the pairs so far.
+use Prim.Native.Nat.{ℕ, _+_, _-_, _≤_, _<_}
+use mathlib.Core.Bool.{Bool, true, false, cond}
+use mathlib.Core.List.{List, [], _∷_}
+use mathlib.Core.Path.{_≡_, refl, sym, ap, _∙_}
+use native.Mathlib.Omega.{arith}
+use borrow.Author.Tests.{lt-ltb, le-ltb, leb-false}
+use lib.Dec.{leb, ltb}
+use Rattle.reading.specs.Search.{lesser}
+use Rattle.reading.specs.Mode.{h}
+use Rattle.reading.specs.Capture.{Event, eventAt}
+use Rattle.part.specs.Steps.{tenOf}
+use Rattle.beats.specs.Kept.{eventsFrom, gives, cutsBurst, keptBy, keptAhead, cutAhead, keptOf}
+use Rattle.beats.proofs.Columns.{half-le}
+use Rattle.beats.proofs.Events.{next-event, no-event}
+
+module _ (part : List ℕ) (n i mode : ℕ) where
+  abbrev burst : Event
+  burst = eventAt part i
+
+  abbrev left : ℕ → ℕ → ℕ
+  left pairs j = keptAhead (burst .pins) (burst .cycle) (burst .cycle + h mode) pairs (eventsFrom part n j)
+
+  pub record Looking (pairs j : ℕ) : Type 0 where
+    pub behind : i < j
+    pub within : j ≤ n
+    pub same : cutAhead mode burst (eventsFrom part n (i + 1)) ≡ left pairs j
+
+  pub begins : {half : ℕ} → i < n → half ≡ h mode → Looking half (i + 1)
+  begins l e = record { behind = omega arith; within = omega arith; same = rw e }
+
+  -- by what was read of the burst and of the event behind it
+  module _ {pairs j b k half : ℕ} (z : Looking pairs j) (eb : b ≡ burst .pins) (ek : k ≡ burst .cycle) (eh : half ≡ h mode) where
+    pub goes-on : {t pins next : ℕ} → j < n → t ≡ eventAt part j .cycle → pins ≡ eventAt part j .pins → t < k + half →
+        next ≡ cond (cutsBurst b pins) (lesser pairs (t - k)) pairs → Looking next (j + 1)
+    unfolding keptAhead
+    goes-on {t} {pins} {next} l et ep m e =
+        record {
+          behind = omega (arith, z .behind);
+          within = omega arith;
+          same = z .same ∙ rw (next-event part n j l, ← et, ← ep, ← eb, ← ek, ← eh, lt-ltb t (k + half) m, e);
+        }
+
+    pub stops : {t : ℕ} → j < n → t ≡ eventAt part j .cycle → k + half ≤ t → pairs ≡ cutAhead mode burst (eventsFrom part n (i + 1))
+    unfolding keptAhead
+    stops {t} l et m = sym (z .same ∙ rw (next-event part n j l, ← et, ← ek, ← eh, le-ltb t (k + half) m))
+
+  pub ends : {pairs j : ℕ} → Looking pairs j → n ≤ j → pairs ≡ cutAhead mode burst (eventsFrom part n (i + 1))
+  unfolding keptAhead
+  ends {pairs} {j} z l = sym (z .same ∙ rw (no-event part n j l))
+
+-- no more are kept than there were
+lesser-le : (a b : ℕ) → lesser a b ≤ a
+lesser-le a b = go (leb a b) refl
+  where
+    go : (v : Bool) → leb a b ≡ v → cond v a b ≤ a
+    go true e = omega arith
+    go false e = omega (arith, leb-false a b e)
+
+by-le : (b k pairs : ℕ) (e : Event) → keptBy b k pairs e ≤ pairs
+by-le b k pairs e = go (cutsBurst b (e .pins))
+  where
+    go : (v : Bool) → cond v (lesser pairs (e .cycle - k)) pairs ≤ pairs
+    go true = lesser-le pairs (e .cycle - k)
+    go false = omega arith
+
+ahead-le : (b k end pairs : ℕ) (es : List Event) → keptAhead b k end pairs es ≤ pairs
+unfolding keptAhead
+ahead-le b k end pairs [] = omega arith
+ahead-le b k end pairs (e ∷ es) = go (ltb (e .cycle) end) (ahead-le b k end (keptBy b k pairs e) es)
+  where
+    go : (v : Bool) → keptAhead b k end (keptBy b k pairs e) es ≤ keptBy b k pairs e → cond v (keptAhead b k end (keptBy b k pairs e) es) pairs ≤ pairs
+    go true ih = omega (arith, ih, by-le b k pairs e)
+    go false ih = omega arith
+
+pub kept-le : (mode : ℕ) (e : Event) (es : List Event) → keptOf mode e es ≤ 64
+unfolding keptOf
+kept-le mode e es = go (gives (e .pins)) (tenOf (e .pins))
+  where
+    go : (v a : Bool) → cond v (cond a (h mode) (cutAhead mode e es)) 0 ≤ 64
+    go true true = half-le mode
+    go true false = omega (arith, half-le mode, ahead-le (e .pins) (e .cycle) (e .cycle + h mode) (h mode) es)
+    go false a = omega arith
+
+-- the pairs of an event, by what was read of its pins
+module _ (mode : ℕ) (e : Event) (es : List Event) {pins : ℕ} (p : pins ≡ e .pins) {given : Bool} (g : given ≡ gives pins) where
+  pub kept-none : given ≡ false → 0 ≡ keptOf mode e es
+  unfolding keptOf
+  kept-none f = rw (← p, ← g, f)
+
+  module _ (f : given ≡ true) {auto : Bool} (a : auto ≡ tenOf pins) where
+    pub kept-all : {half : ℕ} → auto ≡ true → half ≡ h mode → half ≡ keptOf mode e es
+    unfolding keptOf
+    kept-all t i = rw (← p, ← g, f, ← a, t) i
+
+    pub kept-cut : {pairs : ℕ} → auto ≡ false → pairs ≡ cutAhead mode e es → pairs ≡ keptOf mode e es
+    unfolding keptOf
+    kept-cut t i = i ∙ rw (ap gives (sym p) ∙ sym g ∙ f, ap tenOf (sym p) ∙ sym a ∙ t)

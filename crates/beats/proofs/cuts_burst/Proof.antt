@@ -1,0 +1,53 @@
+use borrow.Author.Tests.{eq-eqb, ne-eqb}
+use borrow.Author.Needs.{needs}
+use Rattle.beats.proofs.cuts_burst.Statement.{statement}
+use Rattle.beats.proofs.cuts_burst.Tie as tie
+
+code-requires : tie.Need-code-requires
+code-requires c κs = search needs
+
+code-requires-2 : tie.Need-code-requires-2
+code-requires-2 c κs = search needs
+
+returns : tie.Need-returns
+returns c = rw (← c .before .code2 .ensures, ← c .before .before .code .ensures, eq-eqb _ 2 (c .if1 .taken))
+
+returns-2 : tie.Need-returns-2
+returns-2 c = rw (← c .before .before .code2 .ensures, ← c .before .before .before .code .ensures, ne-eqb _ 2 (c .before .if1 .left), eq-eqb _ 10 (c .if2 .taken))
+
+returns-3 : tie.Need-returns-3
+returns-3 c = rw (← c .before .before .before .code2 .ensures, ← c .before .before .before .before .code .ensures, ne-eqb _ 2 (c .before .before .if1 .left), ne-eqb _ 10 (c .before .if2 .left), eq-eqb _ 6 (c .if3 .taken))
+
+returns-4 : tie.Need-returns-4
+returns-4 c = rw (← c .before .before .before .before .code2 .ensures, ← c .before .before .before .before .before .code .ensures, ne-eqb _ 2 (c .before .before .before .if1 .left), ne-eqb _ 10 (c .before .before .if2 .left), ne-eqb _ 6 (c .before .if3 .left), ne-eqb _ 4 (c .if4 .taken))
+
+ten-requires : tie.Need-ten-requires
+ten-requires c κs = search needs
+
+returns-5 : tie.Need-returns-5
+returns-5 c = rw (← c .before .before .before .before .before .before .code2 .ensures, ← c .before .before .before .before .before .before .before .code .ensures, ne-eqb _ 2 (c .before .before .before .before .before .if1 .left), ne-eqb _ 10 (c .before .before .before .before .if2 .left), ne-eqb _ 6 (c .before .before .before .if3 .left), eq-eqb _ 4 (c .before .before .if4 .left), ← c .before .ten .ensures, c .if5 .taken)
+
+bank-requires : tie.Need-bank-requires
+bank-requires c κs = search needs
+
+bank-requires-2 : tie.Need-bank-requires-2
+bank-requires-2 c κs = search needs
+
+returns-6 : tie.Need-returns-6
+returns-6 c = rw (← c .before .before .before .before .before .before .before .before .code2 .ensures, ← c .before .before .before .before .before .before .before .before .before .code .ensures, ne-eqb _ 2 (c .before .before .before .before .before .before .before .if1 .left), ne-eqb _ 10 (c .before .before .before .before .before .before .if2 .left), ne-eqb _ 6 (c .before .before .before .before .before .if3 .left), eq-eqb _ 4 (c .before .before .before .before .if4 .left), ← c .before .before .before .ten .ensures, c .before .before .if5 .left, c .bank2 .ensures .0, c .before .bank .ensures .0)
+
+pub cuts-burst-spec : {M : Type 1} → statement M
+cuts-burst-spec =
+    tie.close
+    (tie.spec
+    code-requires
+    code-requires-2
+    returns
+    returns-2
+    returns-3
+    returns-4
+    ten-requires
+    returns-5
+    bank-requires
+    bank-requires-2
+    returns-6)

@@ -1,0 +1,83 @@
+-- The invariant: what the events from j on leave of the pairs so far is what is kept in the end (Looking).
+use native.Mathlib.Omega.{arith}
+use borrow.Author.Needs.{needs}
+use Prim.Native.Nat.{ℕ, _-_, _/_}
+use mathlib.Core.Path.{ap}
+use Rattle.capture.proofs.Accepted.{cycle-fits, cycles-rise}
+use Rattle.beats.proofs.Columns.{half-le}
+use Rattle.beats.proofs.Looking.{Looking, begins, goes-on, stops, ends}
+use Rattle.beats.proofs.look_ahead.Statement.{statement}
+use Rattle.beats.proofs.look_ahead.Tie as tie
+
+abbrev Inv-later : tie.InvT-later
+Inv-later part n i mode at burst k pairs₀ end j₀ pairs j = Looking part n i mode pairs j
+
+abbrev μ-later : tie.MeasureT-later
+μ-later part n i mode at burst k pairs₀ end j₀ pairs j = n - j
+
+pins-at-requires : tie.Need-pins-at-requires Inv-later μ-later
+pins-at-requires c κs = omega (arith, c .before .pre .0 .long)
+
+cycle-at-requires : tie.Need-cycle-at-requires Inv-later μ-later
+cycle-at-requires c κs = omega (arith, c .before .before .pre .0 .long)
+
+length-of-requires : tie.Need-length-of-requires Inv-later μ-later
+length-of-requires c κs = search needs
+
+add-end : tie.Need-add-end Inv-later μ-later
+add-end c = rw (c .length-of .ensures) (omega (arith, half-le (c .before .before .before .before .args .mode), c .before .cycle-at .ensures, cycle-fits (c .before .before .before .before .args .part .now) (c .before .before .before .before .args .i) (c .before .before .before .before .pre .0 .events (c .before .before .before .before .args .i) (c .before .before .before .before .pre .1))))
+
+add-j : tie.Need-add-j Inv-later μ-later
+add-j c = omega arith
+
+later-holds : tie.Need-later-holds Inv-later μ-later
+later-holds c = begins (c .before .before .before .before .args .part .now) (c .before .before .before .before .args .n) (c .before .before .before .before .args .i) (c .before .before .before .before .args .mode) (c .before .before .before .before .pre .1) (ap (λ (v : ℕ). v / 2) (c .length-of .ensures))
+
+cast-behind : tie.Need-cast-behind Inv-later μ-later
+cast-behind c = omega arith
+
+cycle-at-requires-2 : tie.Need-cycle-at-requires-2 Inv-later μ-later
+cycle-at-requires-2 c κs = omega (arith, c .before .before .before .before .before .before .pre .0 .long)
+
+returns : tie.Need-returns Inv-later μ-later
+returns c = stops (c .before .before .before .before .before .before .before .before .args .part .now) (c .before .before .before .before .before .before .before .before .args .n) (c .before .before .before .before .before .before .before .before .args .i) (c .before .before .before .before .before .before .before .before .args .mode) (c .before .before .before .later .inv) (c .before .before .before .before .before .before .pins-at .ensures) (c .before .before .before .before .before .cycle-at .ensures) (ap (λ (v : ℕ). v / 2) (c .before .before .before .before .length-of .ensures)) (c .before .before .later-test .taken) (c .before .cycle-at2 .ensures) (c .if1 .taken)
+
+pins-at-requires-2 : tie.Need-pins-at-requires-2 Inv-later μ-later
+pins-at-requires-2 c κs = omega (arith, c .before .before .before .before .before .before .before .before .pre .0 .long)
+
+kept-by-requires : tie.Need-kept-by-requires Inv-later μ-later
+kept-by-requires c κs = omega (arith, c .before .before .before .before .before .before .cycle-at .ensures, c .before .before .cycle-at2 .ensures, cycles-rise (c .before .before .before .before .before .before .before .before .before .args .part .now) (c .before .before .before .before .before .before .before .before .before .args .n) (c .before .before .before .before .before .before .before .before .before .pre .0 .events) (c .before .before .before .before .before .before .before .before .before .args .i) (c .before .before .before .before .later .j) (c .before .before .before .before .later .inv .behind) (c .before .before .before .later-test .taken))
+
+add-j-2 : tie.Need-add-j-2 Inv-later μ-later
+add-j-2 c = omega arith
+
+later-less : tie.Need-later-less Inv-later μ-later
+later-less c = omega arith
+
+later-again : tie.Need-later-again Inv-later μ-later
+later-again c = goes-on (c .before .before .before .before .before .before .before .before .before .before .args .part .now) (c .before .before .before .before .before .before .before .before .before .before .args .n) (c .before .before .before .before .before .before .before .before .before .before .args .i) (c .before .before .before .before .before .before .before .before .before .before .args .mode) (c .before .before .before .before .before .later .inv) (c .before .before .before .before .before .before .before .before .pins-at .ensures) (c .before .before .before .before .before .before .before .cycle-at .ensures) (ap (λ (v : ℕ). v / 2) (c .before .before .before .before .before .before .length-of .ensures)) (c .before .before .before .before .later-test .taken) (c .before .before .before .cycle-at2 .ensures) (c .before .pins-at2 .ensures) (omega (arith, c .before .before .if1 .left)) (c .kept-by .ensures)
+
+returns-2 : tie.Need-returns-2 Inv-later μ-later
+returns-2 c = ends (c .before .before .before .before .before .before .args .part .now) (c .before .before .before .before .before .before .args .n) (c .before .before .before .before .before .before .args .i) (c .before .before .before .before .before .before .args .mode) (c .before .later .inv) (omega arith)
+
+pub look-ahead-spec : {M : Type 1} → statement M
+look-ahead-spec =
+    tie.close
+    (tie.spec
+    Inv-later
+    μ-later
+    pins-at-requires
+    cycle-at-requires
+    length-of-requires
+    add-end
+    add-j
+    later-holds
+    cast-behind
+    cycle-at-requires-2
+    returns
+    pins-at-requires-2
+    kept-by-requires
+    add-j-2
+    later-less
+    later-again
+    returns-2)

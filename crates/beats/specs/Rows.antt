@@ -1,0 +1,37 @@
+-- The cells of a burst in its row, and the row of a bank.
+use Prim.Native.Nat.{ℕ, _+_, _*_, _%_, _^_, _≤_, _<_}
+use mathlib.Core.Bool.{Bool, cond}
+use mathlib.Core.List.{List, map}
+use lib.Dec.{eqb}
+use lib.Bits.{bitXor}
+use Rattle.reading.specs.Search.{count}
+use Rattle.reading.specs.Settings.{Settings}
+use Rattle.reading.specs.Bursts.{beatColumn}
+use Rattle.part.specs.Steps.{codeOf, addressOf}
+
+-- the bits that a part of this kind may have
+pub record Sized (s : Settings) : Type 0 where
+  pub rows : s .rowBits ≤ 14
+  pub columns : s .columnBits ≤ 11
+
+-- a burst in a row of such a part, of at most the pairs that a mode word can ask for
+pub record InRow (first column pairs : ℕ) : Type 0 where
+  pub cell : first < 2 ^ 27
+  pub low : column < 2048
+  pub short : pairs ≤ 64
+
+-- the place of a beat in a block of some length
+abbrev pub placeIn : Bool → ℕ → ℕ → ℕ → ℕ
+placeIn interleaved length column beat = cond interleaved (bitXor (column % length) beat) ((column + beat) % length)
+
+-- the number of a row's first cell
+abbrev pub firstCell : Settings → ℕ → ℕ → ℕ
+firstCell s bank row = (bank * 2 ^ s .rowBits + row) * 2 ^ s .columnBits
+
+-- the cells of the first beats of a burst, in the row that begins with cell `first`
+unfoldable pub beatCells : ℕ → ℕ → ℕ → ℕ → List ℕ
+beatCells first mode column beats = map (λ j. first + beatColumn mode column j) (count 0 beats)
+
+-- the row of the pins' bank: ACTIVE opens it on its row
+abbrev pub rowAfter : ℕ → ℕ → ℕ
+rowAfter row w = cond (eqb (codeOf w) 12) (addressOf w) row

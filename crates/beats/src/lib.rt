@@ -1,0 +1,228 @@
+// Bursts by arithmetic: the columns and cells of their beats, and the pairs that they keep, found by looking ahead.
+ghost use mathlib.Core.Path.{_≡_};
+ghost use mathlib.Core.Bool.{cond};
+ghost use Prim.Native.Nat.{_+_, _*_, _-_, _^_, _%_, _≤_, _<_};
+ghost use lib.ListN.{length};
+ghost use lib.Seq.{sets};
+ghost use Rattle.reading.specs.Search.{lesser};
+ghost use Rattle.reading.specs.Mode.{BL, h, interleaved};
+ghost use Rattle.reading.specs.Settings.{settingsOf};
+ghost use Rattle.reading.specs.Capture.{eventAt};
+ghost use Rattle.reading.specs.Bursts.{columnOf, beatColumn};
+ghost use Rattle.part.specs.Steps.{codeOf, bankOf, addressOf, tenOf, modeAfter};
+ghost use Rattle.beats.specs.Kept.{Fit, gives, cutsBurst, eventsFrom, cutAhead, keptOf};
+ghost use Rattle.beats.specs.Rows.{Sized, InRow, placeIn, firstCell, beatCells, rowAfter};
+
+// ---- what the pins of an event ask for
+
+// CS#, RAS#, CAS#, WE#, CS# the lowest.
+fn code(pins: u32) -> u32
+    ensures { λ r. ⌜ r ≡ codeOf pins ⌝ }
+{
+    pins / 65_536 % 16
+}
+
+pub fn bank(pins: u32) -> u32
+    ensures { λ r. ⌜ (r ≡ bankOf pins) × (r < 4) ⌝ }
+{
+    pins / 16_384 % 4
+}
+
+fn address(pins: u32) -> u32
+    ensures { λ r. ⌜ (r ≡ addressOf pins) × (r < 16384) ⌝ }
+{
+    pins % 16_384
+}
+
+// A10: on READ and WRITE it asks for auto precharge, on PRECHARGE it means all banks.
+fn ten(pins: u32) -> bool
+    ensures { λ r. ⌜ r ≡ tenOf pins ⌝ }
+{
+    pins / 1024 % 2 == 1
+}
+
+fn gives_burst(pins: u32) -> bool
+    ensures { λ r. ⌜ r ≡ gives pins ⌝ }
+{
+    let asked = code(pins);
+    if asked == 10 {
+        return true;
+    }
+    asked == 2
+}
+
+fn cuts_burst(burst: u32, pins: u32) -> bool
+    ensures { λ r. ⌜ r ≡ cutsBurst burst pins ⌝ }
+{
+    let asked = code(pins);
+    if code(burst) == 2 {
+        return asked == 2;
+    }
+    if asked == 10 {
+        return true;
+    }
+    if asked == 6 {
+        return true;
+    }
+    if asked != 4 {
+        return false;
+    }
+    if ten(pins) {
+        return true;
+    }
+    bank(burst) == bank(pins)
+}
+
+// MODE REGISTER SET with 00 replaces the mode word at once.
+pub fn mode_after(mode: u32, pins: u32) -> u32
+    ensures { λ r. ⌜ r ≡ modeAfter mode pins ⌝ }
+{
+    if code(pins) != 0 {
+        return mode;
+    }
+    if bank(pins) != 0 {
+        return mode;
+    }
+    address(pins)
+}
+
+// ACTIVE opens its bank on its row.
+pub fn row_after(row: u32, pins: u32) -> u32
+    ensures { λ r. ⌜ r ≡ rowAfter row pins ⌝ }
+{
+    if code(pins) == 12 {
+        return address(pins);
+    }
+    row
+}
+
+// ---- columns and cells
+
+// BL of a mode word.
+fn length_of(mode: u32) -> u32
+    ensures { λ r. ⌜ r ≡ BL mode ⌝ }
+{
+    1 << (mode % 8)
+}
+
+fn power(bits: u32) -> u32
+    requires { ⌜ bits < 32 ⌝ }
+    ensures { λ r. ⌜ r ≡ 2 ^ bits ⌝ }
+{
+    1 << bits
+}
+
+// A0-A9, cut to the column bits; with 11 column bits, A11 is column bit 10.
+pub fn column(s: &[u32; 14], pins: u32) -> u32
+    requires { ⌜ Sized (settingsOf (now s)) ⌝ }
+    ensures { λ r. ⌜ r ≡ columnOf (settingsOf (now (s .entry))) (addressOf pins) ⌝ }
+{
+    let a = address(pins);
+    let low = a % 1024 % power(s[2]);
+    if s[2] == 11 {
+        return low + 1024 * (a / 2048 % 2);
+    }
+    low
+}
+
+// The number of a row's first cell.
+pub fn first_cell(s: &[u32; 14], bank: u32, row: u32) -> u32
+    requires { ⌜ Sized (settingsOf (now s)) × ((bank < 4) × (row < 16384)) ⌝ }
+    ensures { λ r. ⌜ r ≡ firstCell (settingsOf (now (s .entry))) bank row ⌝ }
+{
+    (bank * power(s[1]) + row) * power(s[2])
+}
+
+// The place of a beat in its block.
+fn place(interleaved: bool, length: u32, column: u32, beat: u32) -> u32
+    requires { ⌜ (0 < length) × (column + beat < 2 ^ 32) ⌝ }
+    ensures { λ r. ⌜ r ≡ placeIn interleaved length column beat ⌝ }
+{
+    if interleaved {
+        return column % length ^ beat;
+    }
+    (column + beat) % length
+}
+
+// The column of a beat, in the aligned block of BL columns that holds `column`.
+fn beat_column(mode: u32, column: u32, beat: u32) -> u32
+    requires { ⌜ (column < 2048) × (beat < 128) ⌝ }
+    ensures { λ r. ⌜ r ≡ beatColumn mode column beat ⌝ }
+{
+    let length = length_of(mode);
+    column / length * length + place(mode / 8 % 2 == 1, length, column, beat)
+}
+
+// Writes the cells of the first 2 x `pairs` beats from out[at] on, in the row whose first cell is `first`.
+pub fn write_burst(out: &mut [u32], at: usize, first: u32, mode: u32, column: u32, pairs: u32)
+    requires { ⌜ InRow first column pairs ⌝ }
+    requires { ⌜ at + 2 * pairs ≤ length (now out) ⌝ }
+    ensures { λ _. ⌜ now (out .exit) ≡ sets (now (out .entry)) at (beatCells first mode column (2 * pairs)) ⌝ }
+{
+    let beats = 2 * pairs;
+    let mut j: u32 = 0;
+    let mut next = at;
+    while j < beats {
+        out[next] = first + beat_column(mode, column, j);
+        j += 1;
+        next += 1;
+    }
+}
+
+// ---- kept pairs
+
+fn lesser_of(a: u32, b: u32) -> u32
+    ensures { λ r. ⌜ r ≡ lesser a b ⌝ }
+{
+    if a <= b { a } else { b }
+}
+
+// The pairs that an event at t leaves to a burst given at k.
+fn kept_by(burst: u32, k: u32, pairs: u32, t: u32, pins: u32) -> u32
+    requires { ⌜ k ≤ t ⌝ }
+    ensures { λ r. ⌜ r ≡ cond (cutsBurst burst pins) (lesser pairs (t - k)) pairs ⌝ }
+{
+    if cuts_burst(burst, pins) {
+        return lesser_of(pairs, t - k);
+    }
+    pairs
+}
+
+// The pairs of the burst at event i, after all later events that can cut it: those before k + h.
+fn look_ahead(part: &[u8], n: u32, i: u32, mode: u32) -> u32
+    requires { ⌜ Fit (now part) n × (i < n) ⌝ }
+    ensures { λ r. ⌜ r ≡ cutAhead mode (eventAt (now (part .entry)) i) (eventsFrom (now (part .entry)) n (i + 1)) ⌝ }
+{
+    let at = i as usize;
+    let burst = capture::pins_at(part, at);
+    let k = capture::cycle_at(part, at);
+    let mut pairs = length_of(mode) / 2;
+    let end = k + pairs;
+    let mut j = i + 1;
+    'later: while j < n {
+        let behind = j as usize;
+        let t = capture::cycle_at(part, behind);
+        if end <= t {
+            return pairs;
+        }
+        let pins = capture::pins_at(part, behind);
+        pairs = kept_by(burst, k, pairs, t, pins);
+        j += 1;
+    }
+    pairs
+}
+
+// The pairs that the burst of event i keeps in the end; none if the event gives no burst.
+pub fn kept(part: &[u8], n: u32, i: u32, mode: u32) -> u32
+    requires { ⌜ Fit (now part) n × (i < n) ⌝ }
+    ensures { λ r. ⌜ r ≡ keptOf mode (eventAt (now (part .entry)) i) (eventsFrom (now (part .entry)) n (i + 1)) ⌝ }
+{
+    let pins = capture::pins_at(part, i as usize);
+    if !gives_burst(pins) {
+        return 0;
+    }
+    if ten(pins) {
+        return length_of(mode) / 2;
+    }
+    look_ahead(part, n, i, mode)
+}

@@ -1,0 +1,81 @@
+-- Counting the cells: what is counted before event i, and the cells of the events from i on.
+use Prim.Native.Nat.{ℕ, _+_, _*_, _≤_, _<_}
+use mathlib.Core.List.{List, _++_, map}
+use mathlib.Core.Path.{_≡_, refl, sym, ap, _∙_}
+use native.Mathlib.Nat.{sub-zero}
+use native.Mathlib.Omega.{arith}
+use lib.ListN.{length, length-append}
+use Rattle.reading.specs.Search.{count}
+use Rattle.reading.specs.Settings.{Settings, settingsOf}
+use Rattle.reading.specs.Capture.{Event, eventAt}
+use Rattle.reading.specs.Cells.{burstsOf, cellsOf}
+use Rattle.reading.specs.Part.{Part, start, step}
+use Rattle.part.specs.Steps.{modeAfter}
+use Rattle.beats.specs.Kept as kept
+use Rattle.beats.specs.Kept.{eventsFrom, keptOf}
+use Rattle.beats.proofs.Events.{next-event, no-event}
+use Rattle.beats.proofs.Looking.{kept-le}
+use Rattle.beats.proofs.Commands.{mode-is}
+use Rattle.beats.proofs.Storing.{length-cells}
+use Rattle.beats.proofs.Ahead.{eventCells, cellsFrom, cells-ahead, events-rise}
+use Rattle.cells.specs.Meaning.{Listable, cellsOn}
+
+module _ (settings part : List ℕ) (n : ℕ) where
+  abbrev s : Settings
+  s = settingsOf settings
+
+  pub fitting : Listable settings part n → kept.Fit part n
+  fitting z = record { few = z .fit .few; long = z .fit .long; events = z .fit .events }
+
+  pub all-ahead : Listable settings part n → cellsOn s part n ≡ cellsFrom s (start s) (eventsFrom part n 0)
+  unfolding cellsOn
+  all-ahead z =
+      ap (λ (k : ℕ). cellsOf s (burstsOf s (map (eventAt part) (count 0 k)))) (sym (sub-zero n))
+      ∙ cells-ahead s (eventsFrom part n 0) (events-rise part n (fitting z))
+
+  -- the cells of event i, and those behind it
+  pub next-cells : (p : Part) (i : ℕ) → i < n → cellsFrom s p (eventsFrom part n i) ≡
+      eventCells s p (eventAt part i) (eventsFrom part n (i + 1)) ++ cellsFrom s (step s p (eventAt part i)) (eventsFrom part n (i + 1))
+  next-cells p i l = ap (cellsFrom s p) (next-event part n i l)
+
+  pub record Counted (mode cells i : ℕ) : Type 0 where
+    pub reached : Part
+    pub moded : mode ≡ reached .mode
+    pub within : i ≤ n
+    pub small : cells ≤ 128 * i
+    pub counts : length (cellsOn s part n) ≡ cells + length (cellsFrom s reached (eventsFrom part n i))
+
+  pub begins : Listable settings part n → Counted (s .mode) 0 0
+  begins z =
+      record {
+        reached = start s;
+        moded = refl;
+        within = omega arith;
+        small = omega arith;
+        counts = ap length (all-ahead z) ∙ omega arith;
+      }
+
+  pub goes-on : {mode cells i pairs pins next : ℕ} → Counted mode cells i → i < n → pairs ≡ keptOf mode (eventAt part i) (eventsFrom part n (i + 1)) →
+      pins ≡ eventAt part i .pins → next ≡ modeAfter mode pins → Counted next (cells + 2 * pairs) (i + 1)
+  goes-on {mode} {cells} {i} {pairs} {pins} {next} b l ep ew em =
+      record {
+        reached = step s (b .reached) (eventAt part i);
+        moded = em ∙ rw (ew, b .moded) (sym (mode-is s (b .reached) (eventAt part i)));
+        within = omega arith;
+        small = omega (arith, b .small, ep, kept-le mode (eventAt part i) later);
+        counts = b .counts ∙ omega (arith, sized);
+      }
+    where
+      later : List Event
+      later = eventsFrom part n (i + 1)
+
+      pairs-are : pairs ≡ keptOf (b .reached .mode) (eventAt part i) later
+      pairs-are = ep ∙ ap (λ (m : ℕ). keptOf m (eventAt part i) later) (b .moded)
+
+      sized : length (cellsFrom s (b .reached) (eventsFrom part n i)) ≡ 2 * pairs + length (cellsFrom s (step s (b .reached) (eventAt part i)) later)
+      sized =
+          ap length (next-cells (b .reached) i l) ∙ length-append (eventCells s (b .reached) (eventAt part i) later) _
+          ∙ ap (λ (k : ℕ). k + length (cellsFrom s (step s (b .reached) (eventAt part i)) later)) (length-cells _ _ _ _ ∙ ap (λ (k : ℕ). 2 * k) (sym pairs-are))
+
+  pub ends : {mode cells i : ℕ} → Counted mode cells i → n ≤ i → cells ≡ length (cellsOn s part n)
+  ends {mode} {cells} {i} b l = sym (b .counts ∙ ap (λ (es : List Event). cells + length (cellsFrom s (b .reached) es)) (no-event part n i l) ∙ omega arith)

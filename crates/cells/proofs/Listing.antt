@@ -1,0 +1,109 @@
+-- From a capture's bytes to the answer and the buffer.
+use Prim.Native.Nat.{ℕ, _+_, _≤_, _<_}
+use mathlib.Core.List.{List, _++_}
+use mathlib.Core.Option.{Option}
+use mathlib.Core.Path.{_≡_, refl, sym, ap, _∙_}
+use native.Mathlib.Nat.{zero-add}
+use native.Mathlib.Omega.{arith}
+use borrow.Author.Tests.{lt-ltb, le-ltb}
+use lib.ListN.{length, getD, drop}
+use lib.Seq.{sets, sets-eq}
+use Rattle.reading.specs.Settings.{Settings, settingsOf}
+use Rattle.reading.specs.Capture.{eventCount, settingWords, eventPart, eventsOf}
+use Rattle.reading.specs.Verdict.{verdictOf}
+use Rattle.reading.specs.Answers.{Answer, refused, answered, unless, accepted, Outcome, leaves, fitting, notClean, verdictIn, cellsIn, cellsOutcome}
+use Rattle.words.specs.declared.Found.{Found}
+use Rattle.words.specs.declared.Found.the-variants.{Nothing, At}
+use Rattle.words.specs.Found.{placeOf}
+use Rattle.settings.proofs.Fitting.{at-most}
+use Rattle.capture.specs.declared.Opened.{Opened}
+use Rattle.capture.specs.declared.Opened.the-variants.{Accepted, Length, Header, Setting, Event}
+use Rattle.capture.specs.Meaning as capture
+use Rattle.capture.proofs.Accepted.{Sound, accepted-sound, accepted-rest, refused-rest}
+use Rattle.judge.specs.Meaning.{eventsIn}
+use Rattle.judge.proofs.Judging as judging
+use Rattle.cells.specs.Meaning.{means, refusing, Listable, cellsOn, listing}
+
+-- an answer and what stands in the buffer are those of an outcome
+abbrev pub Meets : Answer ℕ → List ℕ → Outcome → Type 0
+Meets a out o = (a ≡ o .answer) × (out ≡ o .buffer)
+
+meets : {a : Answer ℕ} {out : List ℕ} {o : Outcome} → o ≡ record { answer = a; buffer = out } → Meets a out o
+meets e = (ap (λ (x : Outcome). x .answer) (sym e), ap (λ (x : Outcome). x .buffer) (sym e))
+
+-- ---- accepted: refusals 8 and 7, or the cells
+
+module _ (s : Settings) (part : List ℕ) (n : ℕ) (buffer : List ℕ) (found : Found) (f : placeOf found ≡ notClean (verdictOf s (eventsIn part n))) where
+  judged : {o : Option ℕ} → placeOf found ≡ o → listing s part n buffer ≡ leaves (unless 8 o (fitting buffer (cellsOn s part n))) buffer
+  unfolding listing
+  judged e = ap (λ (x : Option ℕ). leaves (unless 8 x (fitting buffer (cellsOn s part n))) buffer) (sym f ∙ e)
+
+  pub not-clean : {i : ℕ} → found ≡ At i → Meets (refused 8 i) buffer (listing s part n buffer)
+  not-clean e = meets (judged (ap placeOf e))
+
+  module _ (e : found ≡ Nothing) {cells : ℕ} (c : cells ≡ length (cellsOn s part n)) where
+    pub too-short : length buffer < cells → Meets (refused 7 cells) buffer (listing s part n buffer)
+    too-short l = meets (judged (ap placeOf e) ∙ rw (← c, lt-ltb (length buffer) cells l))
+
+    pub listed : {out : List ℕ} → cells ≤ length buffer → out ≡ sets buffer 0 (cellsOn s part n) → Meets (answered cells) out (listing s part n buffer)
+    listed {out} l w =
+        meets
+        (judged (ap placeOf e) ∙ rw (le-ltb (length buffer) (length (cellsOn s part n)) (omega (arith, c)), ← c)
+        (ap (λ (xs : List ℕ). record { answer = answered cells; buffer = xs }) (sym (w ∙ whole))))
+      where
+        whole : sets buffer 0 (cellsOn s part n) ≡ cellsOn s part n ++ drop cells buffer
+        whole =
+            sets-eq (cellsOn s part n) buffer 0 (omega (arith, c))
+            ∙ ap (λ (k : ℕ). cellsOn s part n ++ drop k buffer) (zero-add (length (cellsOn s part n)) ∙ sym c)
+
+-- ---- the capture
+
+on-capture : (c buffer : List ℕ) → accepted c (answered (tt {0})) ≡ answered tt →
+    listing (settingsOf (settingWords c)) (eventPart c) (eventCount c) buffer ≡ cellsOutcome c buffer
+unfolding listing cellsOn cellsOutcome cellsIn verdictIn eventsOf
+on-capture c buffer h = ap (λ (a : Answer (List ℕ)). leaves a buffer) (sym (accepted-rest c _ h))
+
+module _ (c : List ℕ) (buffer : List ℕ) (o : Opened) (opened : capture.means o ≡ accepted c (answered (tt {0}))) where
+  -- one that is not accepted
+  pub refused-so : (o ≡ Accepted → ⊥) → Meets (means (refusing o)) buffer (cellsOutcome c buffer)
+  unfolding cellsOutcome
+  refused-so n = go o n opened
+    where
+      rest : Answer (List ℕ)
+      rest = unless 8 (notClean (verdictIn c)) (fitting buffer (cellsIn c))
+
+      refuses : {number place : ℕ} → refused number place ≡ accepted c (answered (tt {0})) → Meets (refused number place) buffer (cellsOutcome c buffer)
+      refuses e = meets (ap (λ (a : Answer (List ℕ)). leaves a buffer) (refused-rest c rest (sym e)))
+
+      go : (o : Opened) → (o ≡ Accepted → ⊥) → capture.means o ≡ accepted c (answered (tt {0})) → Meets (means (refusing o)) buffer (cellsOutcome c buffer)
+      go Accepted n e = absurd (n refl)
+      go Length n e = refuses e
+      go Header n e = refuses e
+      go (Setting i) n e = refuses e
+      go (Event i) n e = refuses e
+
+  module _ (yes-it-is : o ≡ Accepted) {settings : List ℕ} {n : ℕ} {part : List ℕ}
+      (e : settings ≡ settingWords c) (f : n ≡ eventCount c) (g : part ≡ drop 80 c) where
+    open-to : accepted c (answered (tt {0})) ≡ answered tt
+    open-to = sym opened ∙ ap capture.means yes-it-is
+
+    sound : Sound c
+    sound = accepted-sound c open-to
+
+    pub listable : Listable settings part n
+    listable =
+        record {
+          fit = judging.fit c o opened yes-it-is e f g;
+          sized =
+              rw e
+              (record {
+                rows = at-most 1 (getD (settingWords c) 1 0) (sound .settings 1 (omega arith));
+                columns = at-most 2 (getD (settingWords c) 2 0) (sound .settings 2 (omega arith));
+              });
+        }
+
+    pub listed-so : {a : Answer ℕ} {out : List ℕ} → Meets a out (listing (settingsOf settings) part n buffer) → Meets a out (cellsOutcome c buffer)
+    listed-so {a} {out} m = (m .0 ∙ ap (λ (x : Outcome). x .answer) same, m .1 ∙ ap (λ (x : Outcome). x .buffer) same)
+      where
+        same : listing (settingsOf settings) part n buffer ≡ cellsOutcome c buffer
+        same = rw (e, f, g) (on-capture c buffer open-to)

@@ -1,0 +1,146 @@
+// The burst list: the cells of every kept beat of a clean capture, written into a lent buffer.
+use capture::Opened;
+use part::Answer;
+use words::Found;
+ghost use mathlib.Core.Path.{_≡_};
+ghost use Prim.Native.Nat.{_≤_};
+ghost use lib.ListN.{length};
+ghost use lib.Seq.{sets};
+ghost use Rattle.words.specs.Found.{placeOf};
+ghost use Rattle.reading.specs.Settings.{settingsOf};
+ghost use Rattle.reading.specs.Verdict.{verdictOf};
+ghost use Rattle.reading.specs.Answers.{cellsOutcome, notClean};
+ghost use Rattle.judge.specs.Meaning.{eventsIn};
+ghost use Rattle.cells.specs.Meaning.{means, refusing, Listable, cellsOn, listing};
+
+// What is said of a capture whose cells are asked for.
+pub enum Listed {
+    Refused { number: u32, place: u32 },
+    Written { cells: u32 },
+}
+
+// The refusal of a capture that is not accepted.
+fn refusal(o: Opened) -> Listed
+    ensures { λ r. ⌜ r ≡ refusing o ⌝ }
+{
+    match o {
+        Opened::Accepted => Listed::Written { cells: 0 },
+        Opened::Length => Listed::Refused {
+            number: 1,
+            place: 0,
+        },
+        Opened::Header => Listed::Refused {
+            number: 2,
+            place: 0,
+        },
+        Opened::Setting(i) => Listed::Refused {
+            number: 3,
+            place: i,
+        },
+        Opened::Event(i) => Listed::Refused {
+            number: 4,
+            place: i,
+        },
+    }
+}
+
+// The first event that breaks a rule.
+fn first_broken(s: &[u32; 14], part: &[u8], n: u32) -> Found
+    requires { ⌜ Listable (now s) (now part) n ⌝ }
+    ensures { λ r. ⌜ placeOf r ≡ notClean (verdictOf (settingsOf (now (s .entry))) (eventsIn (now (part .entry)) n)) ⌝ }
+{
+    let mut deadlines = effects::start(s);
+    let mut mode = s[3];
+    let mut i: u32 = 0;
+    'events: while i < n {
+        let at = i as usize;
+        let cycle = capture::cycle_at(part, at);
+        let pins = capture::pins_at(part, at);
+        let answer = part::step(s, &mut deadlines, &mut mode, cycle, pins);
+        let Answer::Kept = answer else {
+            return Found::At(i);
+        };
+        i += 1;
+    }
+    Found::Nothing
+}
+
+// How many cells there are: two for each pair that a burst keeps.
+fn needed(s: &[u32; 14], part: &[u8], n: u32) -> u32
+    requires { ⌜ Listable (now s) (now part) n ⌝ }
+    ensures { λ r. ⌜ r ≡ length (cellsOn (settingsOf (now (s .entry))) (now (part .entry)) n) ⌝ }
+{
+    let mut mode = s[3];
+    let mut cells: u32 = 0;
+    let mut i: u32 = 0;
+    'events: while i < n {
+        cells += 2 * beats::kept(part, n, i, mode);
+        mode = beats::mode_after(mode, capture::pins_at(part, i as usize));
+        i += 1;
+    }
+    cells
+}
+
+// Writes the cells from out[0] on.
+fn write(s: &[u32; 14], part: &[u8], n: u32, out: &mut [u32])
+    requires { ⌜ Listable (now s) (now part) n ⌝ }
+    requires { ⌜ length (cellsOn (settingsOf (now s)) (now part) n) ≤ length (now out) ⌝ }
+    ensures { λ _. ⌜ now (out .exit) ≡ sets (now (out .entry)) 0 (cellsOn (settingsOf (now (s .entry))) (now (part .entry)) n) ⌝ }
+{
+    let mut rows = [0u32; 4];
+    let mut mode = s[3];
+    let mut next: usize = 0;
+    let mut i: u32 = 0;
+    'events: while i < n {
+        let pins = capture::pins_at(part, i as usize);
+        let pairs = beats::kept(part, n, i, mode);
+        let bank = beats::bank(pins);
+        let at = bank as usize;
+        let row = rows[at];
+        let first = beats::first_cell(s, bank, row);
+        let column = beats::column(s, pins);
+        beats::write_burst(out, next, first, mode, column, pairs);
+        next += 2 * (pairs as usize);
+        rows[at] = beats::row_after(row, pins);
+        mode = beats::mode_after(mode, pins);
+        i += 1;
+    }
+}
+
+// Refusals 8 and 7, in this order; else the cells.
+fn list(s: &[u32; 14], part: &[u8], n: u32, out: &mut [u32]) -> Listed
+    requires { ⌜ Listable (now s) (now part) n ⌝ }
+    ensures { λ r. ⌜ means r ≡ listing (settingsOf (now (s .entry))) (now (part .entry)) n (now (out .entry)) .answer ⌝ }
+    ensures { λ _. ⌜ now (out .exit) ≡ listing (settingsOf (now (s .entry))) (now (part .entry)) n (now (out .entry)) .buffer ⌝ }
+{
+    let broken = first_broken(s, part, n);
+    if let Found::At(i) = broken {
+        return Listed::Refused {
+            number: 8,
+            place: i,
+        };
+    }
+    let cells = needed(s, part, n);
+    if out.len() < cells as usize {
+        return Listed::Refused {
+            number: 7,
+            place: cells,
+        };
+    }
+    write(s, part, n, out);
+    Listed::Written { cells }
+}
+
+// The cells of the bursts in these bytes as a capture; what lies behind them in the buffer stays.
+pub fn burst_cells(capture: &[u8], out: &mut [u32]) -> Listed
+    ensures { λ r. ⌜ means r ≡ cellsOutcome (now (capture .entry)) (now (out .entry)) .answer ⌝ }
+    ensures { λ _. ⌜ now (out .exit) ≡ cellsOutcome (now (capture .entry)) (now (out .entry)) .buffer ⌝ }
+{
+    let opened = capture::open(capture);
+    let Opened::Accepted = opened else {
+        return refusal(opened);
+    };
+    let settings = capture::setting_words(capture);
+    let n = capture::event_count(capture);
+    list(&settings, &capture[80..], n, out)
+}
