@@ -1,0 +1,16 @@
+-- A request that fits a part of these settings.
+use Prim.Native.Nat.{ℕ}
+use mathlib.Core.Bool.{Bool, true, cond}
+use mathlib.Core.Path.{_≡_}
+use Rattle.reading.specs.Settings.{Settings}
+use Rattle.reading.specs.Commands.{READ, WRITE, pinsOf}
+use Rattle.reading.specs.Schedule.{requestFits}
+use Rattle.memory.specs.Serving.{Sized}
+
+pub record Asked (s : Settings) (q : ℕ) : Type 0 where
+  pub sized : Sized s
+  pub fits : requestFits s q ≡ true
+
+-- WRITE or READ on the command pins
+abbrev pub burstCode : Bool → ℕ
+burstCode write = pinsOf (cond write WRITE READ) 0 0

@@ -1,0 +1,118 @@
+// A request: whether it fits, and the pins of its commands. Pins that are not named are 0.
+use words::Found;
+ghost use mathlib.Core.Path.{_≡_};
+ghost use Prim.Native.Nat.{_^_, _≤_, _<_};
+ghost use Rattle.words.specs.Found.{placeOf};
+ghost use Rattle.reading.specs.Settings.{settingsOf};
+ghost use Rattle.reading.specs.Schedule.{asksWrite, firstCell, cellBank, cellRow, cellColumn, requestFits, badRequest, activePins, columnPins, burstPins};
+ghost use Rattle.memory.specs.Serving.{Sized};
+ghost use Rattle.requests.specs.Asked.{Asked, burstCode};
+
+const COLUMN_BITS: usize = 2;
+
+// AUTO REFRESH.
+pub const REFRESH_PINS: u32 = 524_288;
+
+// The numbers of so many bits.
+fn numbers(bits: u32) -> u32
+    requires { ⌜ bits ≤ 14 ⌝ }
+    ensures { λ r. ⌜ r ≡ 2 ^ bits ⌝ }
+    ensures { λ r. ⌜ (0 < r) × (r ≤ 16384) ⌝ }
+{
+    deadlines::sums::rows(bits)
+}
+
+pub fn asks_write(q: u32) -> bool
+    ensures { λ r. ⌜ r ≡ asksWrite q ⌝ }
+{
+    q / 2_147_483_648 % 2 == 1
+}
+
+pub fn bank(s: &[u32; 14], q: u32) -> u32
+    requires { ⌜ Sized (settingsOf (now s)) ⌝ }
+    ensures { λ r. ⌜ r ≡ cellBank (settingsOf (now (s .entry))) (firstCell q) ⌝ }
+{
+    let columns = numbers(s[COLUMN_BITS]);
+    let rows = numbers(s[deadlines::places::ROW_BITS]);
+    q % 134_217_728 / columns / rows
+}
+
+fn row(s: &[u32; 14], q: u32) -> u32
+    requires { ⌜ Sized (settingsOf (now s)) ⌝ }
+    ensures { λ r. ⌜ r ≡ cellRow (settingsOf (now (s .entry))) (firstCell q) ⌝ }
+    ensures { λ r. ⌜ r < 16384 ⌝ }
+{
+    let columns = numbers(s[COLUMN_BITS]);
+    let rows = numbers(s[deadlines::places::ROW_BITS]);
+    q % 134_217_728 / columns % rows
+}
+
+fn column(s: &[u32; 14], q: u32) -> u32
+    requires { ⌜ Sized (settingsOf (now s)) ⌝ }
+    ensures { λ r. ⌜ r ≡ cellColumn (settingsOf (now (s .entry))) (firstCell q) ⌝ }
+    ensures { λ r. ⌜ r < 16384 ⌝ }
+{
+    let columns = numbers(s[COLUMN_BITS]);
+    q % 134_217_728 % columns
+}
+
+pub fn active_pins(s: &[u32; 14], q: u32) -> u32
+    requires { ⌜ Asked (settingsOf (now s)) q ⌝ }
+    ensures { λ r. ⌜ r ≡ activePins (settingsOf (now (s .entry))) q ⌝ }
+{
+    row(s, q) + 16_384 * bank(s, q) + 786_432
+}
+
+// WRITE or READ on the command pins.
+fn burst_code(write: bool) -> u32
+    ensures { λ r. ⌜ r ≡ burstCode write ⌝ }
+    ensures { λ r. ⌜ r < 1048576 ⌝ }
+{
+    if write { 131_072 } else { 655_360 }
+}
+
+// Column bits 0-9 on A0-A9, bit 10 on A11; A10 asks for auto precharge.
+fn column_pins(column: u32) -> u32
+    requires { ⌜ column < 16384 ⌝ }
+    ensures { λ r. ⌜ r ≡ columnPins column ⌝ }
+    ensures { λ r. ⌜ r < 65536 ⌝ }
+{
+    column % 1024 + 1024 + 2048 * (column / 1024)
+}
+
+pub fn burst_pins(s: &[u32; 14], q: u32) -> u32
+    requires { ⌜ Asked (settingsOf (now s)) q ⌝ }
+    ensures { λ r. ⌜ r ≡ burstPins (settingsOf (now (s .entry))) q ⌝ }
+{
+    let code = burst_code(asks_write(q));
+    column_pins(column(s, q)) + 16_384 * bank(s, q) + code
+}
+
+// Bits 27-30 are zero and the part, of four banks, has the cell.
+fn fits(s: &[u32; 14], q: u32) -> bool
+    requires { ⌜ Sized (settingsOf (now s)) ⌝ }
+    ensures { λ r. ⌜ r ≡ requestFits (settingsOf (now (s .entry))) q ⌝ }
+{
+    if q / 134_217_728 % 16 != 0 {
+        return false;
+    }
+    bank(s, q) < 4
+}
+
+// Refusal 5: over 2,000 requests, else the lowest that does not fit.
+pub fn lowest_bad(s: &[u32; 14], requests: &[u32]) -> Found
+    requires { ⌜ Sized (settingsOf (now s)) ⌝ }
+    ensures { λ r. ⌜ placeOf r ≡ badRequest (settingsOf (now (s .entry))) (now (requests .entry)) ⌝ }
+{
+    let n = requests.len();
+    if 2000 < n {
+        return Found::At(2000);
+    }
+    'requests: for i in 0..n {
+        if fits(s, requests[i]) {
+            continue 'requests;
+        }
+        return Found::At(i as u32);
+    }
+    Found::Nothing
+}

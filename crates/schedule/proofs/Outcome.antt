@@ -1,0 +1,197 @@
+-- What a call answers, and what it leaves in the buffer, at each place where it ends.
+use Prim.Native.Nat.{ℕ, _+_, _*_, _≤_}
+use mathlib.Core.Bool.{Bool, true, false, cond, not}
+use mathlib.Core.List.{List, [], _∷_, _++_}
+use mathlib.Core.Option.{Option, none, some}
+use mathlib.Core.Path.{_≡_, refl, sym, ap, _∙_}
+use native.Mathlib.Omega.{arith}
+use mathlib.Core.Logic.{inl, inr}
+use types.Run.{OneOf}
+use lib.Dec.{ltb, eqb}
+use lib.ListN.{length, take, drop}
+use lib.Seq.{sets, length-sets, take-append-le, take-length}
+use borrow.Author.Tests.{eqb-true, ltb-false}
+use Rattle.reading.specs.Search.{given}
+use Rattle.reading.specs.Words.{bytesOf}
+use Rattle.reading.specs.Settings.{settingsOf, badSetting}
+use Rattle.reading.specs.Capture.{Event}
+use Rattle.reading.specs.Schedule.{Schedule, planned, late, badRequest, scheduleOf, eventWords, captureOf}
+use Rattle.reading.specs.Answers.{Answer, refused, answered, unless, Outcome, leaves, keptUp, fitting, scheduleOutcome}
+use Rattle.words.specs.Found.{placeOf}
+use Rattle.words.specs.declared.Found.{Found}
+use Rattle.words.specs.declared.Found.the-variants.{Nothing, At}
+use Rattle.settings.specs.Meaning as settings
+use Rattle.settings.specs.Meaning.{checked}
+use Rattle.settings.specs.declared.Checked.{Checked}
+use Rattle.settings.specs.declared.Checked.the-variants.{Fine, Count, Setting}
+use Rattle.memory.specs.Serving.{Sized}
+use Rattle.plan.proofs.Ranged.{ranged}
+use Rattle.plan.proofs.Ready.{few-requests, schedule-planned}
+use Rattle.plan.proofs.Captured as captured
+use Rattle.schedule.specs.declared.Scheduled.{Scheduled}
+use Rattle.schedule.specs.declared.Scheduled.the-variants.{Refused, Written}
+use Rattle.schedule.specs.declared.Planned.{Planned}
+use Rattle.schedule.specs.declared.Planned.the-variants.{Late, Events}
+use Rattle.schedule.specs.Meaning.{means, refusing, plannedAs, Noted, Plannable, Writable, size, head, written, writing}
+use Rattle.schedule.proofs.Filling.{front, words-length}
+use Rattle.schedule.proofs.Walking.{settings-fit}
+
+-- the first variant is neither of the others
+pub not-first : OneOf (1 ∷ 2 ∷ []) 0 → ⊥
+not-first (inl e) = omega arith
+not-first (inr e) = omega arith
+
+-- what a call ends with is document 01's outcome
+abbrev pub Ends : Outcome → Scheduled → List ℕ → Type 0
+Ends o r out = (means r ≡ o .answer) × (out ≡ o .buffer)
+
+-- ---- refusals 2 and 3
+
+module _ (x y : Option ℕ) where
+  refused-so : (rest : Answer (List ℕ)) (k p : ℕ) → refused k p ≡ unless 2 x (unless 3 y (answered (tt {0}))) → unless 2 x (unless 3 y rest) ≡ refused k p
+  refused-so rest k p e = go x y e
+    where
+      go : (x y : Option ℕ) → refused k p ≡ unless 2 x (unless 3 y (answered (tt {0}))) → unless 2 x (unless 3 y rest) ≡ refused k p
+      go none none e = let z : _≡_ {A = ℕ} 0 1 = cc in absurd (omega arith)
+      go none (some q) e = cc
+      go (some q) y e = cc
+
+  fine-so : answered tt ≡ unless 2 x (unless 3 y (answered (tt {0}))) → (x ≡ none) × (y ≡ none)
+  fine-so e = go x y e
+    where
+      go : (x y : Option ℕ) → answered tt ≡ unless 2 x (unless 3 y (answered (tt {0}))) → (x ≡ none) × (y ≡ none)
+      go none none e = (refl, refl)
+      go none (some q) e = let z : _≡_ {A = ℕ} 0 1 = cc in absurd (omega arith)
+      go (some q) y e = let z : _≡_ {A = ℕ} 0 1 = cc in absurd (omega arith)
+
+right-count : (n : ℕ) → given 0 (not (eqb n 14)) ≡ none → n ≡ 14
+right-count n e = go (eqb n 14) refl e
+  where
+    go : (v : Bool) → eqb n 14 ≡ v → given 0 (not v) ≡ none → n ≡ 14
+    go true k e = eqb-true n 14 k
+    go false k e = let z : _≡_ {A = ℕ} 0 1 = cc in absurd (omega arith)
+
+module _ (ws qs out : List ℕ) where
+  unfit : (k p : ℕ) → refused k p ≡ checked ws → scheduleOutcome ws qs out ≡ leaves (refused k p) out
+  unfolding scheduleOutcome checked
+  unfit k p e = ap (λ (a : Answer (List ℕ)). leaves a out) (refused-so (given 0 (not (eqb (length ws) 14))) (badSetting ws) _ k p e)
+
+  pub refuses : (r : Checked) → settings.means r ≡ checked ws → (r ≡ Fine → ⊥) → Ends (scheduleOutcome ws qs out) (refusing r) out
+  refuses Fine e n = absurd (n refl)
+  refuses Count e n = rw (unfit 2 0 e) (refl, refl)
+  refuses (Setting i) e n = rw (unfit 3 i e) (refl, refl)
+
+-- ---- settings that fit
+
+pub record Right (ws : List ℕ) : Type 0 where
+  pub count : length ws ≡ 14
+  pub each : badSetting ws ≡ none
+
+pub right : (ws : List ℕ) (r : Checked) → settings.means r ≡ checked ws → r ≡ Fine → Right ws
+unfolding checked
+right ws r e f =
+    let (x, y) = fine-so (given 0 (not (eqb (length ws) 14))) (badSetting ws) (sym (ap settings.means f) ∙ e) in
+    record { count = right-count (length ws) x; each = y }
+
+module _ {ws : List ℕ} (fit : Right ws) {s : List ℕ} (same : s ≡ ws) where
+  pub sized : Sized (settingsOf s)
+  sized = rw same (ranged ws (settings-fit ws (fit .each)) .sized)
+
+  module _ (qs out : List ℕ) where
+    onward : scheduleOutcome ws qs out
+        ≡ leaves (unless 5 (badRequest (settingsOf ws) qs) (keptUp (scheduleOf (settingsOf ws) qs) (λ es. fitting out (captureOf ws es)))) out
+    unfolding scheduleOutcome
+    onward = rw (fit .count, fit .each)
+
+    pub unserved : {r : Found} {i : ℕ} → placeOf r ≡ badRequest (settingsOf s) qs → r ≡ At i → Ends (scheduleOutcome ws qs out) (Refused 5 i) out
+    unserved {r} {i} e k =
+        let b : badRequest (settingsOf ws) qs ≡ some i = sym (ap (λ (x : List ℕ). badRequest (settingsOf x) qs) same) ∙ sym e ∙ ap placeOf k in
+        rw (onward, b) (refl, refl)
+
+    module _ {r : Found} (e : placeOf r ≡ badRequest (settingsOf s) qs) (k : r ≡ Nothing) where
+      pub asked-fine : badRequest (settingsOf ws) qs ≡ none
+      asked-fine = sym (ap (λ (x : List ℕ). badRequest (settingsOf x) qs) same) ∙ sym e ∙ ap placeOf k
+
+      pub plannable : (w : List ℕ) → length w ≡ 12000 → Plannable s qs w
+      plannable w l =
+          let few = few-requests (settingsOf ws) qs asked-fine in
+          rw same (record { right = fit .each; fine = asked-fine; room = omega arith })
+
+      -- ---- refusal 6
+
+      module _ {w w′ : List ℕ} {t : Planned} (plans : t ≡ plannedAs (scheduleOf (settingsOf s) qs)) (fills : Noted (scheduleOf (settingsOf s) qs) w w′) where
+        pub too-late : {i : ℕ} → t ≡ Late i → Ends (scheduleOutcome ws qs out) (Refused 6 i) out
+        too-late {i} m =
+            let p : Late i ≡ plannedAs (scheduleOf (settingsOf ws) qs) = sym m ∙ plans ∙ ap (λ (x : List ℕ). plannedAs (scheduleOf (settingsOf x) qs)) same in
+            rw (onward, asked-fine) (go (scheduleOf (settingsOf ws) qs) p)
+          where
+            go : (x : Schedule) → Late i ≡ plannedAs x → Ends (leaves (keptUp x (λ es. fitting out (captureOf ws es))) out) (Refused 6 i) out
+            go (planned es) p = let z : _≡_ {A = ℕ} 0 1 = cc in absurd (omega arith)
+            go (late j) p = let z : i ≡ j = cc in rw z (refl, refl)
+
+        -- ---- the schedule
+
+        pub record Made (n : ℕ) : Type 0 where
+          pub es : List Event
+          pub is : scheduleOf (settingsOf ws) qs ≡ planned es
+          pub counted : n ≡ length es
+          pub noted : w′ ≡ sets w 0 (eventWords es)
+
+        pub made : {n : ℕ} → t ≡ Events n → Made n
+        made {n} m =
+            let p : Events n ≡ plannedAs (scheduleOf (settingsOf ws) qs) = sym m ∙ plans ∙ ap (λ (x : List ℕ). plannedAs (scheduleOf (settingsOf x) qs)) same in
+            let f : Noted (scheduleOf (settingsOf ws) qs) w w′ = rw same at fills in
+            go (scheduleOf (settingsOf ws) qs) refl p f
+          where
+            go : (x : Schedule) → scheduleOf (settingsOf ws) qs ≡ x → Events n ≡ plannedAs x → Noted x w w′ → Made n
+            go (planned es) e p f = record { es = es; is = e; counted = (let z : n ≡ length es = cc in z); noted = f .words es refl }
+            go (late j) e p f = let z : _≡_ {A = ℕ} 0 1 = cc in absurd (omega arith)
+
+        module _ (l : length w ≡ 12000) {n : ℕ} (m : t ≡ Events n) where
+          few : n ≤ 6000
+          few =
+              let y = made m in
+              let plan = schedule-planned (settingsOf ws) qs asked-fine (ranged ws (settings-fit ws (fit .each))) (y .es) (y .is) in
+              omega (arith, y .counted, plan .few, few-requests (settingsOf ws) qs asked-fine)
+
+          pub writable : Writable ws w′ n
+          writable =
+              let y = made m in
+              record { fourteen = fit .count; few = few; there = omega (arith, few, ap length (y .noted) ∙ length-sets w 0 (eventWords (y .es))) }
+
+          words-back : take (2 * n) w′ ≡ eventWords (made m .es)
+          words-back =
+              let y = made m in
+              let k : 2 * n ≡ length (eventWords (y .es)) = omega (arith, words-length (y .es), y .counted) in
+              (λ i. take (k i) ((y .noted ∙ front (eventWords (y .es)) w (omega (arith, few))) i))
+              ∙ take-append-le (length (eventWords (y .es))) (eventWords (y .es)) (drop (length (eventWords (y .es))) w) (omega arith)
+              ∙ take-length (eventWords (y .es))
+
+          abbrev cap : List ℕ
+          cap = captureOf ws (made m .es)
+
+          long : length cap ≡ size n
+          long = captured.size ws (made m .es) (fit .count) ∙ ap size (sym (made m .counted))
+
+          whole : bytesOf (head n ++ ws ++ take (2 * n) w′) ≡ cap
+          unfolding captureOf
+          whole i = bytesOf (head (made m .counted i) ++ ws ++ words-back i)
+
+          outcome-is : scheduleOutcome ws qs out ≡ leaves (unless 7 (given (size n) (ltb (length out) (size n))) (answered cap)) out
+          outcome-is =
+              onward
+              ∙ (λ i. leaves (unless 5 (asked-fine i) (keptUp (made m .is i) (λ es. fitting out (captureOf ws es)))) out)
+              ∙ (λ i. leaves (unless 7 (given (long i) (ltb (length out) (long i))) (answered cap)) out)
+
+          final : (v : Bool) → ltb (length out) (size n) ≡ v →
+              Ends (leaves (unless 7 (given (size n) v) (answered cap)) out) (cond v (Refused 7 (size n)) (Written (size n))) (cond v out (sets out 0 cap))
+          final true k = (refl, refl)
+          final false k = (ap answered (sym long), front cap out (omega (arith, long, ltb-false (length out) (size n) k)))
+
+          pub ends : {r : Scheduled} {o : List ℕ} → r ≡ written out n → o ≡ writing ws w′ n out → Ends (scheduleOutcome ws qs out) r o
+          unfolding written writing
+          ends e f =
+              let fin = final (ltb (length out) (size n)) refl in (
+                ap means e ∙ fin .0 ∙ sym (ap (λ (x : Outcome). x .answer) outcome-is),
+                f ∙ ap (λ (x : List ℕ). cond (ltb (length out) (size n)) out (sets out 0 x)) whole ∙ fin .1 ∙ sym (ap (λ (x : Outcome). x .buffer) outcome-is),
+              )

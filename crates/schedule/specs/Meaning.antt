@@ -1,0 +1,74 @@
+-- What this crate's answers mean in document 01, and what its functions ask of each other.
+use Prim.Native.Nat.{ℕ, _+_, _*_, _≤_}
+use mathlib.Core.Bool.{cond}
+use mathlib.Core.List.{List, [], _∷_, _++_}
+use mathlib.Core.Option.{none}
+use mathlib.Core.Path.{_≡_}
+use lib.Dec.{ltb}
+use lib.ListN.{length, take}
+use lib.Seq.{sets}
+use Rattle.reading.specs.Words.{bytesOf}
+use Rattle.reading.specs.Settings as reading
+use Rattle.reading.specs.Settings.{settingsOf, badSetting}
+use Rattle.reading.specs.Capture.{Event}
+use Rattle.reading.specs.Schedule.{Schedule, planned, late, badRequest, eventWords}
+use Rattle.reading.specs.Answers.{Answer, refused, answered}
+use Rattle.requests.specs.Asked.{Asked}
+use Rattle.settings.specs.declared.Checked.{Checked}
+use Rattle.settings.specs.declared.Checked.the-variants.{Fine, Count, Setting}
+use Rattle.schedule.specs.declared.Scheduled.{Scheduled}
+use Rattle.schedule.specs.declared.Scheduled.the-variants.{Refused, Written}
+use Rattle.schedule.specs.declared.Planned.{Planned}
+use Rattle.schedule.specs.declared.Planned.the-variants.{Late, Events}
+
+-- document 01's number and place, or how many bytes were written
+abbrev pub means : Scheduled → Answer ℕ
+means (Refused number place) = refused number place
+means (Written bytes) = answered bytes
+
+-- settings that are not fine
+abbrev pub refusing : Checked → Scheduled
+refusing Fine = Written 0
+refusing Count = Refused 2 0
+refusing (Setting i) = Refused 3 i
+
+-- ---- the walk over the requests
+
+abbrev pub plannedAs : Schedule → Planned
+plannedAs (planned es) = Events (length es)
+plannedAs (late i) = Late i
+
+-- the words from before, with those of the schedule's events; where there is no schedule nothing is said of them
+pub record Noted (x : Schedule) (before now : List ℕ) : Type 0 where
+  pub words : (es : List Event) → x ≡ planned es → now ≡ sets before 0 (eventWords es)
+
+-- there is room for one turn more, of a request that fits
+pub record Notable (s : reading.Settings) (words : List ℕ) (n q : ℕ) : Type 0 where
+  pub room : 2 * n + 6 ≤ length words
+  pub asked : Asked s q
+
+-- nothing is refused, and there is room for the events
+pub record Plannable (settings requests words : List ℕ) : Type 0 where
+  pub right : badSetting settings ≡ none
+  pub fine : badRequest (settingsOf settings) requests ≡ none
+  pub room : 6 * length requests ≤ length words
+
+-- ---- the capture
+
+pub record Writable (settings list : List ℕ) (n : ℕ) : Type 0 where
+  pub fourteen : length settings ≡ 14
+  pub few : n ≤ 6000
+  pub there : 2 * n ≤ length list
+
+abbrev pub size : ℕ → ℕ
+size n = 80 + 8 * n
+
+unfoldable pub written : List ℕ → ℕ → Scheduled
+written out n = cond (ltb (length out) (size n)) (Refused 7 (size n)) (Written (size n))
+
+abbrev pub head : ℕ → List ℕ
+head n = size n ∷ 14 ∷ 24 ∷ n ∷ 80 ∷ 0 ∷ []
+
+unfoldable pub writing : List ℕ → List ℕ → ℕ → List ℕ → List ℕ
+writing settings list n out =
+    cond (ltb (length out) (size n)) out (sets out 0 (bytesOf (head n ++ settings ++ take (2 * n) list)))

@@ -1,0 +1,166 @@
+// The fixed schedule of a list of requests, written as a whole capture.
+use requests::REFRESH_PINS;
+use settings::Checked;
+use turns::Turn;
+use words::Found;
+ghost use mathlib.Core.Path.{_≡_};
+ghost use mathlib.Core.List.{[], _∷_};
+ghost use Prim.Native.Nat.{_+_, _*_, _≤_};
+ghost use lib.ListN.{length, take};
+ghost use lib.Seq.{sets};
+ghost use Rattle.reading.specs.Words.{bytesOf};
+ghost use Rattle.reading.specs.Settings.{settingsOf};
+ghost use Rattle.reading.specs.Schedule.{scheduleOf, eventWords};
+ghost use Rattle.reading.specs.Answers.{scheduleOutcome};
+ghost use Rattle.turns.specs.Events.{turnEvents};
+ghost use Rattle.schedule.specs.Meaning.{means, refusing, plannedAs, Noted, Plannable, Notable, Writable, written, writing};
+
+// What is said of settings, requests and a buffer.
+pub enum Scheduled {
+    Refused { number: u32, place: u32 },
+    Written { bytes: u32 },
+}
+
+// What becomes of the requests: so many events, or the request at which refresh cannot be kept.
+enum Planned {
+    Late(u32),
+    Events(u32),
+}
+
+// Document 01 has at most 2,000 requests, and a schedule three events per request, of two words each.
+const WORDS: usize = 12_000;
+
+// The refusal of settings that are not fine.
+fn refusal(c: Checked) -> Scheduled
+    ensures { λ r. ⌜ r ≡ refusing c ⌝ }
+{
+    match c {
+        Checked::Fine => Scheduled::Written { bytes: 0 },
+        Checked::Count => Scheduled::Refused {
+            number: 2,
+            place: 0,
+        },
+        Checked::Setting(i) => Scheduled::Refused {
+            number: 3,
+            place: i,
+        },
+    }
+}
+
+// The settings as an array.
+fn fourteen(settings: &[u32]) -> [u32; 14]
+    requires { ⌜ length (now settings) ≡ 14 ⌝ }
+    ensures { λ r. ⌜ r ≡ now (settings .entry) ⌝ }
+{
+    let mut s = [0u32; 14];
+    'settings: for i in 0..14 {
+        s[i] = settings[i];
+    }
+    s
+}
+
+fn put_event(words: &mut [u32], i: usize, cycle: u32, pins: u32)
+    requires { ⌜ 2 * i + 2 ≤ length (now words) ⌝ }
+    ensures { λ r. ⌜ now (words .exit) ≡ sets (now (words .entry)) (2 * i) (cycle ∷ pins ∷ []) ⌝ }
+{
+    words[2 * i] = cycle;
+    words[2 * i + 1] = pins;
+}
+
+// The events of a turn, noted behind n events; how many there are then.
+fn note(s: &[u32; 14], words: &mut [u32], n: usize, turn: Turn, q: u32) -> usize
+    requires { ⌜ Notable (settingsOf (now s)) (now words) n q ⌝ }
+    ensures { λ r. ⌜ r ≡ n + length (turnEvents (settingsOf (now (s .entry))) turn q) ⌝ }
+    ensures { λ r. ⌜ now (words .exit) ≡ sets (now (words .entry)) (2 * n) (eventWords (turnEvents (settingsOf (now (s .entry))) turn q)) ⌝ }
+{
+    let active = requests::active_pins(s, q);
+    let burst = requests::burst_pins(s, q);
+    if turn.lead {
+        put_event(words, n, turn.refresh, REFRESH_PINS);
+        put_event(words, n + 1, turn.active, active);
+        put_event(words, n + 2, turn.burst, burst);
+        return n + 3;
+    }
+    put_event(words, n, turn.active, active);
+    put_event(words, n + 1, turn.burst, burst);
+    n + 2
+}
+
+// Request after request, until refresh cannot be kept. The words of the events stand from the front on.
+fn plan(s: &[u32; 14], requests: &[u32], words: &mut [u32]) -> Planned
+    requires { ⌜ Plannable (now s) (now requests) (now words) ⌝ }
+    ensures { λ r. ⌜ r ≡ plannedAs (scheduleOf (settingsOf (now (s .entry))) (now (requests .entry))) ⌝ }
+    ensures { λ r. ⌜ Noted (scheduleOf (settingsOf (now (s .entry))) (now (requests .entry))) (now (words .entry)) (now (words .exit)) ⌝ }
+{
+    let mut d = effects::start(s);
+    let mut free: u64 = 0;
+    let mut n: usize = 0;
+    'requests: for i in 0..requests.len() {
+        let q = requests[i];
+        let turn = turns::serve(s, &mut d, free, q);
+        if !turn.kept {
+            return Planned::Late(i as u32);
+        }
+        n = note(s, words, n, turn, q);
+        free = deadlines::sums::after(turn.burst, 1);
+    }
+    Planned::Events(n as u32)
+}
+
+// Stores the first n words in a row from byte `at` on.
+fn put_words(out: &mut [u8], at: usize, list: &[u32], n: usize)
+    requires { ⌜ (at + 4 * n ≤ length (now out)) × (n ≤ length (now list)) ⌝ }
+    ensures { λ r. ⌜ now (out .exit) ≡ sets (now (out .entry)) at (bytesOf (take n (now (list .entry)))) ⌝ }
+{
+    'words: for i in 0..n {
+        words::put_word(out, at + 4 * i, list[i]);
+    }
+}
+
+// The capture of n events, if the buffer holds it.
+fn write(settings: &[u32], list: &[u32], n: u32, out: &mut [u8]) -> Scheduled
+    requires { ⌜ Writable (now settings) (now list) n ⌝ }
+    ensures { λ r. ⌜ r ≡ written (now (out .entry)) n ⌝ }
+    ensures { λ r. ⌜ now (out .exit) ≡ writing (now (settings .entry)) (now (list .entry)) n (now (out .entry)) ⌝ }
+{
+    let bytes = 80 + 8 * n;
+    if out.len() < bytes as usize {
+        return Scheduled::Refused {
+            number: 7,
+            place: bytes,
+        };
+    }
+    let head = [bytes, 14, 24, n, 80, 0];
+    put_words(out, 0, &head, 6);
+    put_words(out, 24, settings, 14);
+    put_words(out, 80, list, 2 * (n as usize));
+    Scheduled::Written { bytes }
+}
+
+// What document 01 says of these settings and requests, and the schedule in the buffer; bytes behind it stay.
+pub fn schedule(settings: &[u32], requests: &[u32], out: &mut [u8]) -> Scheduled
+    ensures { λ r. ⌜ means r ≡ scheduleOutcome (now (settings .entry)) (now (requests .entry)) (now (out .entry)) .answer ⌝ }
+    ensures { λ r. ⌜ now (out .exit) ≡ scheduleOutcome (now (settings .entry)) (now (requests .entry)) (now (out .entry)) .buffer ⌝ }
+{
+    let checked = settings::check(settings);
+    let Checked::Fine = checked else {
+        return refusal(checked);
+    };
+    let s = fourteen(settings);
+    let bad = requests::lowest_bad(&s, requests);
+    if let Found::At(i) = bad {
+        return Scheduled::Refused {
+            number: 5,
+            place: i,
+        };
+    }
+    let mut list = [0u32; WORDS];
+    let planned = plan(&s, requests, &mut list);
+    match planned {
+        Planned::Late(i) => Scheduled::Refused {
+            number: 6,
+            place: i,
+        },
+        Planned::Events(n) => write(settings, &list, n, out),
+    }
+}
