@@ -36,6 +36,22 @@ back n (Broken rule event cycle judged) = refl
 pub one-answer : (capture : List ℕ) (r q : Verdict) → Judges capture r → Judges capture q → r ≡ q
 one-answer capture r q a b = sym (back (eventCount capture) r) ∙ ap reportOf (a ∙ sym b) ∙ back (eventCount capture) q
 
+-- a capture whose every event was judged and kept the rules, of however many events
+pub judged-clean : (capture : List ℕ) (n : ℕ) (r : Verdict) → Judges capture r →
+    judgeAnswer capture ≡ answered (record { events = n; judged = n; verdict = is.clean }) → r ≡ Clean (eventCount capture)
+unfolding reportOf
+judged-clean capture n r a h = said ∙ ap Clean (sym counted)
+  where
+    said : r ≡ Clean n
+    said = sym (back (eventCount capture) r) ∙ ap reportOf (a ∙ h)
+
+    eventsOfAnswer : Answer Report → ℕ
+    eventsOfAnswer (refused number place) = 0
+    eventsOfAnswer (answered r) = r .events
+
+    counted : eventCount capture ≡ n
+    counted = ap eventsOfAnswer (sym (ap (means (eventCount capture)) said) ∙ a ∙ h)
+
 verdictOfAnswer : Answer Report → is.Verdict
 verdictOfAnswer (refused number place) = is.clean
 verdictOfAnswer (answered r) = r .verdict

@@ -1,3 +1,4 @@
 -- The demands, each short enough to read aloud.
 pub mod Judging
+pub mod Refusing
 pub mod Scheduling

@@ -1,4 +1,4 @@
--- Demand 3, for whatever a schedule call may answer and leave in its buffer.
+-- Demand 3, for `schedule::schedule` on any settings, requests and buffer.
 use Prim.Native.Nat.{ℕ, _≤_, _<_}
 use mathlib.Core.Bool.{Bool, true, false, not}
 use mathlib.Core.List.{List, [], _∷_, _++_}
@@ -11,14 +11,19 @@ use lib.Seq.{take-append-seam, drop-append-seam}
 use borrow.Author.Tests.{eqb-true, not-false}
 use Rattle.reading.specs.Search.{given}
 use Rattle.reading.specs.Settings.{settingsOf, badSetting}
-use Rattle.reading.specs.Capture.{Event, eventsOf}
+use Rattle.reading.specs.Capture.{Event, eventCount, eventsOf}
 use Rattle.reading.specs.Schedule.{Schedule, planned, late, badRequest, scheduleOf, captureOf}
 use Rattle.reading.specs.Memory.{Run, replay, plain}
 use Rattle.reading.specs.Answers.{Answer, refused, answered, unless, Outcome, leaves, fitting, keptUp, settingsIn, judgeAnswer, scheduleOutcome}
+use Rattle.judge.specs.declared.Verdict.{Verdict}
+use Rattle.judge.specs.declared.Verdict.the-variants.{Clean}
+use Rattle.schedule.specs.declared.Scheduled.the-variants as said
 use Rattle.memory.proofs.Same.{schedule-is-plain}
 use Rattle.plan.proofs.Ranged.{ranged}
 use Rattle.plan.proofs.Ready.{Planned, requests-fit, few-requests}
 use Rattle.plan.proofs.Captured.{allClean, settings-fit, settings-back, events-back, schedule-fits, schedule-clean}
+use Rattle.demands.specs.Allowed.{Judges, Schedules}
+use Rattle.demands.proofs.Judging.{judged-clean}
 
 -- what stands behind a schedule that was written
 pub record Written (ws qs out : List ℕ) (n : ℕ) : Type 0 where
@@ -67,7 +72,7 @@ module _ (ws qs out : List ℕ) (n : ℕ) (e : scheduleOutcome ws qs out .answer
   go none none none (planned es) p q r s h =
       fits es (eqb-true (length ws) 14 (not-false (eqb (length ws) 14) (not-given _ p))) q r s (ltb (length out) (length (captureOf ws es))) h
 
-  pub written : Written ws qs out n
+  written : Written ws qs out n
   unfolding scheduleOutcome
   written =
       go (given 0 (not (eqb (length ws) 14))) (badSetting ws) (badRequest (settingsOf ws) qs) (scheduleOf (settingsOf ws) qs) refl refl refl refl refl
@@ -75,15 +80,12 @@ module _ (ws qs out : List ℕ) (n : ℕ) (e : scheduleOutcome ws qs out .answer
   abbrev capture : List ℕ
   capture = take n (scheduleOutcome ws qs out .buffer)
 
-  -- Demand 3: the schedule that was written is a capture, and judging it says clean, with every event judged.
-  pub schedule-is-clean : judgeAnswer capture ≡ answered (allClean (written .events))
-  schedule-is-clean =
+  outcome-clean : judgeAnswer capture ≡ answered (allClean (written .events))
+  outcome-clean =
       rw (written .bytes) (schedule-clean ws qs (written .fourteen) (written .settings) (written .requests) (written .events) (written .schedule))
 
-  -- Demand 3: for any starting contents, any words and masks, a part run by what was written returns the words, and ends
-  -- with the contents, of a plain memory that does the requests one after another.
-  pub schedule-is-memory : (r : Run) → replay (settingsIn capture) (eventsOf capture) r ≡ plain (settingsOf ws) qs r
-  schedule-is-memory r =
+  outcome-memory : (r : Run) → replay (settingsIn capture) (eventsOf capture) r ≡ plain (settingsOf ws) qs r
+  outcome-memory r =
       rw (written .bytes, settings-back ws es l (written .settings) few (y .rises) (y .early), events-back ws es l (written .settings) few (y .rises) (y .early))
       (schedule-is-plain (settingsOf ws) (ranged ws (settings-fit ws (written .settings)) .sized) qs es
       (requests-fit (settingsOf ws) qs (written .requests)) (written .schedule) r)
@@ -99,3 +101,22 @@ module _ (ws qs out : List ℕ) (n : ℕ) (e : scheduleOutcome ws qs out .answer
 
       few : length es ≤ 8000
       few = omega (arith, y .few, few-requests (settingsOf ws) qs (written .requests))
+
+module _ (ws qs out left : List ℕ) (n : ℕ) (allowed : Schedules ws qs out (said.Written n) left) where
+  e : scheduleOutcome ws qs out .answer ≡ answered n
+  e = sym (allowed .0)
+
+  -- Demand 3: what was written is a capture that the judge calls clean, with every event judged.
+  pub schedule-is-clean : (r : Verdict) → Judges (take n left) r → r ≡ Clean (eventCount (take n left))
+  schedule-is-clean r a =
+      judged-clean (take n left) (length (written ws qs out n e .events)) r a (ap (λ b. judgeAnswer (take n b)) (allowed .1) ∙ outcome-clean ws qs out n e)
+
+  -- Demand 3: for any starting contents, any words and masks, a part run by what was written returns the words, and ends
+  -- with the contents, of a plain memory that does the requests one after another.
+  pub schedule-is-memory : (r : Run) → replay (settingsIn (take n left)) (eventsOf (take n left)) r ≡ plain (settingsOf ws) qs r
+  schedule-is-memory r =
+      ap (λ b. replay (settingsIn (take n b)) (eventsOf (take n b)) r) (allowed .1) ∙ outcome-memory ws qs out n e r
+
+  -- Bytes of the buffer behind the schedule stay.
+  pub bytes-behind-stay : drop n left ≡ drop n out
+  bytes-behind-stay = ap (drop n) (allowed .1) ∙ written ws qs out n e .behind

@@ -1,11 +1,24 @@
--- A result that the contract of `judge::judge` allows for a capture.
+-- What the contracts of the public functions allow: a result and, where a buffer is lent, its contents afterwards.
 use Prim.Native.Nat.{ℕ}
 use mathlib.Core.List.{List}
 use mathlib.Core.Path.{_≡_}
 use Rattle.reading.specs.Capture.{eventCount}
-use Rattle.reading.specs.Answers.{judgeAnswer}
+use Rattle.reading.specs.Answers.{judgeAnswer, cellsOutcome, scheduleOutcome}
 use Rattle.judge.specs.declared.Verdict.{Verdict}
 use Rattle.judge.specs.Meaning.{means}
+use Rattle.cells.specs.declared.Listed.{Listed}
+use Rattle.cells.specs.Meaning as cells
+use Rattle.schedule.specs.declared.Scheduled.{Scheduled}
+use Rattle.schedule.specs.Meaning as schedule
 
+-- by `judge::judge`
 abbrev pub Judges : List ℕ → Verdict → Type 0
 Judges capture r = means (eventCount capture) r ≡ judgeAnswer capture
+
+-- by `cells::burst_cells`, lent `out`, which holds `left` afterwards
+abbrev pub Lists : List ℕ → List ℕ → Listed → List ℕ → Type 0
+Lists capture out r left = (cells.means r ≡ cellsOutcome capture out .answer) × (left ≡ cellsOutcome capture out .buffer)
+
+-- by `schedule::schedule`, lent `out`, which holds `left` afterwards
+abbrev pub Schedules : List ℕ → List ℕ → List ℕ → Scheduled → List ℕ → Type 0
+Schedules ws qs out r left = (schedule.means r ≡ scheduleOutcome ws qs out .answer) × (left ≡ scheduleOutcome ws qs out .buffer)
