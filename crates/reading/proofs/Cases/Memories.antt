@@ -59,6 +59,13 @@ cases =
             left = [];
           };
     }
+    -- lane 0 is the low byte
+    ∷ record {
+      settings = usual;
+      events = at 0 ACTIVE ∷ at 3 WRITE ∷ [];
+      supply = masked 0b00 0x5678 ∷ masked 0b01 0x1234 ∷ masked 0b10 0x1234 ∷ masked 0b11 0x1234 ∷ [];
+      sees = record { words = []; cells = 0xaabb5678 ∷ 0xaabb12dd ∷ 0xaabbcc34 ∷ 0xaabbccdd ∷ []; left = [] };
+    }
     -- a cut write takes all its words and stores those of its kept beats, cells 0 and 1; the next starts at cell 2
     -- and comes round to cell 0 with the third word; a cut read returns its kept beats
     ∷ record {
