@@ -4,7 +4,6 @@ use mathlib.Core.Bool.{Bool, true, false, cond, not, _&&_, _||_}
 use mathlib.Core.List.{[], _∷_}
 use mathlib.Core.Option.{none}
 use mathlib.Core.Path.{_≡_, refl, sym, ap, _∙_}
-use native.Mathlib.Nat.{div-div-eq-div-mul}
 use native.Mathlib.Omega.{arith}
 use borrow.Author.Tests.{not-false}
 use lib.Dec.{eqb}
@@ -16,23 +15,8 @@ use Rattle.reading.specs.Bursts.{Burst, cuts}
 use Rattle.reading.specs.Part.{Part, Bank, openOn, idleFrom, autoPrecharge, step}
 use Rattle.words.proofs.Search.{none-below}
 use Rattle.part.specs.Steps.{codeOf, bankOf, addressOf, modeAfter}
+use Rattle.part.proofs.Pins.{turned, op-is}
 use Rattle.beats.specs.Kept.{gives, cutsBurst}
-
--- ---- the reading writes the pins with CS# first
-
-abbrev turned : ℕ → ℕ
-turned q = 8 * (q % 2) + 4 * (q / 2 % 2) + 2 * (q / 4 % 2) + q / 8 % 2
-
-low-four : (v : ℕ) → turned v ≡ turned (v % 16)
-low-four v = λ i. 8 * (bits .0 i) + 4 * (bits .1 i) + 2 * (bits .2 i) + bits .3 i
-  where
-    bits : (v % 2 ≡ v % 16 % 2) × (v / 2 % 2 ≡ v % 16 / 2 % 2) × (v / 4 % 2 ≡ v % 16 / 4 % 2) × (v / 8 % 2 ≡ v % 16 / 8 % 2)
-    bits = (omega arith, omega arith, omega arith, omega arith)
-
-op-is : (w : ℕ) → commandOf w .op ≡ opOf (turned (codeOf w))
-op-is w =
-    let over : (k : ℕ) → w / (65536 * k) ≡ w / 65536 / k = λ k. sym (div-div-eq-div-mul w 65536 k) in
-    ap opOf ((λ i. 8 * (w / 65536 % 2) + 4 * (over 2 i % 2) + 2 * (over 4 i % 2) + over 8 i % 2) ∙ low-four (w / 65536))
 
 same : Bool → Bool → Bool
 same true b = b

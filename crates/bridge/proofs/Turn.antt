@@ -4,7 +4,7 @@ use mathlib.Core.Bool.{Bool, true, false, cond, not, _&&_, _||_}
 use mathlib.Core.List.{List, [], _∷_, List·Memᴰ}
 use mathlib.Core.Option.{Option, none, some}
 use mathlib.Core.Path.{_≡_, refl, sym, ap, _∙_, subst}
-use native.Mathlib.Nat.{div-div-eq-div-mul, add-zero, zero-add}
+use native.Mathlib.Nat.{add-zero, zero-add}
 use native.Mathlib.Omega.{arith}
 use lib.Dec.{leb, eqb}
 use borrow.Author.Tests.{leb-true, not-false}
@@ -19,35 +19,13 @@ use Rattle.reading.proofs.Found.{find-none}
 use Rattle.deadlines.specs.Deadlines.{startOf}
 use Rattle.part.specs.Steps.{codeOf, bankOf, addressOf, tenOf, stepBreaks, stepAfter, modeAfter}
 use Rattle.part.proofs.Codes as codes
+use Rattle.part.proofs.Pins.{turned, op-is}
 use Rattle.bridge.specs.Summary.{Held, laid, summary, from, heldBy, cleared}
 use Rattle.bridge.proofs.Tests.{num, first-of, after-is, leb-later, held-is, cleared-is}
 use Rattle.bridge.proofs.Bursts.{terminate-is, nothing}
 use Rattle.bridge.proofs.Rules.{does, quiet, deselect, read-agrees, write-agrees, active-agrees, terminate-agrees, close-agrees, close-all-agrees, refresh-agrees, mode-agrees}
 use Rattle.bridge.proofs.Next.{Sound, quiet-next, deselect-next, refresh-next, mode-next, active-next, read-next, write-next, terminate-next, close-next, close-all-next}
 use Rattle.bridge.proofs.Kept.{kept-plain, kept-mode, kept-read, kept-write}
-
--- ---- the four command pins, CS# lowest, as the reading writes them, CS# first
-
-abbrev turned : ℕ → ℕ
-turned q = 8 * (q % 2) + 4 * (q / 2 % 2) + 2 * (q / 4 % 2) + q / 8 % 2
-
-op-is : (w : ℕ) → commandOf w .op ≡ opOf (turned (codeOf w))
-op-is w = ap opOf (λ i. 8 * low (w / 65536) i + 4 * second i + 2 * third i + fourth i)
-  where
-    low : (v : ℕ) → v % 2 ≡ v % 16 % 2
-    low v = omega arith
-
-    below : (v : ℕ) → (v / 2 % 2 ≡ v % 16 / 2 % 2) × (v / 4 % 2 ≡ v % 16 / 4 % 2) × (v / 8 % 2 ≡ v % 16 / 8 % 2)
-    below v = (omega arith, omega arith, omega arith)
-
-    second : w / 131072 % 2 ≡ codeOf w / 2 % 2
-    second = ap (λ (v : ℕ). v % 2) (sym (div-div-eq-div-mul w 65536 2)) ∙ below (w / 65536) .0
-
-    third : w / 262144 % 2 ≡ codeOf w / 4 % 2
-    third = ap (λ (v : ℕ). v % 2) (sym (div-div-eq-div-mul w 65536 4)) ∙ below (w / 65536) .1
-
-    fourth : w / 524288 % 2 ≡ codeOf w / 8 % 2
-    fourth = ap (λ (v : ℕ). v % 2) (sym (div-div-eq-div-mul w 65536 8)) ∙ below (w / 65536) .2
 
 carries : (w q : ℕ) → codeOf w ≡ q → commandOf w ≡ does (opOf (turned q)) (bankOf w) (addressOf w) (tenOf w)
 carries w q e = ap (λ (o : Op). does o (bankOf w) (addressOf w) (tenOf w)) (op-is w ∙ ap (λ (v : ℕ). opOf (turned v)) e)

@@ -1,2 +1,3 @@
 -- Laws that callers of the step use.
 pub mod Codes
+pub mod Pins

@@ -75,7 +75,7 @@ rising from (e ∷ es) r zero l = within (suc (e .cycle)) es (r .2) 0 (omega ari
 rising from (e ∷ es) r (suc i) l = rising (suc (e .cycle)) es (r .2) i (omega arith)
 
 -- the words of the events
-words-length : (es : List Event) → length (eventWords es) ≡ 2 * length es
+pub words-length : (es : List Event) → length (eventWords es) ≡ 2 * length es
 unfolding eventWords
 words-length [] = refl
 words-length (e ∷ es) = omega (arith, words-length es)

@@ -31,7 +31,7 @@ in-time : (s : Settings) (es : List Event) → refreshInTime s es ≡ leb (place
 unfolding refreshInTime
 in-time s es = refl
 
-in-time-le : (s : Settings) (es : List Event) → refreshInTime s es ≡ true → placed s es refreshPins ≤ dueOf s es
+pub in-time-le : (s : Settings) (es : List Event) → refreshInTime s es ≡ true → placed s es refreshPins ≤ dueOf s es
 in-time-le s es k = leb-true (placed s es refreshPins) (dueOf s es) (sym (in-time s es) ∙ k)
 
 -- the test of a schedule, by the deadlines

@@ -71,7 +71,7 @@ clean-more s p i (x ∷ es) e c n = go (brokenBy s p x) c (λ k. clean-more s (s
     go (some r) k ih = let z : _≡_ {A = ℕ} 0 1 = cc in absurd (omega arith)
 
 -- a list of rules, and one more
-none-with : (f : ℕ → Bool) (r : ℕ) (rs : List ℕ) → every f rs ≡ true → f r ≡ true → find (λ q. not (f q)) (rs ++ (r ∷ [])) ≡ none
+pub none-with : (f : ℕ → Bool) (r : ℕ) (rs : List ℕ) → every f rs ≡ true → f r ≡ true → find (λ q. not (f q)) (rs ++ (r ∷ [])) ≡ none
 none-with f r [] a b = rw b
 none-with f r (q ∷ rs) a b = go (f q) refl a (none-with f r rs)
   where

@@ -81,11 +81,6 @@ module _ {out₀ list out : List ℕ} {at n i : ℕ} (x : Storing out₀ at list
 
 -- ---- the words of events
 
-pub words-length : (es : List Event) → length (eventWords es) ≡ 2 * length es
-unfolding eventWords
-words-length [] = refl
-words-length (e ∷ es) = omega (arith, words-length es)
-
 pub words-append : (es fs : List Event) → eventWords (es ++ fs) ≡ eventWords es ++ eventWords fs
 unfolding eventWords
 words-append [] fs = refl

@@ -25,6 +25,7 @@ use Rattle.settings.specs.Meaning.{checked}
 use Rattle.settings.specs.declared.Checked.{Checked}
 use Rattle.settings.specs.declared.Checked.the-variants.{Fine, Count, Setting}
 use Rattle.memory.specs.Serving.{Sized}
+use Rattle.plan.proofs.Captured.{words-length, settings-fit}
 use Rattle.plan.proofs.Ranged.{ranged}
 use Rattle.plan.proofs.Ready.{few-requests, schedule-planned}
 use Rattle.plan.proofs.Captured as captured
@@ -33,8 +34,7 @@ use Rattle.schedule.specs.declared.Scheduled.the-variants.{Refused, Writ
 use Rattle.schedule.specs.declared.Planned.{Planned}
 use Rattle.schedule.specs.declared.Planned.the-variants.{Late, Events}
 use Rattle.schedule.specs.Meaning.{means, refusing, plannedAs, Noted, Plannable, Writable, size, head, written, writing}
-use Rattle.schedule.proofs.Filling.{front, words-length}
-use Rattle.schedule.proofs.Walking.{settings-fit}
+use Rattle.schedule.proofs.Filling.{front}
 
 -- the first variant is neither of the others
 pub not-first : OneOf (1 ∷ 2 ∷ []) 0 → ⊥

@@ -19,6 +19,7 @@ use Rattle.bridge.proofs.Turn.{start-laid}
 use Rattle.requests.specs.Asked.{Asked}
 use Rattle.plan.specs.Behind.{deadlinesOf}
 use Rattle.plan.proofs.Ranged.{Ranged, ranged}
+use Rattle.plan.proofs.Captured.{words-length, settings-fit}
 use Rattle.plan.proofs.Ready.{Ready, start-ready, Served, served-ready, few-requests, requests-fit}
 use Rattle.turns.specs.declared.Turn.{Turn}
 use Rattle.turns.specs.Turning.{turning, turnedAfter}
@@ -27,11 +28,7 @@ use Rattle.turns.proofs.Timely.{far}
 use Rattle.turns.proofs.Taken.{Taken, turn-late, turn-taken}
 use Rattle.schedule.specs.declared.Planned.the-variants.{Late, Events}
 use Rattle.schedule.specs.Meaning.{plannedAs, Noted, Plannable, Notable}
-use Rattle.schedule.proofs.Filling.{none-behind, words-length, words-append}
-
-pub settings-fit : (ws : List ℕ) → badSetting ws ≡ none → (i : ℕ) → i < 14 → settingFits i (getD ws i 0) ≡ true
-unfolding badSetting
-settings-fit ws good i l = not-false (settingFits i (getD ws i 0)) (none-below (λ j. not (settingFits j (getD ws j 0))) 14 good i l)
+use Rattle.schedule.proofs.Filling.{none-behind, words-append}
 
 module _ (ws qs w₀ : List ℕ) where
   abbrev s : Settings

@@ -15,11 +15,11 @@ use Rattle.plan.proofs.Ranged.{Ranged}
 use Rattle.plan.proofs.Sending.{free-sent}
 use Rattle.plan.proofs.Reached.{Reached}
 use Rattle.plan.proofs.Placed.{Idle, refresh-sent, refresh-idle}
-use Rattle.plan.proofs.Ready.{Ready}
+use Rattle.plan.proofs.Ready.{in-time-le, Ready}
 use Rattle.turns.specs.declared.Turn.{Turn}
 use Rattle.turns.specs.Turning.{activeAt, burstAt, triedAfter, triedKept, refreshAt, refreshed, alone, led, turning, turnedAfter}
 use Rattle.turns.specs.Events.{turnEvents}
-use Rattle.turns.proofs.Timely.{far, in-time-le}
+use Rattle.turns.proofs.Timely.{far}
 use Rattle.turns.proofs.Placing.{refresh-at, refreshed-is, refresh-kept, refresh-free, active-at, burst-at, tried-after, tried-free, tried-kept}
 
 abbrev event : ℕ → ℕ → Event

@@ -19,21 +19,11 @@ use Rattle.bridge.proofs.Tests.{num}
 use Rattle.bridge.proofs.Turn.{turned-event}
 use Rattle.plan.specs.Behind.{partOf, deadlinesOf}
 use Rattle.plan.proofs.Ranged.{Ranged}
-use Rattle.plan.proofs.Sending.{free-sent}
+use Rattle.plan.proofs.Sending.{none-with, free-sent}
 use Rattle.plan.proofs.Reached.{Reached, Sent}
 use Rattle.plan.proofs.Placed.{Idle, Opened, refresh-sent, active-opens, active-refreshed, burst-refreshes}
-use Rattle.plan.proofs.Ready.{dueOf, first-sent, second-sent, request-reached, request-idle}
+use Rattle.plan.proofs.Ready.{dueOf, in-time-le, first-sent, second-sent, request-reached, request-idle}
 use Rattle.turns.specs.Turning.{cycleFor}
-
--- a list of rules, and one more
-none-with : (f : ℕ → Bool) (r : ℕ) (rs : List ℕ) → every f rs ≡ true → f r ≡ true → find (λ q. not (f q)) (rs ++ (r ∷ [])) ≡ none
-none-with f r [] a b = rw b
-none-with f r (q ∷ rs) a b = go (f q) refl a (none-with f r rs)
-  where
-    go : (v : Bool) → f q ≡ v → (v && every f rs) ≡ true → (every f rs ≡ true → f r ≡ true → find (λ x. not (f x)) (rs ++ (r ∷ [])) ≡ none) →
-        cond (not v) (some q) (find (λ x. not (f x)) (rs ++ (r ∷ []))) ≡ none
-    go true e k ih = ih k b
-    go false e k ih = let z : _≡_ {A = ℕ} 0 1 = cc in absurd (omega arith)
 
 -- no cycle of a schedule is near the end of the 32-bit words
 abbrev pub far : ℕ
@@ -53,10 +43,6 @@ module _ {s : Settings} {es : List Event} {pins soonest : ℕ} {d : List ℕ} (w
       none-with (λ k. keeps k s p t (commandOf pins)) 14 placingRules (w .passed) (le-leb t (dueOf s es) l) in
       let broke = turned-event s (omega (arith, g .sized .rows)) p (freeFrom 0 es) t (w .not-before) (r .sound) pins .breaks in
       ap (λ (n : ℕ). eqb n 0) (broke ∙ ap num e)
-
-pub in-time-le : (s : Settings) (es : List Event) → refreshInTime s es ≡ true → placed s es refreshPins ≤ dueOf s es
-unfolding refreshInTime
-in-time-le s es k = leb-true (placed s es refreshPins) (dueOf s es) k
 
 -- the commands of a request come before the AUTO REFRESH that is in time
 module _ (s : Settings) (g : Ranged s) (q : ℕ) (fits : requestFits s q ≡ true) (es : List Event) (r : Reached s es) (idle : Idle s es) where

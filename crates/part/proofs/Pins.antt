@@ -1,0 +1,21 @@
+-- The command of a pin word, by the four command pins as a number with CS# lowest; the reading writes CS# first.
+use Prim.Native.Nat.{ℕ, _+_, _*_, _/_, _%_}
+use mathlib.Core.Path.{_≡_, sym, ap, _∙_}
+use native.Mathlib.Nat.{div-div-eq-div-mul}
+use native.Mathlib.Omega.{arith}
+use Rattle.reading.specs.Commands.{opOf, commandOf}
+use Rattle.part.specs.Steps.{codeOf}
+
+abbrev pub turned : ℕ → ℕ
+turned q = 8 * (q % 2) + 4 * (q / 2 % 2) + 2 * (q / 4 % 2) + q / 8 % 2
+
+low-four : (v : ℕ) → turned v ≡ turned (v % 16)
+low-four v = λ i. 8 * (bits .0 i) + 4 * (bits .1 i) + 2 * (bits .2 i) + bits .3 i
+  where
+    bits : (v % 2 ≡ v % 16 % 2) × (v / 2 % 2 ≡ v % 16 / 2 % 2) × (v / 4 % 2 ≡ v % 16 / 4 % 2) × (v / 8 % 2 ≡ v % 16 / 8 % 2)
+    bits = (omega arith, omega arith, omega arith, omega arith)
+
+pub op-is : (w : ℕ) → commandOf w .op ≡ opOf (turned (codeOf w))
+op-is w =
+    let over : (k : ℕ) → w / (65536 * k) ≡ w / 65536 / k = λ k. sym (div-div-eq-div-mul w 65536 k) in
+    ap opOf ((λ i. 8 * (w / 65536 % 2) + 4 * (over 2 i % 2) + 2 * (over 4 i % 2) + over 8 i % 2) ∙ low-four (w / 65536))
