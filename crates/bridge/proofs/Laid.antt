@@ -2,12 +2,12 @@
 use Prim.Native.Nat.{ℕ, zero, suc, _+_, _%_, _<_}
 use mathlib.Core.Bool.{Bool, true, false, cond}
 use mathlib.Core.List.{List}
-use mathlib.Core.Path.{_≡_, refl}
+use mathlib.Core.Path.{_≡_, refl, sym, ap, _∙_, fun-ext}
 use native.Mathlib.Omega.{arith}
 use lib.Dec.{eqb}
+use borrow.Author.Tests.{eqb-true}
 use lib.ListN.{set}
 use Rattle.reading.specs.Search.{lesser, later}
-use Rattle.reading.specs.Mode.{h, CL}
 use Rattle.reading.specs.Settings.{Settings}
 use Rattle.deadlines.specs.Deadlines.{OPEN, AGAIN, OTHER, REST, COLUMN, CLOSE, WRITTEN, LOCKED, at, activeAfter, autoAfter, cutWrite, newWrite, restAfter}
 use Rattle.bridge.specs.Summary.{Held, laid}
@@ -37,6 +37,14 @@ stands x (suc (suc (suc (suc b)))) l = absurd (omega arith)
 -- bank b's entry replaced
 abbrev pub put : (ℕ → ℕ) → ℕ → ℕ → ℕ → ℕ
 put f b v i = cond (eqb i b) v (f i)
+
+-- an entry replaced by itself
+pub put-same : (f : ℕ → ℕ) (b v : ℕ) → f b ≡ v → put f b v ≡ f
+put-same f b v e = fun-ext (λ i. go i (eqb i b) refl)
+  where
+    go : (i : ℕ) (w : Bool) → eqb i b ≡ w → cond w v (f i) ≡ f i
+    go i true q = sym e ∙ ap f (sym (eqb-true i b q))
+    go i false q = refl
 
 -- the entries of bank b replaced: of an ACTIVE, and of whether it is open and from when on it may be opened
 abbrev pub activated : Settings → ℕ → ℕ → Held → Held
@@ -153,15 +161,14 @@ active-laid s x t (suc (suc zero)) l = refl
 active-laid s x t (suc (suc (suc zero))) l = refl
 active-laid s x t (suc (suc (suc (suc b)))) l = absurd (omega arith)
 
-pub auto-laid : (x : Held) (b : ℕ) (auto : Bool) (c : ℕ) → b < 4 →
-    autoAfter (laid x) b auto c ≡
-    laid (banked (put (x .opened) b (cond auto 0 1)) (put (x .rest) b (cond auto (later (x .locked b) c) (x .rest b))) x)
+pub auto-laid : (x : Held) (b c : ℕ) → b < 4 →
+    autoAfter (laid x) b c ≡ laid (banked (put (x .opened) b 0) (put (x .rest) b (later (x .locked b) c)) x)
 unfolding autoAfter
-auto-laid x zero auto c l = refl
-auto-laid x (suc zero) auto c l = refl
-auto-laid x (suc (suc zero)) auto c l = refl
-auto-laid x (suc (suc (suc zero))) auto c l = refl
-auto-laid x (suc (suc (suc (suc b)))) auto c l = absurd (omega arith)
+auto-laid x zero c l = refl
+auto-laid x (suc zero) c l = refl
+auto-laid x (suc (suc zero)) c l = refl
+auto-laid x (suc (suc (suc zero))) c l = refl
+auto-laid x (suc (suc (suc (suc b)))) c l = absurd (omega arith)
 
 written-laid : (x : Held) (b v : ℕ) → b < 4 → set (laid x) (WRITTEN + b) v ≡ laid (writeGiven (put (x .written) b v) (x .writes) (x .end) (x .writer) x)
 written-laid x zero v l = refl

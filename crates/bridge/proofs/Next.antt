@@ -18,9 +18,9 @@ use Rattle.reading.specs.Bursts.{Burst, reads, dataEnd, cuts, cutBy}
 use Rattle.reading.specs.Part.{Part, Bank, openOn, idleFrom, autoPrecharge, bankAfter, burstGiven, partAfter}
 use Rattle.reading.specs.Rules.{bankWrite}
 use Rattle.reading.proofs.Cuts.{All, nil, cons, all-map, auto-uncut}
-use Rattle.deadlines.specs.Deadlines.{activeAfter, readAfter, writeAfter, cutRead, closeAfter, closeAllAfter, restAll, restAfter, refreshAfter, modeSetAfter, cutWrite, newWrite, autoAfter}
+use Rattle.deadlines.specs.Deadlines.{paceOf, activeAfter, readAfter, writeAfter, cutRead, closeAfter, closeAllAfter, restAll, restAfter, refreshAfter, modeSetAfter, cutWrite, newWrite, autoAfter}
 use Rattle.bridge.specs.Summary.{Held, laid, summary, from, ended, cleared, heldBy, readerOf, writerOf}
-use Rattle.bridge.proofs.Laid.{put, activated, banked, readGiven, writeGiven, timed, active-laid, auto-laid, cut-laid, new-laid, rest-laid}
+use Rattle.bridge.proofs.Laid.{put, put-same, activated, banked, readGiven, writeGiven, timed, active-laid, auto-laid, cut-laid, new-laid, rest-laid}
 use Rattle.bridge.proofs.Bursts.{blind, uncut, find-same, find-map, find-like, held-cut, Given, Ended, Late, nothing, read, write, Over, held-over, find-all, find-holds, lesser-low, lesser-high, lesser-add, lesser-right, lesser-left, later-low, later-high, later-add}
 use Rattle.bridge.proofs.Tests.{first-of}
 use Rattle.bridge.proofs.Cut.{cut-until, Latency, same-latency, same-reader}
@@ -219,17 +219,28 @@ module _ (s : Settings) (p : Part) (from₀ t : ℕ) (l : from₀ ≤ t) (g : So
       go true e false = ap (λ (j : ℕ). from (p .banks j .precharged) (s .tRP)) (eqb-true i b e)
       go false e w = refl
 
+  -- a bank that stays open
+  left-open : (b : ℕ) → p .banks b .opened ≡ true → (x : Held) → laid (banked (put (X .opened) b 1) (put (X .rest) b (X .rest b)) x) ≡ laid (banked (X .opened) (X .rest) x)
+  left-open b o x = λ i. laid (banked (put-same (X .opened) b 1 (rw o) i) (put-same (X .rest) b (X .rest b) refl i) x)
+
   held-new : (auto : Bool) (c H : ℕ) → H ≤ c → later (cond auto c 0) H ≡ cond auto c H
   held-new true c H q = later-high c H q
   held-new false c H q = rw (leb·zero H)
 
   pub read-next : (b a : ℕ) (ten : Bool) → b < 4 → p .banks b .opened ≡ true → X .reads ≤ t →
-      laid (after (does READ b a ten)) ≡ readAfter s (laid X) (p .mode) t b ten
+      laid (after (does READ b a ten)) ≡ readAfter s (laid X) (paceOf (p .mode)) t b ten
   unfolding readAfter
-  read-next b a ten m o q =
-      ap laid entries
-      ∙ sym (auto-laid (readGiven (t + CL (p .mode) + h (p .mode)) (cond ten (t + h (p .mode)) (X .reads)) (cond ten 4 b) X) b ten (t + h (p .mode) + s .tRP) m)
+  read-next b a ten m o q = ap laid entries ∙ stored ten
     where
+      given : Bool → Held
+      given v = readGiven (t + CL (p .mode) + h (p .mode)) (cond v (t + h (p .mode)) (X .reads)) (cond v 4 b) X
+
+      stored : (v : Bool) →
+          laid (banked (put (X .opened) b (cond v 0 1)) (put (X .rest) b (cond v (later (X .locked b) (t + h (p .mode) + s .tRP)) (X .rest b))) (given v)) ≡
+          readAfter s (laid X) (paceOf (p .mode)) t b v
+      stored true = sym (auto-laid (given true) b (t + h (p .mode) + s .tRP) m)
+      stored false = left-open b o (given false)
+
       c : Command
       c = does READ b a ten
 
@@ -241,7 +252,7 @@ module _ (s : Settings) (p : Part) (from₀ t : ℕ) (l : from₀ ≤ t) (g : So
 
       entries : after c ≡
           banked (put (X .opened) b (cond ten 0 1)) (put (X .rest) b (cond ten (later (X .locked b) (t + h (p .mode) + s .tRP)) (X .rest b)))
-          (readGiven (t + CL (p .mode) + h (p .mode)) (cond ten (t + h (p .mode)) (X .reads)) (cond ten 4 b) X)
+          (given ten)
       entries =
           same
           (fun-ext (λ i. auto-opened b i ten (y i) o refl))
@@ -337,18 +348,9 @@ module _ (s : Settings) (p : Part) (from₀ t : ℕ) (l : from₀ ≤ t) (g : So
   open-by i (some a) q = le-leb a t (omega arith)
 
   pub write-next : (b a : ℕ) (ten : Bool) → b < 4 → p .banks b .opened ≡ true → X .writes ≤ t →
-      laid (after (does WRITE b a ten)) ≡ writeAfter s (laid X) (p .mode) t b ten
+      laid (after (does WRITE b a ten)) ≡ writeAfter s (laid X) (paceOf (p .mode)) t b ten
   unfolding writeAfter
-  write-next b a ten m o q =
-      ap laid entries
-      ∙ sym (ap
-      (λ (d : List ℕ).
-      autoAfter (set (newWrite s d t (h (p .mode)) b) 36 (cond ten (t + h (p .mode)) (getD (newWrite s d t (h (p .mode)) b) 36 0))) b ten
-      (t + 1 + h (p .mode) + s .tWR + s .tRP)) (cut-laid s X t)
-      ∙ ap
-      (λ (d : List ℕ).
-      autoAfter (set d 36 (cond ten (t + h (p .mode)) (getD d 36 0))) b ten (t + 1 + h (p .mode) + s .tWR + s .tRP)) (new-laid s cutHeld t (h (p .mode)) b m)
-      ∙ auto-laid newHeld b ten (t + 1 + h (p .mode) + s .tWR + s .tRP) m)
+  write-next b a ten m o q = ap laid entries ∙ stored ten
     where
       c : Command
       c = does WRITE b a ten
@@ -356,11 +358,21 @@ module _ (s : Settings) (p : Part) (from₀ t : ℕ) (l : from₀ ≤ t) (g : So
       W : ℕ → ℕ
       W = put (X .written) (X .writer % 4) (lesser (X .written (X .writer % 4)) (t + 1 + 0 + s .tWR))
 
-      cutHeld : Held
-      cutHeld = writeGiven W (X .writes) (X .end) (X .writer) X
+      given : Bool → Held
+      given v = writeGiven (put W b (t + 1 + h (p .mode) + s .tWR)) (cond v (t + h (p .mode)) (X .writes)) (t + 1 + h (p .mode) + s .tWTR) b X
 
-      newHeld : Held
-      newHeld = writeGiven (put W b (t + 1 + h (p .mode) + s .tWR)) (cond ten (t + h (p .mode)) (X .writes)) (t + 1 + h (p .mode) + s .tWTR) b X
+      new-stored : newWrite s (cutWrite s (laid X) t) t (h (p .mode)) b ≡ laid (given false)
+      new-stored =
+          ap (λ (d : List ℕ). newWrite s d t (h (p .mode)) b) (cut-laid s X t)
+          ∙ new-laid s (writeGiven W (X .writes) (X .end) (X .writer) X) t (h (p .mode)) b m
+
+      stored : (v : Bool) →
+          laid (banked (put (X .opened) b (cond v 0 1)) (put (X .rest) b (cond v (later (X .locked b) (t + 1 + h (p .mode) + s .tWR + s .tRP)) (X .rest b))) (given v)) ≡
+          writeAfter s (laid X) (paceOf (p .mode)) t b v
+      stored true =
+          sym (ap (λ (d : List ℕ). autoAfter (set d 36 (t + h (p .mode))) b (t + 1 + h (p .mode) + s .tWR + s .tRP)) new-stored
+          ∙ auto-laid (given true) b (t + 1 + h (p .mode) + s .tWR + s .tRP) m)
+      stored false = left-open b o (given false) ∙ sym new-stored
 
       y : ℕ → Bank
       y i = idleFrom (later (orZero (p .banks i .active) + s .tRAS) (t + 1 + h (p .mode) + s .tWR)) (p .banks i)
@@ -384,7 +396,7 @@ module _ (s : Settings) (p : Part) (from₀ t : ℕ) (l : from₀ ≤ t) (g : So
 
       entries : after c ≡
           banked (put (X .opened) b (cond ten 0 1))
-          (put (X .rest) b (cond ten (later (X .locked b) (t + 1 + h (p .mode) + s .tWR + s .tRP)) (X .rest b))) newHeld
+          (put (X .rest) b (cond ten (later (X .locked b) (t + 1 + h (p .mode) + s .tWR + s .tRP)) (X .rest b))) (given ten)
       entries =
           same
           (fun-ext (λ i. auto-opened b i ten (y i) o refl))
@@ -438,7 +450,7 @@ module _ (s : Settings) (p : Part) (from₀ t : ℕ) (l : from₀ ≤ t) (g : So
           cut-clear c x f y (rw (not-true (x .writes) (find-holds reads xs f)))
           (λ a. find-all reads (held-over reads t xs q) f .by (find-holds reads xs f) a)
 
-  pub terminate-next : (b a : ℕ) (ten : Bool) → X .reads ≤ t → laid (after (does BURST-TERMINATE b a ten)) ≡ cutRead (laid X) (p .mode) t true
+  pub terminate-next : (b a : ℕ) (ten : Bool) → X .reads ≤ t → laid (after (does BURST-TERMINATE b a ten)) ≡ cutRead (laid X) (paceOf (p .mode)) t true
   unfolding cutRead
   terminate-next b a ten q = ap laid entries
     where
@@ -507,11 +519,11 @@ module _ (s : Settings) (p : Part) (from₀ t : ℕ) (l : from₀ ≤ t) (g : So
       go false e true = rw e
       go false e false = refl
 
-  pub close-next : (b a : ℕ) → b < 4 → laid (after (does PRECHARGE b a false)) ≡ closeAfter s (laid X) (p .mode) t b
+  pub close-next : (b a : ℕ) → b < 4 → laid (after (does PRECHARGE b a false)) ≡ closeAfter s (laid X) (paceOf (p .mode)) t b
   unfolding closeAfter cutRead
   close-next b a m =
       ap laid entries
-      ∙ sym (ap (λ (d : List ℕ). cutRead d (p .mode) t (eqb (getD d 38 0) b)) (rest-laid X b (t + s .tRP) m))
+      ∙ sym (ap (λ (d : List ℕ). cutRead d (paceOf (p .mode)) t (eqb (getD d 38 0) b)) (rest-laid X b (t + s .tRP) m))
     where
       c : Command
       c = does PRECHARGE b a false
@@ -550,7 +562,7 @@ module _ (s : Settings) (p : Part) (from₀ t : ℕ) (l : from₀ ≤ t) (g : So
           (same-reads c)
           (rw (writes-stay c refl))
 
-  pub close-all-next : (b a : ℕ) → laid (after (does PRECHARGE b a true)) ≡ closeAllAfter s (laid X) (p .mode) t
+  pub close-all-next : (b a : ℕ) → laid (after (does PRECHARGE b a true)) ≡ closeAllAfter s (laid X) (paceOf (p .mode)) t
   unfolding closeAllAfter cutRead restAll restAfter
   close-all-next b a = ap laid entries
     where

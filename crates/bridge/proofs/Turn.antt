@@ -1,8 +1,8 @@
 -- One event: the step answers by the summary what the reading answers by the part, and leaves the next summary.
-use Prim.Native.Nat.{ℕ, zero, suc, _+_, _*_, _/_, _%_, _^_, _≤_, _<_}
-use mathlib.Core.Bool.{Bool, true, false, cond, not, _&&_, _||_}
+use Prim.Native.Nat.{ℕ, zero, suc, _%_, _≤_, _<_}
+use mathlib.Core.Bool.{Bool, true, false, cond, not, _&&_}
 use mathlib.Core.List.{List, [], _∷_, List·Memᴰ}
-use mathlib.Core.Option.{Option, none, some}
+use mathlib.Core.Option.{none}
 use mathlib.Core.Path.{_≡_, refl, sym, ap, _∙_, subst}
 use native.Mathlib.Nat.{add-zero, zero-add}
 use native.Mathlib.Omega.{arith}
@@ -11,16 +11,16 @@ use borrow.Author.Tests.{leb-true, not-false}
 use Rattle.reading.specs.Search.{find}
 use Rattle.reading.specs.Settings.{Settings}
 use Rattle.reading.specs.Commands.{Op, ACTIVE, READ, WRITE, BURST-TERMINATE, PRECHARGE, AUTO-REFRESH, MODE-REGISTER-SET, NOP, DESELECT, Command, opOf, commandOf}
-use Rattle.reading.specs.Bursts.{Burst, reads}
+use Rattle.reading.specs.Bursts.{reads}
 use Rattle.reading.specs.Part.{Part, start, partAfter}
 use Rattle.reading.specs.Rules.{after, keeps, rules, lowestBroken}
 use Rattle.reading.proofs.Cuts.{nil}
 use Rattle.reading.proofs.Found.{find-none}
-use Rattle.deadlines.specs.Deadlines.{startOf}
-use Rattle.part.specs.Steps.{codeOf, bankOf, addressOf, tenOf, stepBreaks, stepAfter, modeAfter}
+use Rattle.deadlines.specs.Deadlines.{paceOf, startOf}
+use Rattle.part.specs.Steps.{codeOf, bankOf, addressOf, tenOf, stepBreaks, stepAfter, paceAfter}
 use Rattle.part.proofs.Codes as codes
 use Rattle.part.proofs.Pins.{turned, op-is}
-use Rattle.bridge.specs.Summary.{Held, laid, summary, from, heldBy, cleared}
+use Rattle.bridge.specs.Summary.{Held, laid, summary, from}
 use Rattle.bridge.proofs.Tests.{num, first-of, after-is, leb-later, held-is, cleared-is}
 use Rattle.bridge.proofs.Bursts.{terminate-is, nothing}
 use Rattle.bridge.proofs.Rules.{does, quiet, deselect, read-agrees, write-agrees, active-agrees, terminate-agrees, close-agrees, close-all-agrees, refresh-agrees, mode-agrees}
@@ -33,10 +33,10 @@ carries w q e = ap (λ (o : Op). does o (bankOf w) (addressOf w) (tenOf w)) (op-
 -- ---- one event
 
 module _ (s : Settings) (wide : s .rowBits < 32) (p : Part) (from₀ t : ℕ) (l : from₀ ≤ t) (g : Sound from₀ p) (w : ℕ) where
-  -- the deadlines, the mode word and what holds of the part, after an event that keeps every rule
+  -- the deadlines, h and CL, and what holds of the part, after an event that keeps every rule
   pub record Onward (c : Command) : Type 0 where
-    pub leaves : stepAfter s (laid (summary s p)) (p .mode) t w ≡ laid (summary s (partAfter s p t c))
-    pub sets : modeAfter (p .mode) w ≡ partAfter s p t c .mode
+    pub leaves : stepAfter s (laid (summary s p)) (paceOf (p .mode)) t w ≡ laid (summary s (partAfter s p t c))
+    pub sets : paceAfter (paceOf (p .mode)) w ≡ paceOf (partAfter s p t c .mode)
     pub sound : Sound (suc t) (partAfter s p t c)
 
   pub record Turned (c : Command) : Type 0 where
@@ -76,14 +76,14 @@ module _ (s : Settings) (wide : s .rowBits < 32) (p : Part) (from₀ t : ℕ) (l
   both-after e = busy-past (rw (after-is (s .tRFC) (p .refreshed) t, after-is (s .tMRD) (p .modeSet) t) at e)
 
   -- a command by its pins, once its laws are in hand
-  turn : (q : ℕ) (c : Command) → commandOf w ≡ c → {rule : ℕ} {left : List ℕ} {mode : ℕ} → codes.Does s (laid X) (p .mode) t w rule left mode →
+  turn : (q : ℕ) (c : Command) → commandOf w ≡ c → {rule : ℕ} {left pace : List ℕ} → codes.Does s (laid X) (paceOf (p .mode)) t w rule left pace →
       num (lowestBroken s p t c) ≡ rule → (lowestBroken s p t c ≡ none → laid (summary s (partAfter s p t c)) ≡ left) →
-      mode ≡ partAfter s p t c .mode → (lowestBroken s p t c ≡ none → Sound (suc t) (partAfter s p t c)) → Turned (commandOf w)
-  turn q c e d agrees next mode sound =
+      pace ≡ paceOf (partAfter s p t c .mode) → (lowestBroken s p t c ≡ none → Sound (suc t) (partAfter s p t c)) → Turned (commandOf w)
+  turn q c e d agrees next pace sound =
       subst (λ (k : Command). Turned k) (sym e)
       (record {
         breaks = d .breaks ∙ sym agrees;
-        onward = λ z. record { leaves = d .leaves ∙ sym (next z); sets = d .sets ∙ mode; sound = sound z };
+        onward = λ z. record { leaves = d .leaves ∙ sym (next z); sets = d .sets ∙ pace; sound = sound z };
       })
 
   b : ℕ
@@ -102,13 +102,13 @@ module _ (s : Settings) (wide : s .rowBits < 32) (p : Part) (from₀ t : ℕ) (l
   turn-active : codeOf w ≡ 12 → Turned (commandOf w)
   unfolding b a ten
   turn-active e =
-      turn 12 (does ACTIVE b a ten) (carries w 12 e) (codes.active s (laid X) (p .mode) t w refl e) (active-agrees s p t b a ten small wide)
+      turn 12 (does ACTIVE b a ten) (carries w 12 e) (codes.active s (laid X) (paceOf (p .mode)) t w refl e) (active-agrees s p t b a ten small wide)
       (λ z. active-next s p from₀ t l g b a ten small) refl (λ z. kept-plain s p from₀ t l g (does ACTIVE b a ten) refl refl refl)
 
   turn-read : codeOf w ≡ 10 → Turned (commandOf w)
   unfolding b a ten
   turn-read e =
-      turn 10 c (carries w 10 e) (codes.read s (laid X) (p .mode) t w refl e) (read-agrees s p t b a ten small)
+      turn 10 c (carries w 10 e) (codes.read s (laid X) (paceOf (p .mode)) t w refl refl e) (read-agrees s p t b a ten small)
       (λ z. read-next s p from₀ t l g b a ten small (kept c z 3 third) (leb-true (X .reads) t (sym (held-is reads t (p .bursts)) ∙ kept c z 13 thirteenth)))
       refl (λ z. kept-read s p from₀ t l g b a ten small)
     where
@@ -118,7 +118,7 @@ module _ (s : Settings) (wide : s .rowBits < 32) (p : Part) (from₀ t : ℕ) (l
   turn-write : codeOf w ≡ 2 → Turned (commandOf w)
   unfolding b a ten
   turn-write e =
-      turn 2 c (carries w 2 e) (codes.write s (laid X) (p .mode) t w refl e) (write-agrees s p t b a ten small)
+      turn 2 c (carries w 2 e) (codes.write s (laid X) (paceOf (p .mode)) t w refl refl e) (write-agrees s p t b a ten small)
       (λ z. write-next s p from₀ t l g b a ten small (kept c z 3 third) (held z)) refl (λ z. kept-write s p from₀ t l g b a ten small (held z))
     where
       c : Command
@@ -133,18 +133,18 @@ module _ (s : Settings) (wide : s .rowBits < 32) (p : Part) (from₀ t : ℕ) (l
     where
       go : (v : Bool) → tenOf w ≡ v → Turned (commandOf w)
       go true f =
-          turn 4 (does PRECHARGE b a true) (carries w 4 e ∙ ap (does PRECHARGE b a) f) (codes.close-all s (laid X) (p .mode) t w e f)
+          turn 4 (does PRECHARGE b a true) (carries w 4 e ∙ ap (does PRECHARGE b a) f) (codes.close-all s (laid X) (paceOf (p .mode)) t w e f)
           (close-all-agrees s p t b a) (λ z. close-all-next s p from₀ t l g b a) refl
           (λ z. kept-plain s p from₀ t l g (does PRECHARGE b a true) refl refl refl)
       go false f =
-          turn 4 (does PRECHARGE b a false) (carries w 4 e ∙ ap (does PRECHARGE b a) f) (codes.close s (laid X) (p .mode) t w refl e f)
+          turn 4 (does PRECHARGE b a false) (carries w 4 e ∙ ap (does PRECHARGE b a) f) (codes.close s (laid X) (paceOf (p .mode)) t w refl e f)
           (close-agrees s p t b a small) (λ z. close-next s p from₀ t l g b a small) refl
           (λ z. kept-plain s p from₀ t l g (does PRECHARGE b a false) refl refl refl)
 
   turn-terminate : codeOf w ≡ 6 → Turned (commandOf w)
   unfolding b a ten
   turn-terminate e =
-      turn 6 c (carries w 6 e) (codes.terminate s (laid X) (p .mode) t w e) (terminate-agrees s p t b a ten from₀ l (g .bursts) (g .late))
+      turn 6 c (carries w 6 e) (codes.terminate s (laid X) (paceOf (p .mode)) t w e) (terminate-agrees s p t b a ten from₀ l (g .bursts) (g .late))
       (λ z. terminate-next s p from₀ t l g b a ten (held z)) refl (λ z. kept-plain s p from₀ t l g c refl refl refl)
     where
       c : Command
@@ -158,7 +158,7 @@ module _ (s : Settings) (wide : s .rowBits < 32) (p : Part) (from₀ t : ℕ) (l
   turn-refresh : codeOf w ≡ 8 → Turned (commandOf w)
   unfolding b a ten
   turn-refresh e =
-      turn 8 c (carries w 8 e) (codes.refresh s (laid X) (p .mode) t w e) (refresh-agrees s p t b a ten)
+      turn 8 c (carries w 8 e) (codes.refresh s (laid X) (paceOf (p .mode)) t w e) (refresh-agrees s p t b a ten)
       (λ z. refresh-next s p from₀ t l g b a ten (both-after (kept c z 4 fourth))) refl (λ z. kept-plain s p from₀ t l g c refl refl refl)
     where
       c : Command
@@ -167,26 +167,30 @@ module _ (s : Settings) (wide : s .rowBits < 32) (p : Part) (from₀ t : ℕ) (l
   turn-mode : codeOf w ≡ 0 → Turned (commandOf w)
   unfolding b a ten
   turn-mode e =
-      turn 0 c (carries w 0 e) (codes.mode-set s (laid X) (p .mode) t w refl e) (mode-agrees s p t b a ten)
-      (λ z. mode-next s p from₀ t l g b a ten (both-after (kept c z 4 fourth))) refl
+      turn 0 c (carries w 0 e) (codes.mode-set s (laid X) (paceOf (p .mode)) t w refl e) (mode-agrees s p t b a ten)
+      (λ z. mode-next s p from₀ t l g b a ten (both-after (kept c z 4 fourth))) (which (eqb b 0))
       (λ z. kept-mode s p from₀ t l g b a ten (leb-true (X .bus) t (sym (cleared-is (find reads (p .bursts)) t) ∙ kept c z 12 twelfth)))
     where
       c : Command
       c = does MODE-REGISTER-SET b a ten
 
-  turn-quiet : (q : ℕ) → codeOf w ≡ q → codes.Quiet s (laid X) (p .mode) t w → opOf (turned q) ≡ NOP → Turned (commandOf w)
+      which : (v : Bool) → cond v (paceOf a) (paceOf (p .mode)) ≡ paceOf (cond v a (p .mode))
+      which true = refl
+      which false = refl
+
+  turn-quiet : (q : ℕ) → codeOf w ≡ q → codes.Quiet s (laid X) (paceOf (p .mode)) t w → opOf (turned q) ≡ NOP → Turned (commandOf w)
   unfolding b a ten
   turn-quiet q e n o =
-      turn q c (carries w q e ∙ ap (λ (k : Op). does k b a ten) o) (codes.quiet s (laid X) (p .mode) t w n) (quiet s p t b a ten)
+      turn q c (carries w q e ∙ ap (λ (k : Op). does k b a ten) o) (codes.quiet s (laid X) (paceOf (p .mode)) t w n) (quiet s p t b a ten)
       (λ z. quiet-next s p from₀ t l g b a ten) refl (λ z. kept-plain s p from₀ t l g c refl refl refl)
     where
       c : Command
       c = does NOP b a ten
 
-  turn-deselect : (q : ℕ) → codeOf w ≡ q → codes.Quiet s (laid X) (p .mode) t w → opOf (turned q) ≡ DESELECT → Turned (commandOf w)
+  turn-deselect : (q : ℕ) → codeOf w ≡ q → codes.Quiet s (laid X) (paceOf (p .mode)) t w → opOf (turned q) ≡ DESELECT → Turned (commandOf w)
   unfolding b a ten
   turn-deselect q e n o =
-      turn q c (carries w q e ∙ ap (λ (k : Op). does k b a ten) o) (codes.quiet s (laid X) (p .mode) t w n) (deselect s p t b a ten)
+      turn q c (carries w q e ∙ ap (λ (k : Op). does k b a ten) o) (codes.quiet s (laid X) (paceOf (p .mode)) t w n) (deselect s p t b a ten)
       (λ z. deselect-next s p from₀ t l g b a ten) refl (λ z. kept-plain s p from₀ t l g c refl refl refl)
     where
       c : Command
@@ -194,7 +198,7 @@ module _ (s : Settings) (wide : s .rowBits < 32) (p : Part) (from₀ t : ℕ) (l
 
   -- none of the seven commands: by omega, once the number is known
   silent : (q : ℕ) → codeOf w ≡ q → (q ≡ 12 → ⊥) → (q ≡ 10 → ⊥) → (q ≡ 2 → ⊥) → (q ≡ 4 → ⊥) → (q ≡ 6 → ⊥) → (q ≡ 8 → ⊥) → (q ≡ 0 → ⊥) →
-      codes.Quiet s (laid X) (p .mode) t w
+      codes.Quiet s (laid X) (paceOf (p .mode)) t w
   silent q e f₁ f₂ f₃ f₄ f₅ f₆ f₇ =
       record {
         no-active = λ f. f₁ (sym e ∙ f);

@@ -2,5 +2,6 @@
 pub mod Accepted
 pub mod Unique
 -- The steps of this crate's own proofs.
+mod Fitting
 mod Walks
 mod Opening

@@ -1,7 +1,8 @@
 // A capture in bytes: whether it is accepted, and its settings and events.
 use words::Found;
 ghost use mathlib.Core.Path.{_≡_};
-ghost use mathlib.Core.Bool.{not};
+ghost use mathlib.Core.Bool.{true, not, _&&_};
+ghost use mathlib.Core.Option.{none};
 ghost use Prim.Native.Nat.{_+_, _*_, _≤_};
 ghost use lib.ListN.{length};
 ghost use Rattle.words.specs.Found.{placeOf};
@@ -102,10 +103,38 @@ fn event_fits(next: u32, cycle: u32, pins: u32) -> bool
     next <= cycle
 }
 
+fn both(a: bool, b: bool) -> bool
+    ensures { λ r. ⌜ r ≡ (a && b) ⌝ }
+{
+    if a { b } else { false }
+}
+
+// Told of a capture without a branch for each event, as most are: cycles that rise are not too large if the last is not.
+fn all_fit(part: &[u8], n: usize) -> bool
+    requires { ⌜ (n ≤ 8000) × (8 * n ≤ length (now part)) ⌝ }
+    ensures { λ r. ⌜ (r ≡ true → badEvent (now (part .entry)) n ≡ none) ⌝ }
+{
+    if n == 0 {
+        return true;
+    }
+    let mut fine = pins_at(part, 0) < 1_048_576;
+    let mut last = cycle_at(part, 0);
+    for i in 1..n {
+        let t = cycle_at(part, i);
+        let w = pins_at(part, i);
+        fine = both(fine, both(last < t, w < 1_048_576));
+        last = t;
+    }
+    both(fine, last <= 2_000_000_000)
+}
+
 fn lowest_bad_event(part: &[u8], n: usize) -> Found
     requires { ⌜ (n ≤ 8000) × (8 * n ≤ length (now part)) ⌝ }
     ensures { λ r. ⌜ placeOf r ≡ badEvent (now (part .entry)) n ⌝ }
 {
+    if all_fit(part, n) {
+        return Found::Nothing;
+    }
     let mut next = 0;
     'events: for i in 0..n {
         let cycle = cycle_at(part, i);

@@ -1,32 +1,40 @@
 -- Refusal 8: whether the judging ends before the last event, and where.
 use Prim.Native.Nat.{ℕ}
-use mathlib.Core.List.{List}
+use mathlib.Core.List.{List, [], _∷_}
+use mathlib.Core.Logic.{inl, inr}
 use mathlib.Core.Option.{none, some}
-use mathlib.Core.Path.{_≡_, refl, ap, _∙_}
+use mathlib.Core.Path.{_≡_, refl, sym, ap, _∙_, subst}
 use native.Mathlib.Omega.{arith}
+use types.Run.{OneOf}
+use denote.Enum.Declared.{tagOf}
 use Rattle.reading.specs.Settings.{settingsOf}
 use Rattle.reading.specs.Verdict as is
 use Rattle.reading.specs.Answers.{notClean}
-use Rattle.part.specs.declared.Answer.{Answer}
-use Rattle.part.specs.declared.Answer.the-variants.{Broke}
-use Rattle.judge.specs.declared.Verdict.the-variants.{Clean, Broken}
-use Rattle.judge.specs.Meaning.{eventsIn, found, said, verdictOn}
+use Rattle.judge.specs.declared.Verdict.{Verdict}
+use Rattle.judge.specs.declared.Verdict.the-variants.{Broken}
+use Rattle.judge.specs.Meaning.{eventsIn, said, verdictOn}
+use Rattle.judge.proofs.Verdict.{the-type}
 
-module _ (settings part : List ℕ) (n : ℕ) where
-  pub nothing-broken : verdictOn (settingsOf settings) part n ≡ Clean n → none ≡ notClean (is.verdictOf (settingsOf settings) (eventsIn part n))
+-- the third variant is none of the other two
+not-third : OneOf (0 ∷ 1 ∷ []) 2 → ⊥
+not-third (inl e) = omega arith
+not-third (inr e) = omega arith
+
+module _ (settings part : List ℕ) (n : ℕ) {v : Verdict} (judged : v ≡ verdictOn (settingsOf settings) part n) where
+  verdict : v ≡ said n (is.verdictOf (settingsOf settings) (eventsIn part n))
   unfolding verdictOn
-  nothing-broken e = go (is.verdictOf (settingsOf settings) (eventsIn part n)) e
+  verdict = judged
+
+  pub nothing-broken : OneOf (0 ∷ 1 ∷ []) (tagOf the-type v) → none ≡ notClean (is.verdictOf (settingsOf settings) (eventsIn part n))
+  nothing-broken o = go (is.verdictOf (settingsOf settings) (eventsIn part n)) verdict
     where
-      go : (v : is.Verdict) → said n v ≡ Clean n → none ≡ notClean v
+      go : (x : is.Verdict) → v ≡ said n x → none ≡ notClean x
       go is.clean f = refl
-      go (is.broken r i t) f = let z : _≡_ {A = ℕ} 0 1 = cc in absurd (omega arith)
+      go (is.broken r i t) f = absurd (not-third (subst (λ (x : Verdict). OneOf (0 ∷ 1 ∷ []) (tagOf the-type x)) f o))
 
-  pub broken-first : {a : Answer} {r i : ℕ} (cycle : ℕ) → a ≡ Broke r → verdictOn (settingsOf settings) part n ≡ found a i cycle →
-      some i ≡ notClean (is.verdictOf (settingsOf settings) (eventsIn part n))
-  unfolding verdictOn
-  broken-first {a} {r} {i} cycle b e =
-      go (is.verdictOf (settingsOf settings) (eventsIn part n)) (e ∙ ap (λ (x : Answer). found x i cycle) b)
+  pub broken-first : {r i t k : ℕ} → v ≡ Broken r i t k → some i ≡ notClean (is.verdictOf (settingsOf settings) (eventsIn part n))
+  broken-first {r} {i} {t} {k} b = go (is.verdictOf (settingsOf settings) (eventsIn part n)) (sym b ∙ verdict)
     where
-      go : (v : is.Verdict) → said n v ≡ Broken r i cycle i → some i ≡ notClean v
+      go : (x : is.Verdict) → Broken r i t k ≡ said n x → some i ≡ notClean x
       go is.clean f = let z : _≡_ {A = ℕ} 0 1 = cc in absurd (omega arith)
-      go (is.broken q j t) f = let z : i ≡ j = cc in ap some z
+      go (is.broken q j u) f = let z : i ≡ j = cc in ap some z

@@ -1,6 +1,8 @@
 // The burst list: the cells of every kept beat of a clean capture, written into a lent buffer.
 use capture::Opened;
-use part::Answer;
+use deadlines::places::MODE;
+use deadlines::sums;
+use judge::Verdict;
 use words::Found;
 ghost use mathlib.Core.Path.{_≡_};
 ghost use Prim.Native.Nat.{_≤_};
@@ -50,19 +52,12 @@ fn first_broken(s: &[u32; 14], part: &[u8], n: u32) -> Found
     ensures { λ r. ⌜ placeOf r ≡ notClean (verdictOf (settingsOf (now (s .entry))) (eventsIn (now (part .entry)) n)) ⌝ }
 {
     let mut deadlines = effects::start(s);
-    let mut mode = s[3];
-    let mut i: u32 = 0;
-    'events: while i < n {
-        let at = i as usize;
-        let cycle = capture::cycle_at(part, at);
-        let pins = capture::pins_at(part, at);
-        let answer = part::step(s, &mut deadlines, &mut mode, cycle, pins);
-        let Answer::Kept = answer else {
-            return Found::At(i);
-        };
-        i += 1;
-    }
-    Found::Nothing
+    let mut pace = sums::pace(s[MODE]);
+    let verdict = judge::walk(s, &mut deadlines, &mut pace, part, n);
+    let Verdict::Broken { event, .. } = verdict else {
+        return Found::Nothing;
+    };
+    Found::At(event)
 }
 
 // How many cells there are: two for each pair that a burst keeps.

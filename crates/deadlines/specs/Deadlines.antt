@@ -65,6 +65,16 @@ WRITER = 39
 abbrev pub at : List ℕ → ℕ → ℕ
 at d i = getD d i 0
 
+-- of the mode word in force: h and CL
+abbrev pub PAIRS : ℕ
+PAIRS = 0
+
+abbrev pub LATENCY : ℕ
+LATENCY = 1
+
+abbrev pub paceOf : ℕ → List ℕ
+paceOf mode = h mode ∷ CL mode ∷ []
+
 -- the rule where it is not kept, else what the later rules say
 abbrev pub orElse : Bool → ℕ → ℕ → ℕ
 orElse kept rule rest = cond kept rest rule
@@ -157,17 +167,15 @@ activeAfter s d t b =
     set d₆ (LOCKED + b) (t + s .tRAS + s .tRP)
 
 -- auto precharge lets the next ACTIVE through from the cycle c on, and not before tRAS and tRP are over
-unfoldable pub autoAfter : List ℕ → ℕ → Bool → ℕ → List ℕ
-autoAfter d b auto c =
-    let d₁ = set d (OPEN + b) (cond auto 0 1) in
-    set d₁ (REST + b) (cond auto (later (at d₁ (LOCKED + b)) c) (at d₁ (REST + b)))
+unfoldable pub autoAfter : List ℕ → ℕ → ℕ → List ℕ
+autoAfter d b c =
+    let d₁ = set d (OPEN + b) 0 in
+    set d₁ (REST + b) (later (at d₁ (LOCKED + b)) c)
 
-unfoldable pub readAfter : Settings → List ℕ → ℕ → ℕ → ℕ → Bool → List ℕ
+unfoldable pub readAfter : Settings → List ℕ → List ℕ → ℕ → ℕ → Bool → List ℕ
 readAfter s d m t b auto =
-    let d₁ = set d DATA (t + CL m + h m) in
-    let d₂ = set d₁ READER (cond auto 4 b) in
-    let d₃ = set d₂ READS (cond auto (t + h m) (at d₂ READS)) in
-    autoAfter d₃ b auto (t + h m + s .tRP)
+    let d₁ = set d DATA (t + at m LATENCY + at m PAIRS) in
+    cond auto (autoAfter (set (set d₁ READER 4) READS (t + at m PAIRS)) b (t + at m PAIRS + s .tRP)) (set d₁ READER b)
 
 -- the last write is cut, to a data end of t + 1
 unfoldable pub cutWrite : Settings → List ℕ → ℕ → List ℕ
@@ -182,15 +190,14 @@ newWrite s d t pairs b =
     let d₂ = set d₁ END (t + 1 + pairs + s .tWTR) in
     set d₂ WRITER b
 
-unfoldable pub writeAfter : Settings → List ℕ → ℕ → ℕ → ℕ → Bool → List ℕ
+unfoldable pub writeAfter : Settings → List ℕ → List ℕ → ℕ → ℕ → Bool → List ℕ
 writeAfter s d m t b auto =
-    let d₁ = newWrite s (cutWrite s d t) t (h m) b in
-    let d₂ = set d₁ WRITES (cond auto (t + h m) (at d₁ WRITES)) in
-    autoAfter d₂ b auto (t + 1 + h m + s .tWR + s .tRP)
+    let d₁ = newWrite s (cutWrite s d t) t (at m PAIRS) b in
+    cond auto (autoAfter (set d₁ WRITES (t + at m PAIRS)) b (t + 1 + at m PAIRS + s .tWR + s .tRP)) d₁
 
 -- the last read is cut, if it can be, to leave the bus CL cycles after t
-unfoldable pub cutRead : List ℕ → ℕ → ℕ → Bool → List ℕ
-cutRead d m t cut = set d DATA (cond cut (lesser (at d DATA) (t + CL m)) (at d DATA))
+unfoldable pub cutRead : List ℕ → List ℕ → ℕ → Bool → List ℕ
+cutRead d m t cut = set d DATA (cond cut (lesser (at d DATA) (t + at m LATENCY)) (at d DATA))
 
 -- a bank that is open becomes idle
 unfoldable pub restAfter : List ℕ → ℕ → ℕ → List ℕ
@@ -198,13 +205,13 @@ restAfter d b c =
     let d₁ = set d (REST + b) (cond (eqb (at d (OPEN + b)) 0) (at d (REST + b)) c) in
     set d₁ (OPEN + b) 0
 
-unfoldable pub closeAfter : Settings → List ℕ → ℕ → ℕ → ℕ → List ℕ
+unfoldable pub closeAfter : Settings → List ℕ → List ℕ → ℕ → ℕ → List ℕ
 closeAfter s d m t b = cutRead (restAfter d b (t + s .tRP)) m t (eqb (at (restAfter d b (t + s .tRP)) READER) b)
 
 unfoldable pub restAll : List ℕ → ℕ → List ℕ
 restAll d c = restAfter (restAfter (restAfter (restAfter d 0 c) 1 c) 2 c) 3 c
 
-unfoldable pub closeAllAfter : Settings → List ℕ → ℕ → ℕ → List ℕ
+unfoldable pub closeAllAfter : Settings → List ℕ → List ℕ → ℕ → List ℕ
 closeAllAfter s d m t = cutRead (restAll d (t + s .tRP)) m t (ltb (at (restAll d (t + s .tRP)) READER) 4)
 
 unfoldable pub refreshAfter : Settings → List ℕ → ℕ → List ℕ

@@ -34,8 +34,15 @@ pub const READER: usize = 38;
 
 pub const WRITER: usize = 39;
 
+// Of the mode word in force: h and CL.
+pub const PAIRS: usize = 0;
+
+pub const LATENCY: usize = 1;
+
 // Settings, by document 01's numbers.
 pub const ROW_BITS: usize = 1;
+
+pub const MODE: usize = 3;
 
 pub const T_RCD: usize = 4;
 

@@ -4,7 +4,8 @@ ghost use mathlib.Core.Bool.{cond};
 ghost use Prim.Native.Nat.{_+_, _^_, _%_};
 ghost use lib.Dec.{leb};
 ghost use Rattle.reading.specs.Search.{lesser, later};
-ghost use Rattle.reading.specs.Mode.{h, CL};
+ghost use Rattle.reading.specs.Mode.{h};
+ghost use Rattle.deadlines.specs.Deadlines.{paceOf};
 
 pub fn past(deadline: u64, t: u32) -> bool
     ensures { λ r. ⌜ r ≡ leb deadline t ⌝ }
@@ -55,18 +56,17 @@ pub fn pick(c: bool, a: u64, b: u64) -> u64
     if c { a } else { b }
 }
 
-// h of a mode word.
-pub fn half(mode: u32) -> u32
+fn half(mode: u32) -> u32
     ensures { λ r. ⌜ r ≡ h mode ⌝ }
 {
     (1 << (mode % 8)) / 2
 }
 
-// CL of a mode word.
-pub fn latency(mode: u32) -> u32
-    ensures { λ r. ⌜ r ≡ CL mode ⌝ }
+// h and CL of a mode word.
+pub fn pace(mode: u32) -> [u32; 2]
+    ensures { λ r. ⌜ r ≡ paceOf mode ⌝ }
 {
-    mode / 16 % 8
+    [half(mode), mode / 16 % 8]
 }
 
 // The number of rows that a part of some row bits has.
@@ -74,10 +74,4 @@ pub fn rows(bits: u32) -> u32
     ensures { λ r. ⌜ r ≡ 2 ^ (bits % 32) ⌝ }
 {
     1 << (bits % 32)
-}
-
-pub fn pick_mode(c: bool, a: u32, b: u32) -> u32
-    ensures { λ r. ⌜ r ≡ cond c a b ⌝ }
-{
-    if c { a } else { b }
 }

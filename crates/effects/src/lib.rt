@@ -7,9 +7,11 @@ use deadlines::places::DATA;
 use deadlines::places::DUE;
 use deadlines::places::END;
 use deadlines::places::GAP;
+use deadlines::places::LATENCY;
 use deadlines::places::LOCKED;
 use deadlines::places::OPEN;
 use deadlines::places::OTHER;
+use deadlines::places::PAIRS;
 use deadlines::places::READER;
 use deadlines::places::READS;
 use deadlines::places::REST;
@@ -29,15 +31,11 @@ use deadlines::sums::after;
 use deadlines::sums::after2;
 use deadlines::sums::data_after;
 use deadlines::sums::data_after2;
-use deadlines::sums::half;
-use deadlines::sums::latency;
 use deadlines::sums::latest;
 use deadlines::sums::least;
 use deadlines::sums::pick;
 ghost use mathlib.Core.Path.{_≡_};
-ghost use mathlib.Core.Bool.{cond};
 ghost use Prim.Native.Nat.{_+_, _<_};
-ghost use Rattle.reading.specs.Mode.{h};
 ghost use Rattle.reading.specs.Settings.{settingsOf};
 ghost use Rattle.deadlines.specs.Deadlines as is;
 
@@ -54,24 +52,28 @@ pub fn active_after(s: &[u32; 14], d: &mut [u64; 40], t: u32, b: usize)
     d[LOCKED + b] = after2(t, s[T_RAS], s[T_RP]);
 }
 
-// The bank of a burst stays open, or is precharged from a cycle on that lets the next ACTIVE through at `from`.
-fn auto_after(d: &mut [u64; 40], b: usize, auto: bool, from: u64)
+// The bank of a burst with auto precharge is idle, and is let open again from a cycle on that is at least `from`.
+fn auto_after(d: &mut [u64; 40], b: usize, from: u64)
     requires { ⌜ b < 4 ⌝ }
-    ensures { λ r. ⌜ now (d .exit) ≡ is.autoAfter (now (d .entry)) b auto from ⌝ }
+    ensures { λ r. ⌜ now (d .exit) ≡ is.autoAfter (now (d .entry)) b from ⌝ }
 {
-    d[OPEN + b] = pick(auto, 0, 1);
-    d[REST + b] = pick(auto, latest(d[LOCKED + b], from), d[REST + b]);
+    d[OPEN + b] = 0;
+    d[REST + b] = latest(d[LOCKED + b], from);
 }
 
-pub fn read_after(s: &[u32; 14], d: &mut [u64; 40], mode: u32, t: u32, b: usize, auto: bool)
+pub fn read_after(s: &[u32; 14], d: &mut [u64; 40], pace: &[u32; 2], t: u32, b: usize, auto: bool)
     requires { ⌜ b < 4 ⌝ }
-    ensures { λ r. ⌜ now (d .exit) ≡ is.readAfter (settingsOf (now (s .entry))) (now (d .entry)) mode t b auto ⌝ }
+    ensures { λ r. ⌜ now (d .exit) ≡ is.readAfter (settingsOf (now (s .entry))) (now (d .entry)) (now (pace .entry)) t b auto ⌝ }
 {
-    let h = half(mode);
-    d[DATA] = after2(t, latency(mode), h);
-    d[READER] = pick(auto, 4, b as u64);
-    d[READS] = pick(auto, after(t, h), d[READS]);
-    auto_after(d, b, auto, after2(t, h, s[T_RP]));
+    let pairs = pace[PAIRS];
+    d[DATA] = after2(t, pace[LATENCY], pairs);
+    if auto {
+        d[READER] = 4;
+        d[READS] = after(t, pairs);
+        auto_after(d, b, after2(t, pairs, s[T_RP]));
+        return;
+    }
+    d[READER] = b as u64;
 }
 
 fn cut_write(s: &[u32; 14], d: &mut [u64; 40], t: u32)
@@ -90,21 +92,23 @@ fn new_write(s: &[u32; 14], d: &mut [u64; 40], t: u32, pairs: u32, b: usize)
     d[WRITER] = b as u64;
 }
 
-pub fn write_after(s: &[u32; 14], d: &mut [u64; 40], mode: u32, t: u32, b: usize, auto: bool)
+pub fn write_after(s: &[u32; 14], d: &mut [u64; 40], pace: &[u32; 2], t: u32, b: usize, auto: bool)
     requires { ⌜ b < 4 ⌝ }
-    ensures { λ r. ⌜ now (d .exit) ≡ is.writeAfter (settingsOf (now (s .entry))) (now (d .entry)) mode t b auto ⌝ }
+    ensures { λ r. ⌜ now (d .exit) ≡ is.writeAfter (settingsOf (now (s .entry))) (now (d .entry)) (now (pace .entry)) t b auto ⌝ }
 {
-    let h = half(mode);
+    let pairs = pace[PAIRS];
     cut_write(s, d, t);
-    new_write(s, d, t, h, b);
-    d[WRITES] = pick(auto, after(t, h), d[WRITES]);
-    auto_after(d, b, auto, data_after2(t, h, s[T_WR], s[T_RP]));
+    new_write(s, d, t, pairs, b);
+    if auto {
+        d[WRITES] = after(t, pairs);
+        auto_after(d, b, data_after2(t, pairs, s[T_WR], s[T_RP]));
+    }
 }
 
-pub fn cut_read(d: &mut [u64; 40], mode: u32, t: u32, cut: bool)
-    ensures { λ r. ⌜ now (d .exit) ≡ is.cutRead (now (d .entry)) mode t cut ⌝ }
+pub fn cut_read(d: &mut [u64; 40], pace: &[u32; 2], t: u32, cut: bool)
+    ensures { λ r. ⌜ now (d .exit) ≡ is.cutRead (now (d .entry)) (now (pace .entry)) t cut ⌝ }
 {
-    d[DATA] = pick(cut, least(d[DATA], after(t, latency(mode))), d[DATA]);
+    d[DATA] = pick(cut, least(d[DATA], after(t, pace[LATENCY])), d[DATA]);
 }
 
 fn rest_after(d: &mut [u64; 40], b: usize, from: u64)
@@ -115,13 +119,13 @@ fn rest_after(d: &mut [u64; 40], b: usize, from: u64)
     d[OPEN + b] = 0;
 }
 
-pub fn close_after(s: &[u32; 14], d: &mut [u64; 40], mode: u32, t: u32, b: usize)
+pub fn close_after(s: &[u32; 14], d: &mut [u64; 40], pace: &[u32; 2], t: u32, b: usize)
     requires { ⌜ b < 4 ⌝ }
-    ensures { λ r. ⌜ now (d .exit) ≡ is.closeAfter (settingsOf (now (s .entry))) (now (d .entry)) mode t b ⌝ }
+    ensures { λ r. ⌜ now (d .exit) ≡ is.closeAfter (settingsOf (now (s .entry))) (now (d .entry)) (now (pace .entry)) t b ⌝ }
 {
     rest_after(d, b, after(t, s[T_RP]));
     let cut = d[READER] == b as u64;
-    cut_read(d, mode, t, cut);
+    cut_read(d, pace, t, cut);
 }
 
 fn rest_all(d: &mut [u64; 40], from: u64)
@@ -133,12 +137,12 @@ fn rest_all(d: &mut [u64; 40], from: u64)
     rest_after(d, 3, from);
 }
 
-pub fn close_all_after(s: &[u32; 14], d: &mut [u64; 40], mode: u32, t: u32)
-    ensures { λ r. ⌜ now (d .exit) ≡ is.closeAllAfter (settingsOf (now (s .entry))) (now (d .entry)) mode t ⌝ }
+pub fn close_all_after(s: &[u32; 14], d: &mut [u64; 40], pace: &[u32; 2], t: u32)
+    ensures { λ r. ⌜ now (d .exit) ≡ is.closeAllAfter (settingsOf (now (s .entry))) (now (d .entry)) (now (pace .entry)) t ⌝ }
 {
     rest_all(d, after(t, s[T_RP]));
     let cut = d[READER] < 4;
-    cut_read(d, mode, t, cut);
+    cut_read(d, pace, t, cut);
 }
 
 pub fn refresh_after(s: &[u32; 14], d: &mut [u64; 40], t: u32)

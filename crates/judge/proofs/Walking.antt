@@ -8,7 +8,7 @@ use native.Mathlib.Numerals.{add-one}
 use native.Mathlib.Omega.{arith}
 use lib.Dec.{eqb}
 use lib.ListN.{length, drop}
-use borrow.Author.Tests.{eqb-true, eqb-false, ne-eqb, not-true}
+use borrow.Author.Tests.{eqb-true, eqb-false, eq-eqb, ne-eqb, not-true}
 use Rattle.reading.specs.Search.{every, find}
 use Rattle.reading.specs.Settings.{Settings, settingsOf}
 use Rattle.reading.specs.Capture.{Event, eventAt, eventFits}
@@ -17,16 +17,16 @@ use Rattle.reading.specs.Part.{Part, start, step}
 use Rattle.reading.specs.Rules.{keeps, rules, brokenBy}
 use Rattle.reading.specs.Verdict.{Verdict, clean, broken, onward, judgeFrom, verdictOf}
 use Rattle.capture.proofs.Accepted.{cycle-rises}
-use Rattle.part.specs.declared.Answer as turn-of
+use Rattle.deadlines.specs.Deadlines.{paceOf}
+use Rattle.part.specs.declared.Answer.{Answer}
 use Rattle.part.specs.declared.Answer.the-variants.{Kept, Broke}
-use Rattle.deadlines.specs.Deadlines.{startOf}
-use Rattle.part.specs.Steps.{answerOf, stepBreaks, stepAfter, modeAfter}
+use Rattle.part.specs.Steps.{answerOf, leftBy, stepBreaks, stepAfter, paceAfter}
 use Rattle.bridge.specs.Summary.{laid, summary}
 use Rattle.bridge.proofs.Tests.{num}
 use Rattle.bridge.proofs.Next.{Sound}
 use Rattle.bridge.proofs.Turn.{Turned, turned-event, start-laid, start-sound}
 use Rattle.judge.specs.declared.Verdict.the-variants.{Clean, Broken}
-use Rattle.judge.specs.Meaning.{Fit, eventsIn, found, said, verdictOn}
+use Rattle.judge.specs.Meaning.{Fit, Started, eventsIn, said, verdictOn}
 use Rattle.judge.proofs.Events.{next-of, none-of}
 
 -- no rule has the number 0
@@ -49,15 +49,23 @@ found-positive f (x ∷ xs) p r e z = go (f x) e (found-positive f xs (both-righ
 positive : (s : Settings) (p : Part) (e : Event) (r : ℕ) → brokenBy s p e ≡ some r → r ≡ 0 → ⊥
 positive s p e r q z = found-positive (λ k. not (keeps k s p (e .cycle) (commandOf (e .pins)))) rules refl r q z
 
-zero-of : (r : ℕ) → answerOf r ≡ Kept → r ≡ 0
+zero-of : (r : ℕ) → Kept ≡ answerOf r → r ≡ 0
 zero-of r e = go (eqb r 0) refl e
   where
-    go : (v : Bool) → eqb r 0 ≡ v → cond v Kept (Broke r) ≡ Kept → r ≡ 0
+    go : (v : Bool) → eqb r 0 ≡ v → Kept ≡ cond v Kept Broke → r ≡ 0
     go true f k = eqb-true r 0 f
     go false f k = let z : _≡_ {A = ℕ} 0 1 = cc in absurd (omega arith)
 
-not-zero : (r q : ℕ) → answerOf r ≡ Broke q → r ≡ 0 → ⊥
-not-zero r q e z = let k : _≡_ {A = turn-of.Answer} Kept (Broke q) = sym (ap answerOf z) ∙ e in let u : _≡_ {A = ℕ} 0 1 = cc in omega arith
+not-zero : (r : ℕ) → Broke ≡ answerOf r → r ≡ 0 → ⊥
+not-zero r e z =
+    let k : _≡_ {A = Answer} Broke Kept = e ∙ ap answerOf z in let u : _≡_ {A = ℕ} 0 1 = cc in omega arith
+
+-- what an event leaves that keeps, or breaks, a rule
+moved : (r : ℕ) → r ≡ 0 → (after before : List ℕ) → leftBy r after before ≡ after
+moved r z after before = rw (eq-eqb r 0 z)
+
+left : (r : ℕ) → (r ≡ 0 → ⊥) → (after before : List ℕ) → leftBy r after before ≡ before
+left r z after before = rw (ne-eqb r 0 z)
 
 module _ (settings part : List ℕ) (n : ℕ) where
   abbrev s : Settings
@@ -67,31 +75,31 @@ module _ (settings part : List ℕ) (n : ℕ) where
   es = eventsIn part n
 
   -- before event i the deadlines are the summary of a part, from which the rest decides the verdict
-  pub record Before (d : List ℕ) (mode i : ℕ) : Type 0 where
+  pub record Before (d pace : List ℕ) (i : ℕ) : Type 0 where
     pub reached : Part
     pub from : ℕ
     pub sound : Sound from reached
     pub deadlines : d ≡ laid (summary s reached)
-    pub moded : mode ≡ reached .mode
+    pub paced : pace ≡ paceOf (reached .mode)
     pub in-range : i ≤ n
     pub above : i < n → from ≤ eventAt part i .cycle
     pub decides : verdictOf s es ≡ judgeFrom s reached i (drop i es)
 
-  pub begins : Before (startOf s) (s .mode) 0
+  pub begins : {d pace : List ℕ} → Started s d pace → Before d pace 0
   unfolding verdictOf
-  begins =
+  begins z =
       record {
         reached = start s;
         from = 0;
         sound = start-sound s;
-        deadlines = start-laid s;
-        moded = refl;
+        deadlines = z .deadlines ∙ start-laid s;
+        paced = z .paced;
         in-range = zero-le;
         above = λ l. zero-le;
         decides = refl;
       }
 
-  module _ (fit : Fit settings part n) (d : List ℕ) (mode i : ℕ) (b : Before d mode i) (l : i < n) where
+  module _ (fit : Fit settings part n) (d pace : List ℕ) (i : ℕ) (b : Before d pace i) (l : i < n) where
     abbrev t : ℕ
     t = eventAt part i .cycle
 
@@ -110,18 +118,18 @@ module _ (settings part : List ℕ) (n : ℕ) where
     unfolds = b .decides ∙ ap (judgeFrom s (b .reached) i) (next-of (eventAt part) n i l)
 
     -- the next event's place
-    goes-on : stepBreaks s d t w ≡ 0 → Before (stepAfter s d mode t w) (modeAfter mode w) (i + 1)
+    goes-on : stepBreaks s d t w ≡ 0 → Before (stepAfter s d pace t w) (paceAfter pace w) (i + 1)
     goes-on z = go (brokenBy s (b .reached) (eventAt part i)) refl
       where
-        onwards : brokenBy s (b .reached) (eventAt part i) ≡ none → Before (stepAfter s d mode t w) (modeAfter mode w) (i + 1)
+        onwards : brokenBy s (b .reached) (eventAt part i) ≡ none → Before (stepAfter s d pace t w) (paceAfter pace w) (i + 1)
         onwards e =
             let k = turn .onward e in
             record {
               reached = step s (b .reached) (eventAt part i);
               from = suc t;
               sound = k .sound;
-              deadlines = rw (b .deadlines, b .moded) (k .leaves);
-              moded = rw (b .moded) (k .sets);
+              deadlines = rw (b .deadlines, b .paced) (k .leaves);
+              paced = rw (b .paced) (k .sets);
               in-range = omega arith;
               above = λ m. let q : i + 1 - 1 ≡ i = omega arith in rw q at (cycle-rises part (i + 1) (fit .events (i + 1) m) (omega arith));
               decides =
@@ -129,37 +137,46 @@ module _ (settings part : List ℕ) (n : ℕ) where
                   ∙ ap (λ (k : ℕ). judgeFrom s (step s (b .reached) (eventAt part i)) k (drop k es)) (sym (add-one i));
             }
 
-        go : (o : Option ℕ) → brokenBy s (b .reached) (eventAt part i) ≡ o → Before (stepAfter s d mode t w) (modeAfter mode w) (i + 1)
+        go : (o : Option ℕ) → brokenBy s (b .reached) (eventAt part i) ≡ o → Before (stepAfter s d pace t w) (paceAfter pace w) (i + 1)
         go none e = onwards e
         go (some r) e = absurd (positive s (b .reached) (eventAt part i) r e (sym (ap num e) ∙ sym breaks-is ∙ z))
 
     -- the verdict at a broken rule
-    stops : (stepBreaks s d t w ≡ 0 → ⊥) → verdictOn s part n ≡ found (answerOf (stepBreaks s d t w)) i t
+    stops : (stepBreaks s d t w ≡ 0 → ⊥) → verdictOn s part n ≡ Broken (stepBreaks s d t w) i t i
     unfolding verdictOn
     stops z = go (brokenBy s (b .reached) (eventAt part i)) refl
       where
-        go : (o : Option ℕ) → brokenBy s (b .reached) (eventAt part i) ≡ o → said n (verdictOf s es) ≡ found (answerOf (stepBreaks s d t w)) i t
+        go : (o : Option ℕ) → brokenBy s (b .reached) (eventAt part i) ≡ o → said n (verdictOf s es) ≡ Broken (stepBreaks s d t w) i t i
         go none e = absurd (z (breaks-is ∙ ap num e))
         go (some r) e =
             ap (said n) (unfolds ∙ ap (λ (o : Option ℕ). onward o i t (judgeFrom s (step s (b .reached) (eventAt part i)) (suc i) (drop (suc i) es))) e)
-            ∙ sym (ap (λ (k : ℕ). found (answerOf k) i t) (breaks-is ∙ ap num e)
-            ∙ ap (λ (v : Bool). found (cond v Kept (Broke r)) i t) (ne-eqb r 0 (positive s (b .reached) (eventAt part i) r e)))
+            ∙ sym (ap (λ (k : ℕ). Broken k i t i) (breaks-is ∙ ap num e))
 
   -- no event is left
-  pub ends : (d : List ℕ) (mode i : ℕ) → Before d mode i → n ≤ i → verdictOn s part n ≡ Clean n
+  pub ends : (d pace : List ℕ) (i : ℕ) → Before d pace i → n ≤ i → verdictOn s part n ≡ Clean n
   unfolding verdictOn judgeFrom
-  ends d mode i b l = ap (said n) (b .decides ∙ ap (judgeFrom s (b .reached) i) (none-of (eventAt part) n i l))
+  ends d pace i b l = ap (said n) (b .decides ∙ ap (judgeFrom s (b .reached) i) (none-of (eventAt part) n i l))
 
   -- the same, by what a step answered and left
-  module _ (fit : Fit settings part n) {d : List ℕ} {mode i cycle pins : ℕ} {a : turn-of.Answer} (b : Before d mode i) (l : i < n)
-      (e : cycle ≡ eventAt part i .cycle) (f : pins ≡ eventAt part i .pins) (said-so : a ≡ answerOf (stepBreaks s d cycle pins)) where
-    breaks : a ≡ answerOf (stepBreaks s d (eventAt part i .cycle) (eventAt part i .pins))
-    breaks = said-so ∙ rw (e, f)
+  module _ (fit : Fit settings part n) {d pace : List ℕ} {i cycle pins : ℕ} (b : Before d pace i) (l : i < n)
+      (e : cycle ≡ eventAt part i .cycle) (f : pins ≡ eventAt part i .pins) where
+    abbrev rule : ℕ
+    rule = stepBreaks s d cycle pins
 
-    pub kept-on : {d′ : List ℕ} {mode′ : ℕ} → d′ ≡ stepAfter s d mode cycle pins → mode′ ≡ modeAfter mode pins → a ≡ Kept → Before d′ mode′ (i + 1)
-    kept-on g h k = rw (g, h, e, f) (goes-on fit d mode i b l (zero-of (stepBreaks s d (eventAt part i .cycle) (eventAt part i .pins)) (sym breaks ∙ k)))
+    there : rule ≡ stepBreaks s d (eventAt part i .cycle) (eventAt part i .pins)
+    there = rw (e, f)
 
-    pub broke-at : {r : ℕ} → a ≡ Broke r → verdictOn s part n ≡ found a i cycle
-    broke-at {r} k =
-        stops fit d mode i b l (λ z. not-zero (stepBreaks s d (eventAt part i .cycle) (eventAt part i .pins)) r (sym breaks ∙ k) z)
-        ∙ sym (ap (λ (x : turn-of.Answer). found x i cycle) breaks ∙ ap (found (answerOf (stepBreaks s d (eventAt part i .cycle) (eventAt part i .pins))) i) e)
+    pub kept-on : {a : Answer} {d′ pace′ : List ℕ} → a ≡ answerOf rule → d′ ≡ leftBy rule (stepAfter s d pace cycle pins) d →
+        pace′ ≡ leftBy rule (paceAfter pace pins) pace → a ≡ Kept → Before d′ pace′ (i + 1)
+    kept-on a g h k =
+        let z : rule ≡ 0 = zero-of rule (sym k ∙ a) in
+        rw (g ∙ moved rule z _ d, h ∙ moved rule z _ pace, e, f) (goes-on fit d pace i b l (sym there ∙ z))
+
+    pub broke-at : {a : Answer} {d′ : List ℕ} {broken : ℕ} → a ≡ answerOf rule → d′ ≡ leftBy rule (stepAfter s d pace cycle pins) d →
+        a ≡ Broke → broken ≡ stepBreaks s d′ cycle pins → verdictOn s part n ≡ Broken broken i cycle i
+    broke-at a g k r =
+        let z : rule ≡ 0 → ⊥ = not-zero rule (sym k ∙ a) in
+        let same : stepBreaks s d (eventAt part i .cycle) (eventAt part i .pins) ≡ _ =
+        sym there ∙ ap (λ (x : List ℕ). stepBreaks s x cycle pins) (sym (g ∙ left rule z _ d)) ∙ sym r in
+        stops fit d pace i b l (λ q. z (there ∙ q))
+        ∙ (λ u. Broken (same u) i (sym e u) i)

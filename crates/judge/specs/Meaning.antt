@@ -12,8 +12,7 @@ use Rattle.reading.specs.Verdict as is
 use Rattle.reading.specs.Answers.{Answer, refused, answered, Report}
 use Rattle.capture.specs.declared.Opened.{Opened}
 use Rattle.capture.specs.declared.Opened.the-variants.{Accepted, Length, Header, Setting, Event}
-use Rattle.part.specs.declared.Answer as step
-use Rattle.part.specs.declared.Answer.the-variants.{Kept, Broke}
+use Rattle.deadlines.specs.Deadlines.{startOf, paceOf}
 use Rattle.judge.specs.declared.Verdict.{Verdict}
 use Rattle.judge.specs.declared.Verdict.the-variants.{Refused, Clean, Broken}
 
@@ -22,11 +21,6 @@ abbrev pub means : ℕ → Verdict → Answer Report
 means n (Refused number place) = refused number place
 means n (Clean judged) = answered (record { events = n; judged = judged; verdict = is.clean })
 means n (Broken rule event cycle judged) = answered (record { events = n; judged = judged; verdict = is.broken rule event cycle })
-
--- the verdict where a step answers so
-abbrev pub found : step.Answer → ℕ → ℕ → Verdict
-found Kept i cycle = Clean i
-found (Broke rule) i cycle = Broken rule i cycle i
 
 -- a capture that is not accepted, as it was opened
 abbrev pub refusing : Opened → Verdict
@@ -46,6 +40,11 @@ pub record Fit (settings part : List ℕ) (n : ℕ) : Type 0 where
   pub long : 8 * n ≤ length part
   pub rows : reading.settingsOf settings .rowBits < 32
   pub events : (i : ℕ) → i < n → eventFits part i ≡ true
+
+-- the deadlines, and h and CL, of a part at its start
+pub record Started (s : reading.Settings) (d pace : List ℕ) : Type 0 where
+  pub deadlines : d ≡ startOf s
+  pub paced : pace ≡ paceOf (s .mode)
 
 abbrev pub said : ℕ → is.Verdict → Verdict
 said n is.clean = Clean n

@@ -1,11 +1,13 @@
 // The judge: refused by document 01's table, or judged event by event until one breaks a rule.
 use capture::Opened;
+use deadlines::places::MODE;
+use deadlines::sums;
 use part::Answer;
 ghost use mathlib.Core.Path.{_≡_};
 ghost use Rattle.reading.specs.Settings.{settingsOf};
 ghost use Rattle.reading.specs.Capture.{eventCount};
 ghost use Rattle.reading.specs.Answers.{judgeAnswer};
-ghost use Rattle.judge.specs.Meaning.{means, Fit, verdictOn, found, refusing};
+ghost use Rattle.judge.specs.Meaning.{means, Fit, Started, verdictOn, refusing};
 
 // What is said of a capture.
 pub enum Verdict {
@@ -49,36 +51,27 @@ fn refusal(o: Opened) -> Verdict
     }
 }
 
-// The verdict at the event that did not keep the rules.
-fn broken(a: Answer, i: u32, cycle: u32) -> Verdict
-    ensures { λ r. ⌜ r ≡ found a i cycle ⌝ }
-{
-    match a {
-        Answer::Kept => Verdict::Clean { judged: i },
-        Answer::Broke(rule) => Verdict::Broken {
-            rule,
-            event: i,
-            cycle,
-            judged: i,
-        },
-    }
-}
-
-// The events in the part of the capture that starts at byte 80, from event 0 on.
-fn walk(s: &[u32; 14], part: &[u8], n: u32) -> Verdict
+// The events in the part of the capture that starts at byte 80, by the numbers that are kept of a part at its start.
+// They are lent, and two crates call this, so that it stays one loop over memory (docs/PERFORMANCE.md).
+pub fn walk(s: &[u32; 14], d: &mut [u64; 40], pace: &mut [u32; 2], part: &[u8], n: u32) -> Verdict
     requires { ⌜ Fit (now s) (now part) n ⌝ }
+    requires { ⌜ Started (settingsOf (now s)) (now d) (now pace) ⌝ }
     ensures { λ r. ⌜ r ≡ verdictOn (settingsOf (now (s .entry))) (now (part .entry)) n ⌝ }
 {
-    let mut deadlines = effects::start(s);
-    let mut mode = s[3];
     let mut i: u32 = 0;
     'events: while i < n {
         let at = i as usize;
         let cycle = capture::cycle_at(part, at);
         let pins = capture::pins_at(part, at);
-        let answer = part::step(s, &mut deadlines, &mut mode, cycle, pins);
+        let answer = part::step(s, d, pace, cycle, pins);
         let Answer::Kept = answer else {
-            return broken(answer, i, cycle);
+            let rule = part::lowest(s, &*d, cycle, pins);
+            return Verdict::Broken {
+                rule,
+                event: i,
+                cycle,
+                judged: i,
+            };
         };
         i += 1;
     }
@@ -95,5 +88,7 @@ pub fn judge(capture: &[u8]) -> Verdict
     };
     let settings = capture::setting_words(capture);
     let n = capture::event_count(capture);
-    walk(&settings, &capture[80..], n)
+    let mut deadlines = effects::start(&settings);
+    let mut pace = sums::pace(settings[MODE]);
+    walk(&settings, &mut deadlines, &mut pace, &capture[80..], n)
 }

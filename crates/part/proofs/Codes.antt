@@ -6,47 +6,47 @@ use mathlib.Core.Path.{_≡_, refl, sym, ap, _∙_}
 use lib.Dec.{eqb}
 use borrow.Author.Tests.{ne-eqb}
 use Rattle.reading.specs.Settings.{Settings}
-use Rattle.deadlines.specs.Deadlines.{dueBreaks, activeBreaks, readBreaks, writeBreaks, terminateBreaks, closeBreaks, closeAllBreaks, refreshBreaks, modeBreaks, activeAfter, readAfter, writeAfter, cutRead, closeAfter, closeAllAfter, refreshAfter, modeSetAfter}
-use Rattle.part.specs.Steps.{answerOf, codeOf, bankOf, addressOf, tenOf, byCode, stepBreaks, stepAfter, modeAfter}
+use Rattle.deadlines.specs.Deadlines.{paceOf, dueBreaks, activeBreaks, readBreaks, writeBreaks, terminateBreaks, closeBreaks, closeAllBreaks, refreshBreaks, modeBreaks, activeAfter, readAfter, writeAfter, cutRead, closeAfter, closeAllAfter, refreshAfter, modeSetAfter}
+use Rattle.part.specs.Steps.{answerOf, leftBy, codeOf, bankOf, addressOf, tenOf, byCode, stepBreaks, stepAfter, paceAfter}
 use Rattle.part.specs.declared.Answer.{Answer}
 
-module _ (s : Settings) (d : List ℕ) (m t w : ℕ) where
-  -- which rule a step breaks, and the deadlines and the mode word after it
-  pub record Does (rule : ℕ) (after : List ℕ) (mode : ℕ) : Type 0 where
+module _ (s : Settings) (d m : List ℕ) (t w : ℕ) where
+  -- which rule a step breaks, the deadlines after it, and h and CL
+  pub record Does (rule : ℕ) (after pace : List ℕ) : Type 0 where
     pub breaks : stepBreaks s d t w ≡ rule
     pub leaves : stepAfter s d m t w ≡ after
-    pub sets : modeAfter m w ≡ mode
+    pub sets : paceAfter m w ≡ pace
 
   pub active : {b : ℕ} → b ≡ bankOf w → codeOf w ≡ 12 → Does (activeBreaks s d t b (addressOf w)) (activeAfter s d t b) m
-  unfolding stepBreaks stepAfter modeAfter
+  unfolding stepBreaks stepAfter paceAfter
   active f e = record { breaks = rw (f, e); leaves = rw (f, e); sets = rw e }
 
-  pub read : {b : ℕ} → b ≡ bankOf w → codeOf w ≡ 10 → Does (readBreaks d t b) (readAfter s d m t b (tenOf w)) m
-  unfolding stepBreaks stepAfter modeAfter
-  read f e = record { breaks = rw (f, e); leaves = rw (f, e); sets = rw e }
+  pub read : {b : ℕ} {a : Bool} → b ≡ bankOf w → a ≡ tenOf w → codeOf w ≡ 10 → Does (readBreaks d t b) (readAfter s d m t b a) m
+  unfolding stepBreaks stepAfter paceAfter
+  read f g e = record { breaks = rw (f, e); leaves = rw (f, g, e); sets = rw e }
 
-  pub write : {b : ℕ} → b ≡ bankOf w → codeOf w ≡ 2 → Does (writeBreaks d t b) (writeAfter s d m t b (tenOf w)) m
-  unfolding stepBreaks stepAfter modeAfter
-  write f e = record { breaks = rw (f, e); leaves = rw (f, e); sets = rw e }
+  pub write : {b : ℕ} {a : Bool} → b ≡ bankOf w → a ≡ tenOf w → codeOf w ≡ 2 → Does (writeBreaks d t b) (writeAfter s d m t b a) m
+  unfolding stepBreaks stepAfter paceAfter
+  write f g e = record { breaks = rw (f, e); leaves = rw (f, g, e); sets = rw e }
 
   pub close-all : codeOf w ≡ 4 → tenOf w ≡ true → Does (closeAllBreaks d t) (closeAllAfter s d m t) m
-  unfolding stepBreaks stepAfter modeAfter
+  unfolding stepBreaks stepAfter paceAfter
   close-all e a = record { breaks = rw (e, a); leaves = rw (e, a); sets = rw e }
 
   pub close : {b : ℕ} → b ≡ bankOf w → codeOf w ≡ 4 → tenOf w ≡ false → Does (closeBreaks d t b) (closeAfter s d m t b) m
-  unfolding stepBreaks stepAfter modeAfter
+  unfolding stepBreaks stepAfter paceAfter
   close f e a = record { breaks = rw (f, e, a); leaves = rw (f, e, a); sets = rw e }
 
   pub terminate : codeOf w ≡ 6 → Does (terminateBreaks s d t) (cutRead d m t true) m
-  unfolding stepBreaks stepAfter modeAfter
+  unfolding stepBreaks stepAfter paceAfter
   terminate e = record { breaks = rw e; leaves = rw e; sets = rw e }
 
   pub refresh : codeOf w ≡ 8 → Does (refreshBreaks d t) (refreshAfter s d t) m
-  unfolding stepBreaks stepAfter modeAfter
+  unfolding stepBreaks stepAfter paceAfter
   refresh e = record { breaks = rw e; leaves = rw e; sets = rw e }
 
-  pub mode-set : {b : ℕ} → b ≡ bankOf w → codeOf w ≡ 0 → Does (modeBreaks d t b (addressOf w)) (modeSetAfter s d t) (cond (eqb b 0) (addressOf w) m)
-  unfolding stepBreaks stepAfter modeAfter
+  pub mode-set : {b : ℕ} → b ≡ bankOf w → codeOf w ≡ 0 → Does (modeBreaks d t b (addressOf w)) (modeSetAfter s d t) (cond (eqb b 0) (paceOf (addressOf w)) m)
+  unfolding stepBreaks stepAfter paceAfter
   mode-set f e = record { breaks = rw (f, e); leaves = rw e; sets = rw (f, e) }
 
   -- none of the seven
@@ -60,7 +60,7 @@ module _ (s : Settings) (d : List ℕ) (m t w : ℕ) where
     pub no-mode-set : codeOf w ≡ 0 → ⊥
 
   pub quiet : Quiet → Does (dueBreaks d t) d m
-  unfolding stepBreaks stepAfter modeAfter
+  unfolding stepBreaks stepAfter paceAfter
   quiet q =
       let e₁ = ne-eqb (codeOf w) 12 (q .no-active) in
       let e₂ = ne-eqb (codeOf w) 10 (q .no-read) in
@@ -72,7 +72,26 @@ module _ (s : Settings) (d : List ℕ) (m t w : ℕ) where
       record { breaks = rw (e₁, e₂, e₃, e₄, e₅, e₆, e₇); leaves = rw (e₁, e₂, e₃, e₄, e₅, e₆, e₇); sets = rw e₇ }
 
   -- so a function that answers and leaves what its command does meets the step's contract
-  pub met : {rule : ℕ} {after : List ℕ} {mode : ℕ} → Does rule after mode → {r : Answer} {d′ : List ℕ} {m′ : ℕ} →
-      r ≡ answerOf rule → d′ ≡ after → m′ ≡ mode →
-      (r ≡ answerOf (stepBreaks s d t w)) × ((d′ ≡ stepAfter s d m t w) × (m′ ≡ modeAfter m w))
-  met k a b e = (a ∙ ap answerOf (sym (k .breaks)), (b ∙ sym (k .leaves), e ∙ sym (k .sets)))
+  abbrev pub Meets : Answer → List ℕ → List ℕ → Type 0
+  Meets r d′ m′ =
+      (r ≡ answerOf (stepBreaks s d t w))
+      × ((d′ ≡ leftBy (stepBreaks s d t w) (stepAfter s d m t w) d) × (m′ ≡ leftBy (stepBreaks s d t w) (paceAfter m w) m))
+
+  pub met : {rule : ℕ} {after pace : List ℕ} → Does rule after pace → {r : Answer} {d′ m′ : List ℕ} →
+      r ≡ answerOf rule → d′ ≡ leftBy rule after d → m′ ≡ leftBy rule pace m → Meets r d′ m′
+  met k a b e = rw (k .breaks, k .leaves, k .sets) (a, (b, e))
+
+  untouched : (rule : ℕ) (x : List ℕ) → x ≡ leftBy rule x x
+  untouched rule x = go (eqb rule 0)
+    where
+      go : (v : Bool) → x ≡ cond v x x
+      go true = refl
+      go false = refl
+
+  -- where h and CL, and where the deadlines too, are left alone
+  pub met-paced : {rule : ℕ} {after : List ℕ} → Does rule after m → {r : Answer} {d′ : List ℕ} →
+      r ≡ answerOf rule → d′ ≡ leftBy rule after d → Meets r d′ m
+  met-paced {rule} k a b = met k a b (untouched rule m)
+
+  pub met-quiet : {rule : ℕ} → Does rule d m → {r : Answer} → r ≡ answerOf rule → Meets r d m
+  met-quiet {rule} k a = met-paced k a (untouched rule d)

@@ -4,12 +4,16 @@ use mathlib.Core.Bool.{Bool, true, cond, _&&_}
 use mathlib.Core.List.{List}
 use lib.Dec.{eqb}
 use Rattle.reading.specs.Settings.{Settings}
-use Rattle.deadlines.specs.Deadlines.{dueBreaks, activeBreaks, readBreaks, writeBreaks, terminateBreaks, closeBreaks, closeAllBreaks, refreshBreaks, modeBreaks, activeAfter, readAfter, writeAfter, cutRead, closeAfter, closeAllAfter, refreshAfter, modeSetAfter}
+use Rattle.deadlines.specs.Deadlines.{paceOf, dueBreaks, activeBreaks, readBreaks, writeBreaks, terminateBreaks, closeBreaks, closeAllBreaks, refreshBreaks, modeBreaks, activeAfter, readAfter, writeAfter, cutRead, closeAfter, closeAllAfter, refreshAfter, modeSetAfter}
 use Rattle.part.specs.declared.Answer.{Answer}
 use Rattle.part.specs.declared.Answer.the-variants.{Kept, Broke}
 
 abbrev pub answerOf : ℕ → Answer
-answerOf r = cond (eqb r 0) Kept (Broke r)
+answerOf rule = cond (eqb rule 0) Kept Broke
+
+-- what is left of some numbers by an event that breaks a rule, 0 for none
+abbrev pub leftBy : ℕ → List ℕ → List ℕ → List ℕ
+leftBy rule after before = cond (eqb rule 0) after before
 
 abbrev pub codeOf : ℕ → ℕ
 codeOf w = w / 65536 % 16
@@ -46,7 +50,7 @@ stepBreaks s d t w =
     (modeBreaks d t (bankOf w) (addressOf w))
     (dueBreaks d t)
 
-unfoldable pub stepAfter : Settings → List ℕ → ℕ → ℕ → ℕ → List ℕ
+unfoldable pub stepAfter : Settings → List ℕ → List ℕ → ℕ → ℕ → List ℕ
 stepAfter s d m t w =
     byCode (codeOf w)
     (activeAfter s d t (bankOf w))
@@ -60,3 +64,6 @@ stepAfter s d m t w =
 
 unfoldable pub modeAfter : ℕ → ℕ → ℕ
 modeAfter m w = cond (eqb (codeOf w) 0 && eqb (bankOf w) 0) (addressOf w) m
+
+unfoldable pub paceAfter : List ℕ → ℕ → List ℕ
+paceAfter m w = cond (eqb (codeOf w) 0 && eqb (bankOf w) 0) (paceOf (addressOf w)) m

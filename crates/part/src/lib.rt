@@ -5,105 +5,132 @@ ghost use Prim.Native.Nat.{_<_};
 ghost use lib.Dec.{eqb};
 ghost use Rattle.reading.specs.Settings.{settingsOf};
 ghost use Rattle.deadlines.specs.Deadlines as is;
-ghost use Rattle.part.specs.Steps.{answerOf, bankOf, stepBreaks, stepAfter, modeAfter};
+ghost use Rattle.part.specs.Steps.{answerOf, leftBy, bankOf, tenOf, stepBreaks, stepAfter, paceAfter};
 
-// What an event answers: all rules are kept, or the lowest that is broken.
+// What an event answers: all rules are kept, or one is broken; `lowest` says which.
 pub enum Answer {
     Kept,
-    Broke(u32),
+    Broke,
 }
 
-fn said(rule: u32) -> Answer
-    ensures { λ r. ⌜ r ≡ answerOf rule ⌝ }
-{
-    if rule == 0 {
-        return Answer::Kept;
-    }
-    Answer::Broke(rule)
-}
+// Each command: where it breaks a rule, the deadlines stay as they were.
 
 fn active(s: &[u32; 14], d: &mut [u64; 40], t: u32, b: usize, row: u32) -> Answer
     requires { ⌜ b < 4 ⌝ }
     ensures { λ r. ⌜ r ≡ answerOf (is.activeBreaks (settingsOf (now (s .entry))) (now (d .entry)) t b row) ⌝ }
-    ensures { λ r. ⌜ now (d .exit) ≡ is.activeAfter (settingsOf (now (s .entry))) (now (d .entry)) t b ⌝ }
+    ensures { λ r. ⌜ now (d .exit) ≡ leftBy (is.activeBreaks (settingsOf (now (s .entry))) (now (d .entry)) t b row) (is.activeAfter (settingsOf (now (s .entry))) (now (d .entry)) t b) (now (d .entry)) ⌝ }
 {
-    let rule = rules::active_breaks(s, &*d, t, b, row);
+    if rules::active_breaks(s, &*d, t, b, row) != 0 {
+        return Answer::Broke;
+    }
     effects::active_after(s, d, t, b);
-    said(rule)
+    Answer::Kept
 }
 
-fn read(s: &[u32; 14], d: &mut [u64; 40], mode: u32, t: u32, b: usize, auto: bool) -> Answer
+fn read(s: &[u32; 14], d: &mut [u64; 40], pace: &[u32; 2], t: u32, b: usize, auto: bool) -> Answer
     requires { ⌜ b < 4 ⌝ }
     ensures { λ r. ⌜ r ≡ answerOf (is.readBreaks (now (d .entry)) t b) ⌝ }
-    ensures { λ r. ⌜ now (d .exit) ≡ is.readAfter (settingsOf (now (s .entry))) (now (d .entry)) mode t b auto ⌝ }
+    ensures { λ r. ⌜ now (d .exit) ≡ leftBy (is.readBreaks (now (d .entry)) t b) (is.readAfter (settingsOf (now (s .entry))) (now (d .entry)) (now (pace .entry)) t b auto) (now (d .entry)) ⌝ }
 {
-    let rule = rules::read_breaks(&*d, t, b);
-    effects::read_after(s, d, mode, t, b, auto);
-    said(rule)
+    if rules::read_breaks(&*d, t, b) != 0 {
+        return Answer::Broke;
+    }
+    effects::read_after(s, d, pace, t, b, auto);
+    Answer::Kept
 }
 
-fn write(s: &[u32; 14], d: &mut [u64; 40], mode: u32, t: u32, b: usize, auto: bool) -> Answer
+fn write(s: &[u32; 14], d: &mut [u64; 40], pace: &[u32; 2], t: u32, b: usize, auto: bool) -> Answer
     requires { ⌜ b < 4 ⌝ }
     ensures { λ r. ⌜ r ≡ answerOf (is.writeBreaks (now (d .entry)) t b) ⌝ }
-    ensures { λ r. ⌜ now (d .exit) ≡ is.writeAfter (settingsOf (now (s .entry))) (now (d .entry)) mode t b auto ⌝ }
+    ensures { λ r. ⌜ now (d .exit) ≡ leftBy (is.writeBreaks (now (d .entry)) t b) (is.writeAfter (settingsOf (now (s .entry))) (now (d .entry)) (now (pace .entry)) t b auto) (now (d .entry)) ⌝ }
 {
-    let rule = rules::write_breaks(&*d, t, b);
-    effects::write_after(s, d, mode, t, b, auto);
-    said(rule)
+    if rules::write_breaks(&*d, t, b) != 0 {
+        return Answer::Broke;
+    }
+    effects::write_after(s, d, pace, t, b, auto);
+    Answer::Kept
 }
 
-fn close_all(s: &[u32; 14], d: &mut [u64; 40], mode: u32, t: u32) -> Answer
+fn close_all(s: &[u32; 14], d: &mut [u64; 40], pace: &[u32; 2], t: u32) -> Answer
     ensures { λ r. ⌜ r ≡ answerOf (is.closeAllBreaks (now (d .entry)) t) ⌝ }
-    ensures { λ r. ⌜ now (d .exit) ≡ is.closeAllAfter (settingsOf (now (s .entry))) (now (d .entry)) mode t ⌝ }
+    ensures { λ r. ⌜ now (d .exit) ≡ leftBy (is.closeAllBreaks (now (d .entry)) t) (is.closeAllAfter (settingsOf (now (s .entry))) (now (d .entry)) (now (pace .entry)) t) (now (d .entry)) ⌝ }
 {
-    let rule = rules::close_all_breaks(&*d, t);
-    effects::close_all_after(s, d, mode, t);
-    said(rule)
+    if rules::close_all_breaks(&*d, t) != 0 {
+        return Answer::Broke;
+    }
+    effects::close_all_after(s, d, pace, t);
+    Answer::Kept
 }
 
-fn close(s: &[u32; 14], d: &mut [u64; 40], mode: u32, t: u32, b: usize) -> Answer
+fn close(s: &[u32; 14], d: &mut [u64; 40], pace: &[u32; 2], t: u32, b: usize) -> Answer
     requires { ⌜ b < 4 ⌝ }
     ensures { λ r. ⌜ r ≡ answerOf (is.closeBreaks (now (d .entry)) t b) ⌝ }
-    ensures { λ r. ⌜ now (d .exit) ≡ is.closeAfter (settingsOf (now (s .entry))) (now (d .entry)) mode t b ⌝ }
+    ensures { λ r. ⌜ now (d .exit) ≡ leftBy (is.closeBreaks (now (d .entry)) t b) (is.closeAfter (settingsOf (now (s .entry))) (now (d .entry)) (now (pace .entry)) t b) (now (d .entry)) ⌝ }
 {
-    let rule = rules::close_breaks(&*d, t, b);
-    effects::close_after(s, d, mode, t, b);
-    said(rule)
+    if rules::close_breaks(&*d, t, b) != 0 {
+        return Answer::Broke;
+    }
+    effects::close_after(s, d, pace, t, b);
+    Answer::Kept
 }
 
-fn terminate(s: &[u32; 14], d: &mut [u64; 40], mode: u32, t: u32) -> Answer
+fn terminate(s: &[u32; 14], d: &mut [u64; 40], pace: &[u32; 2], t: u32) -> Answer
     ensures { λ r. ⌜ r ≡ answerOf (is.terminateBreaks (settingsOf (now (s .entry))) (now (d .entry)) t) ⌝ }
-    ensures { λ r. ⌜ now (d .exit) ≡ is.cutRead (now (d .entry)) mode t true ⌝ }
+    ensures { λ r. ⌜ now (d .exit) ≡ leftBy (is.terminateBreaks (settingsOf (now (s .entry))) (now (d .entry)) t) (is.cutRead (now (d .entry)) (now (pace .entry)) t true) (now (d .entry)) ⌝ }
 {
-    let rule = rules::terminate_breaks(s, &*d, t);
-    effects::cut_read(d, mode, t, true);
-    said(rule)
+    if rules::terminate_breaks(s, &*d, t) != 0 {
+        return Answer::Broke;
+    }
+    effects::cut_read(d, pace, t, true);
+    Answer::Kept
 }
 
 fn refresh(s: &[u32; 14], d: &mut [u64; 40], t: u32) -> Answer
     ensures { λ r. ⌜ r ≡ answerOf (is.refreshBreaks (now (d .entry)) t) ⌝ }
-    ensures { λ r. ⌜ now (d .exit) ≡ is.refreshAfter (settingsOf (now (s .entry))) (now (d .entry)) t ⌝ }
+    ensures { λ r. ⌜ now (d .exit) ≡ leftBy (is.refreshBreaks (now (d .entry)) t) (is.refreshAfter (settingsOf (now (s .entry))) (now (d .entry)) t) (now (d .entry)) ⌝ }
 {
-    let rule = rules::refresh_breaks(&*d, t);
+    if rules::refresh_breaks(&*d, t) != 0 {
+        return Answer::Broke;
+    }
     effects::refresh_after(s, d, t);
-    said(rule)
+    Answer::Kept
 }
 
-fn mode_set(s: &[u32; 14], d: &mut [u64; 40], mode: &mut u32, t: u32, b: usize, word: u32) -> Answer
-    ensures { λ r. ⌜ r ≡ answerOf (is.modeBreaks (now (d .entry)) t b word) ⌝ }
-    ensures { λ r. ⌜ now (d .exit) ≡ is.modeSetAfter (settingsOf (now (s .entry))) (now (d .entry)) t ⌝ }
-    ensures { λ r. ⌜ now (mode .exit) ≡ cond (eqb b 0) word (now (mode .entry)) ⌝ }
+fn set_register(pace: &mut [u32; 2], b: usize, word: u32)
+    ensures { λ r. ⌜ now (pace .exit) ≡ cond (eqb b 0) (is.paceOf word) (now (pace .entry)) ⌝ }
 {
-    let rule = rules::mode_breaks(&*d, t, b, word);
+    if b == 0 {
+        *pace = deadlines::sums::pace(word);
+    }
+}
+
+fn mode_set(
+    s: &[u32; 14],
+    d: &mut [u64; 40],
+    pace: &mut [u32; 2],
+    t: u32,
+    b: usize,
+    word: u32,
+) -> Answer
+    ensures { λ r. ⌜ r ≡ answerOf (is.modeBreaks (now (d .entry)) t b word) ⌝ }
+    ensures { λ r. ⌜ now (d .exit) ≡ leftBy (is.modeBreaks (now (d .entry)) t b word) (is.modeSetAfter (settingsOf (now (s .entry))) (now (d .entry)) t) (now (d .entry)) ⌝ }
+    ensures { λ r. ⌜ now (pace .exit) ≡ leftBy (is.modeBreaks (now (d .entry)) t b word) (cond (eqb b 0) (is.paceOf word) (now (pace .entry))) (now (pace .entry)) ⌝ }
+{
+    if rules::mode_breaks(&*d, t, b, word) != 0 {
+        return Answer::Broke;
+    }
     effects::mode_set_after(s, d, t);
-    *mode = deadlines::sums::pick_mode(b == 0, word, *mode);
-    said(rule)
+    set_register(pace, b, word);
+    Answer::Kept
 }
 
 fn quiet(d: &[u64; 40], t: u32) -> Answer
     ensures { λ r. ⌜ r ≡ answerOf (is.dueBreaks (now (d .entry)) t) ⌝ }
 {
-    said(rules::due_breaks(d, t))
+    if rules::due_breaks(d, t) != 0 {
+        return Answer::Broke;
+    }
+    Answer::Kept
 }
 
 fn bank(w: u32) -> usize
@@ -112,30 +139,55 @@ fn bank(w: u32) -> usize
     (w / 16384 % 4) as usize
 }
 
-// One event: what it answers by the deadlines kept of the events before it, and the deadlines with it. After an event
-// that breaks a rule they mean nothing: the judging ends there.
-pub fn step(s: &[u32; 14], d: &mut [u64; 40], mode: &mut u32, t: u32, w: u32) -> Answer
-    ensures { λ r. ⌜ r ≡ answerOf (stepBreaks (settingsOf (now (s .entry))) (now (d .entry)) t w) ⌝ }
-    ensures { λ r. ⌜ now (d .exit) ≡ stepAfter (settingsOf (now (s .entry))) (now (d .entry)) (now (mode .entry)) t w ⌝ }
-    ensures { λ r. ⌜ now (mode .exit) ≡ modeAfter (now (mode .entry)) w ⌝ }
+fn ten(w: u32) -> bool
+    ensures { λ r. ⌜ r ≡ tenOf w ⌝ }
 {
-    let b = bank(w);
-    let a = w % 16384;
-    let ten = w / 1024 % 2 == 1;
+    w / 1024 % 2 == 1
+}
+
+// One event: what it answers by the deadlines kept of the events before it, and the deadlines with it. An event that
+// breaks a rule leaves them as they were.
+pub fn step(s: &[u32; 14], d: &mut [u64; 40], pace: &mut [u32; 2], t: u32, w: u32) -> Answer
+    ensures { λ r. ⌜ r ≡ answerOf (stepBreaks (settingsOf (now (s .entry))) (now (d .entry)) t w) ⌝ }
+    ensures { λ r. ⌜ now (d .exit) ≡ leftBy (stepBreaks (settingsOf (now (s .entry))) (now (d .entry)) t w) (stepAfter (settingsOf (now (s .entry))) (now (d .entry)) (now (pace .entry)) t w) (now (d .entry)) ⌝ }
+    ensures { λ r. ⌜ now (pace .exit) ≡ leftBy (stepBreaks (settingsOf (now (s .entry))) (now (d .entry)) t w) (paceAfter (now (pace .entry)) w) (now (pace .entry)) ⌝ }
+{
     let code = w / 65536 % 16;
     match code {
-        12 => active(s, d, t, b, a),
-        10 => read(s, d, *mode, t, b, ten),
-        2 => write(s, d, *mode, t, b, ten),
+        12 => active(s, d, t, bank(w), w % 16384),
+        10 => read(s, d, &*pace, t, bank(w), ten(w)),
+        2 => write(s, d, &*pace, t, bank(w), ten(w)),
         4 => {
-            if ten {
-                return close_all(s, d, *mode, t);
+            if ten(w) {
+                return close_all(s, d, &*pace, t);
             }
-            close(s, d, *mode, t, b)
+            close(s, d, &*pace, t, bank(w))
         }
-        6 => terminate(s, d, *mode, t),
+        6 => terminate(s, d, &*pace, t),
         8 => refresh(s, d, t),
-        0 => mode_set(s, d, mode, t, b, a),
+        0 => mode_set(s, d, pace, t, bank(w), w % 16384),
         _ => quiet(&*d, t),
+    }
+}
+
+// The lowest rule that an event breaks, 0 for none.
+pub fn lowest(s: &[u32; 14], d: &[u64; 40], t: u32, w: u32) -> u32
+    ensures { λ r. ⌜ r ≡ stepBreaks (settingsOf (now (s .entry))) (now (d .entry)) t w ⌝ }
+{
+    let code = w / 65536 % 16;
+    match code {
+        12 => rules::active_breaks(s, d, t, bank(w), w % 16384),
+        10 => rules::read_breaks(d, t, bank(w)),
+        2 => rules::write_breaks(d, t, bank(w)),
+        4 => {
+            if ten(w) {
+                return rules::close_all_breaks(d, t);
+            }
+            rules::close_breaks(d, t, bank(w))
+        }
+        6 => rules::terminate_breaks(s, d, t),
+        8 => rules::refresh_breaks(d, t),
+        0 => rules::mode_breaks(d, t, bank(w), w % 16384),
+        _ => rules::due_breaks(d, t),
     }
 }

@@ -12,7 +12,7 @@ use Rattle.reading.specs.Search.{lesser, later}
 use Rattle.reading.specs.Mode.{h, CL}
 use Rattle.reading.specs.Settings.{Settings}
 use Rattle.reading.proofs.Cuts.{All, nil, cons}
-use Rattle.deadlines.specs.Deadlines.{OPEN, AGAIN, OTHER, REST, COLUMN, CLOSE, LOCKED, BUSY, DUE, DATA, READS, WRITES, END, WRITTEN, READER, WRITER, at, startOf, activeAfter, autoAfter, readAfter, cutWrite, newWrite, writeAfter, refreshAfter}
+use Rattle.deadlines.specs.Deadlines.{OPEN, AGAIN, OTHER, REST, COLUMN, CLOSE, LOCKED, BUSY, DUE, DATA, READS, WRITES, END, WRITTEN, READER, WRITER, at, paceOf, startOf, activeAfter, autoAfter, readAfter, cutWrite, newWrite, writeAfter, refreshAfter}
 use Rattle.bridge.proofs.Bursts.{lesser-left}
 use Rattle.plan.specs.Soonest.{latest, otherBank, activeSoonest, readSoonest, writeSoonest, burstSoonest, refreshSoonest}
 use Rattle.plan.proofs.Ranged.{Ranged}
@@ -59,7 +59,7 @@ module _ {n : ℕ} {d : List ℕ} (near : Near n d) where
 -- ---- what each command makes of the deadlines
 
 -- an auto precharge from the cycle c on
-near-auto : {n : ℕ} {d : List ℕ} → Near n d → (b c : ℕ) → b < 4 → c ≤ n + wait → Near n (autoAfter d b true c)
+near-auto : {n : ℕ} {d : List ℕ} → Near n d → (b c : ℕ) → b < 4 → c ≤ n + wait → Near n (autoAfter d b c)
 unfolding autoAfter
 near-auto {n} {d} near b c lb l =
     let closed = near-set near (OPEN + b) 0 (omega arith) in
@@ -86,7 +86,7 @@ module _ (s : Settings) (g : Ranged s) {n : ℕ} {d : List ℕ} (near : Near n d
         near-set d₆ (LOCKED + b) (t + s .tRAS + s .tRP) (omega (arith, g .tRAS, g .tRP))
 
     module _ (m : ℕ) where
-      pub near-read : Near (suc t) (readAfter s d m t b true)
+      pub near-read : Near (suc t) (readAfter s d (paceOf m) t b true)
       unfolding readAfter
       near-read =
           let d₁ = near-set now DATA (t + CL m + h m) (omega (arith, h-small m)) in
@@ -94,7 +94,7 @@ module _ (s : Settings) (g : Ranged s) {n : ℕ} {d : List ℕ} (near : Near n d
           let d₃ = near-set d₂ READS (t + h m) (omega (arith, h-small m)) in
           near-auto d₃ b (t + h m + s .tRP) lb (omega (arith, h-small m, g .tRP))
 
-      pub near-write : Near (suc t) (writeAfter s d m t b true)
+      pub near-write : Near (suc t) (writeAfter s d (paceOf m) t b true)
       unfolding writeAfter newWrite cutWrite
       near-write =
           let o : ℕ = WRITTEN + at d WRITER % 4 in

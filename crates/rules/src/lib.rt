@@ -116,37 +116,66 @@ pub fn active_breaks(s: &[u32; 14], d: &[u64; 40], t: u32, b: usize, row: u32) -
     requires { ⌜ b < 4 ⌝ }
     ensures { λ r. ⌜ r ≡ is.activeBreaks (settingsOf (now (s .entry))) (now (d .entry)) t b row ⌝ }
 {
-    let due = due_breaks(d, t);
-    let apart = others_apart(d, t, b, due);
-    let again = or_else(past(d[AGAIN + b], t), 6, apart);
-    let rested = or_else(past(d[REST + b], t), 5, again);
-    let busy = or_else(past(d[BUSY], t), 4, rested);
-    let idle = or_else(d[OPEN + b] == 0, 3, busy);
-    or_else(row < rows(s[ROW_BITS]), 1, idle)
+    if rows(s[ROW_BITS]) <= row {
+        return 1;
+    }
+    if d[OPEN + b] != 0 {
+        return 3;
+    }
+    if (t as u64) < d[BUSY] {
+        return 4;
+    }
+    if (t as u64) < d[REST + b] {
+        return 5;
+    }
+    if (t as u64) < d[AGAIN + b] {
+        return 6;
+    }
+    others_apart(d, t, b, due_breaks(d, t))
 }
 
 pub fn read_breaks(d: &[u64; 40], t: u32, b: usize) -> u32
     requires { ⌜ b < 4 ⌝ }
     ensures { λ r. ⌜ r ≡ is.readBreaks (now (d .entry)) t b ⌝ }
 {
-    let due = due_breaks(d, t);
-    let held = or_else(past(d[READS], t), 13, due);
-    let end = or_else(past(d[END], t), 11, held);
-    let column = or_else(past(d[COLUMN + b], t), 8, end);
-    let busy = or_else(past(d[BUSY], t), 4, column);
-    or_else(d[OPEN + b] != 0, 3, busy)
+    if d[OPEN + b] == 0 {
+        return 3;
+    }
+    if (t as u64) < d[BUSY] {
+        return 4;
+    }
+    if (t as u64) < d[COLUMN + b] {
+        return 8;
+    }
+    if (t as u64) < d[END] {
+        return 11;
+    }
+    if (t as u64) < d[READS] {
+        return 13;
+    }
+    due_breaks(d, t)
 }
 
 pub fn write_breaks(d: &[u64; 40], t: u32, b: usize) -> u32
     requires { ⌜ b < 4 ⌝ }
     ensures { λ r. ⌜ r ≡ is.writeBreaks (now (d .entry)) t b ⌝ }
 {
-    let due = due_breaks(d, t);
-    let held = or_else(past(d[WRITES], t), 13, due);
-    let data = or_else(past(d[DATA], t), 12, held);
-    let column = or_else(past(d[COLUMN + b], t), 8, data);
-    let busy = or_else(past(d[BUSY], t), 4, column);
-    or_else(d[OPEN + b] != 0, 3, busy)
+    if d[OPEN + b] == 0 {
+        return 3;
+    }
+    if (t as u64) < d[BUSY] {
+        return 4;
+    }
+    if (t as u64) < d[COLUMN + b] {
+        return 8;
+    }
+    if (t as u64) < d[DATA] {
+        return 12;
+    }
+    if (t as u64) < d[WRITES] {
+        return 13;
+    }
+    due_breaks(d, t)
 }
 
 pub fn terminate_breaks(s: &[u32; 14], d: &[u64; 40], t: u32) -> u32

@@ -1,4 +1,6 @@
 // The fixed schedule of a list of requests, written as a whole capture.
+use deadlines::places::MODE;
+use deadlines::sums;
 use requests::REFRESH_PINS;
 use settings::Checked;
 use turns::Turn;
@@ -93,16 +95,17 @@ fn plan(s: &[u32; 14], requests: &[u32], words: &mut [u32]) -> Planned
     ensures { λ r. ⌜ Noted (scheduleOf (settingsOf (now (s .entry))) (now (requests .entry))) (now (words .entry)) (now (words .exit)) ⌝ }
 {
     let mut d = effects::start(s);
+    let pace = sums::pace(s[MODE]);
     let mut free: u64 = 0;
     let mut n: usize = 0;
     'requests: for i in 0..requests.len() {
         let q = requests[i];
-        let turn = turns::serve(s, &mut d, free, q);
+        let turn = turns::serve(s, &mut d, &pace, free, q);
         if !turn.kept {
             return Planned::Late(i as u32);
         }
         n = note(s, words, n, turn, q);
-        free = deadlines::sums::after(turn.burst, 1);
+        free = sums::after(turn.burst, 1);
     }
     Planned::Events(n as u32)
 }

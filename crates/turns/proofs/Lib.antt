@@ -1,7 +1,5 @@
 -- Laws that the proofs of several functions share; and that a turn is the reading's.
-pub mod Sending
 pub mod Serving
-pub mod Carried
 pub mod Timely
 pub mod Placing
 pub mod Taken

@@ -1,26 +1,24 @@
 -- A turn is what document 01 serves: its events, the deadlines behind them, and none where refresh cannot be kept.
 use Prim.Native.Nat.{ℕ, _+_, _≤_}
-use mathlib.Core.Bool.{Bool, true, false, cond, and-true}
+use mathlib.Core.Bool.{Bool, true, false, cond}
 use mathlib.Core.List.{List, [], _∷_, _++_, append-assoc}
 use mathlib.Core.Option.{none, some}
 use mathlib.Core.Path.{_≡_, refl, sym, ap, _∙_}
 use native.Mathlib.Omega.{arith}
-use lib.Dec.{eqb}
 use Rattle.reading.specs.Settings.{Settings}
 use Rattle.reading.specs.Capture.{Event}
 use Rattle.reading.specs.Schedule.{requestFits, activePins, burstPins, refreshPins, freeFrom, placed, send, sendRequest, refreshInTime, served}
-use Rattle.part.specs.Steps.{stepBreaks}
 use Rattle.plan.specs.Behind.{deadlinesOf}
 use Rattle.plan.proofs.Ranged.{Ranged}
 use Rattle.plan.proofs.Sending.{free-sent}
 use Rattle.plan.proofs.Reached.{Reached}
 use Rattle.plan.proofs.Placed.{Idle, refresh-sent, refresh-idle}
-use Rattle.plan.proofs.Ready.{in-time-le, Ready}
+use Rattle.plan.proofs.Ready.{Ready}
 use Rattle.turns.specs.declared.Turn.{Turn}
 use Rattle.turns.specs.Turning.{activeAt, burstAt, triedAfter, triedKept, refreshAt, refreshed, alone, led, turning, turnedAfter}
 use Rattle.turns.specs.Events.{turnEvents}
 use Rattle.turns.proofs.Timely.{far}
-use Rattle.turns.proofs.Placing.{refresh-at, refreshed-is, refresh-kept, refresh-free, active-at, burst-at, tried-after, tried-free, tried-kept}
+use Rattle.turns.proofs.Placing.{refresh-at, refreshed-is, refresh-free, active-at, burst-at, tried-after, tried-free, tried-kept}
 
 abbrev event : ℕ → ℕ → Event
 event t pins = record { cycle = t; pins = pins }
@@ -90,13 +88,8 @@ module _ (s : Settings) (g : Ranged s) (q : ℕ) (fits : requestFits s q ≡ tru
   f-is : refreshAt s d f + 1 ≡ freeFrom 0 (send s es refreshPins)
   f-is = (λ i. refreshAt s (dd i) (ff i) + 1) ∙ sym (refresh-free s g es (y .reached) (y .idle) small)
 
-  fine : eqb (stepBreaks s d (refreshAt s d f) refreshPins) 0 ≡ true
-  fine =
-      (λ i. eqb (stepBreaks s (dd i) (refreshAt s (dd i) (ff i)) refreshPins) 0)
-      ∙ refresh-kept s g es (y .reached) (y .idle) small (in-time-le s es (y .timely))
-
   kept₂ : led s d f q .kept ≡ refreshInTime s (sendRequest s (send s es refreshPins) q)
-  kept₂ = rw (fine, and-true) (kept-is s g q fits (send s es refreshPins) reached₁ idle₁ near₁ d-is f-is)
+  kept₂ = kept-is s g q fits (send s es refreshPins) reached₁ idle₁ near₁ d-is f-is
 
   events₂ : sendRequest s (send s es refreshPins) q ≡ es ++ turnEvents s (led s d f q) q
   unfolding turnEvents send

@@ -2,23 +2,15 @@
 use deadlines::places::DUE;
 use deadlines::sums::after;
 use deadlines::sums::latest;
-use part::Answer;
-use requests::REFRESH_PINS;
 ghost use mathlib.Core.Path.{_≡_};
-ghost use mathlib.Core.Bool.{_&&_};
+ghost use Prim.Native.Nat.{_<_};
 ghost use Rattle.reading.specs.Settings.{settingsOf};
+ghost use Rattle.deadlines.specs.Deadlines.{paceOf};
 ghost use Rattle.requests.specs.Asked.{Asked};
-ghost use Rattle.part.specs.Steps.{stepAfter};
-ghost use Rattle.turns.specs.Turning.{cycleFor, inTime, sending, trying, triedAfter, turning, turnedAfter};
+ghost use Rattle.turns.specs.Turning.{cycleFor, inTime, burstLeaves, trying, triedAfter, turning, turnedAfter};
 
-// A command that was sent: its cycle, and whether all rules are kept there.
-struct Sent {
-    cycle: u32,
-    kept: bool,
-}
-
-// A request's commands, sent one behind the other: their cycles, and whether all rules are kept and an AUTO REFRESH
-// placed next comes in time.
+// A request's commands, placed one behind the other: their cycles, and whether an AUTO REFRESH placed next comes in time.
+// All other rules are kept where the deadlines are, and rule 14 where that AUTO REFRESH keeps it.
 struct Tried {
     active: u32,
     burst: u32,
@@ -41,19 +33,6 @@ fn cycle_for(free: u64, soonest: u64) -> u32
     (latest(free, soonest) % 4_294_967_296) as u32
 }
 
-fn send(s: &[u32; 14], d: &mut [u64; 40], free: u64, soonest: u64, pins: u32) -> Sent
-    ensures { λ r. ⌜ r ≡ sending (settingsOf (now (s .entry))) (now (d .entry)) free soonest pins ⌝ }
-    ensures { λ r. ⌜ now (d .exit) ≡ stepAfter (settingsOf (now (s .entry))) (now (d .entry)) (settingsOf (now (s .entry)) .mode) (cycleFor free soonest) pins ⌝ }
-{
-    let cycle = cycle_for(free, soonest);
-    let mut mode = s[3];
-    let answer = part::step(s, d, &mut mode, cycle, pins);
-    let Answer::Kept = answer else {
-        return Sent { cycle, kept: false };
-    };
-    Sent { cycle, kept: true }
-}
-
 // An AUTO REFRESH placed next comes at most GAP after the last one.
 fn in_time(d: &[u64; 40], free: u64) -> bool
     ensures { λ r. ⌜ r ≡ inTime (now (d .entry)) free ⌝ }
@@ -61,50 +40,49 @@ fn in_time(d: &[u64; 40], free: u64) -> bool
     latest(free, soonest::refresh_soonest(d)) <= d[DUE]
 }
 
-fn all(a: bool, b: bool, c: bool) -> bool
-    ensures { λ r. ⌜ r ≡ (a && b && c) ⌝ }
+// READ or WRITE with auto precharge.
+fn burst_after(write: bool, s: &[u32; 14], d: &mut [u64; 40], pace: &[u32; 2], t: u32, b: usize)
+    requires { ⌜ b < 4 ⌝ }
+    ensures { λ r. ⌜ now (d .exit) ≡ burstLeaves write (settingsOf (now (s .entry))) (now (d .entry)) (now (pace .entry)) t b ⌝ }
 {
-    if a {
-        if b {
-            return c;
-        }
+    if write {
+        effects::write_after(s, d, pace, t, b, true);
+        return;
     }
-    false
+    effects::read_after(s, d, pace, t, b, true);
 }
 
 // ACTIVE, then READ or WRITE with auto precharge.
-fn request(s: &[u32; 14], d: &mut [u64; 40], free: u64, q: u32) -> Tried
+fn request(s: &[u32; 14], d: &mut [u64; 40], pace: &[u32; 2], free: u64, q: u32) -> Tried
     requires { ⌜ Asked (settingsOf (now s)) q ⌝ }
+    requires { ⌜ now pace ≡ paceOf (settingsOf (now s) .mode) ⌝ }
     ensures { λ r. ⌜ r ≡ trying (settingsOf (now (s .entry))) (now (d .entry)) free q ⌝ }
     ensures { λ r. ⌜ now (d .exit) ≡ triedAfter (settingsOf (now (s .entry))) (now (d .entry)) free q ⌝ }
 {
     let b = requests::bank(s, q) as usize;
-    let opens = soonest::active_soonest(&*d, b);
-    let active = send(s, d, free, opens, requests::active_pins(s, q));
-    let bursts = soonest::burst_soonest(requests::asks_write(q), &*d, b);
-    let burst = send(
-        s,
-        d,
-        after(active.cycle, 1),
-        bursts,
-        requests::burst_pins(s, q),
-    );
-    let timely = in_time(&*d, after(burst.cycle, 1));
+    let write = requests::asks_write(q);
+    let active = cycle_for(free, soonest::active_soonest(&*d, b));
+    effects::active_after(s, d, active, b);
+    let bursts = soonest::burst_soonest(write, &*d, b);
+    let burst = cycle_for(after(active, 1), bursts);
+    burst_after(write, s, d, pace, burst, b);
+    let kept = in_time(&*d, after(burst, 1));
     Tried {
-        active: active.cycle,
-        burst: burst.cycle,
-        kept: all(active.kept, burst.kept, timely),
+        active,
+        burst,
+        kept,
     }
 }
 
 // The request alone, or else with an AUTO REFRESH before it. The deadlines are those after the turn.
-pub fn serve(s: &[u32; 14], d: &mut [u64; 40], free: u64, q: u32) -> Turn
+pub fn serve(s: &[u32; 14], d: &mut [u64; 40], pace: &[u32; 2], free: u64, q: u32) -> Turn
     requires { ⌜ Asked (settingsOf (now s)) q ⌝ }
+    requires { ⌜ now pace ≡ paceOf (settingsOf (now s) .mode) ⌝ }
     ensures { λ r. ⌜ r ≡ turning (settingsOf (now (s .entry))) (now (d .entry)) free q ⌝ }
     ensures { λ r. ⌜ now (d .exit) ≡ turnedAfter (settingsOf (now (s .entry))) (now (d .entry)) free q ⌝ }
 {
     let mut trial = *d;
-    let alone = request(s, &mut trial, free, q);
+    let alone = request(s, &mut trial, pace, free, q);
     if alone.kept {
         *d = trial;
         return Turn {
@@ -115,13 +93,13 @@ pub fn serve(s: &[u32; 14], d: &mut [u64; 40], free: u64, q: u32) -> Turn
             burst: alone.burst,
         };
     }
-    let refreshes = soonest::refresh_soonest(&*d);
-    let refresh = send(s, d, free, refreshes, REFRESH_PINS);
-    let behind = request(s, d, after(refresh.cycle, 1), q);
+    let refresh = cycle_for(free, soonest::refresh_soonest(&*d));
+    effects::refresh_after(s, d, refresh);
+    let behind = request(s, d, pace, after(refresh, 1), q);
     Turn {
-        kept: all(refresh.kept, behind.kept, true),
+        kept: behind.kept,
         lead: true,
-        refresh: refresh.cycle,
+        refresh,
         active: behind.active,
         burst: behind.burst,
     }

@@ -50,3 +50,13 @@ nowhere f k (suc n) h i l = go (f k) refl i l h (nowhere f (suc k) n)
 
 pub none-below : (f : ℕ → Bool) (n : ℕ) → lowest f n ≡ none → (i : ℕ) → i < n → f i ≡ false
 none-below f n h i l = rw zero-add at (nowhere f 0 n h i l)
+
+-- and the other way round
+none-of : (f : ℕ → Bool) (k n : ℕ) → ((i : ℕ) → i < n → f (k + i) ≡ false) → find f (count k n) ≡ none
+none-of f k zero h = refl
+none-of f k (suc n) h =
+    rw (sym (ap f (add-zero k)) ∙ h 0 (omega arith))
+    (none-of f (suc k) n (λ i l. ap f (suc-add k i ∙ sym (add-suc k i)) ∙ h (suc i) (omega arith)))
+
+pub nothing-below : (f : ℕ → Bool) (n : ℕ) → ((i : ℕ) → i < n → f i ≡ false) → lowest f n ≡ none
+nothing-below f n h = none-of f 0 n (λ i l. ap f (zero-add i) ∙ h i l)

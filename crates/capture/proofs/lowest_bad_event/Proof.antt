@@ -2,6 +2,7 @@
 use Prim.Native.Nat.{_-_}
 use mathlib.Core.Path.{sym, _∙_}
 use native.Mathlib.Omega.{arith}
+use borrow.Author.Needs.{needs}
 use Rattle.capture.proofs.Walks.{Sought, begins, goes-on, stops, ends, room}
 use Rattle.capture.proofs.lowest_bad_event.Statement.{statement}
 use Rattle.capture.proofs.lowest_bad_event.Tie as tie
@@ -12,8 +13,14 @@ Inv-events part n next₀ i₀ next i = Sought part n next i
 abbrev μ-events : tie.MeasureT-events
 μ-events part n next₀ i₀ next i = n - i
 
+all-fit-requires : tie.Need-all-fit-requires Inv-events μ-events
+all-fit-requires c κs = search needs
+
+returns : tie.Need-returns Inv-events μ-events
+returns c = sym (c .before .all-fit .ensures (c .if1 .taken))
+
 events-holds : tie.Need-events-holds Inv-events μ-events
-events-holds c = begins (c .before .args .part .now) (c .before .args .n)
+events-holds c = begins (c .before .before .before .args .part .now) (c .before .before .before .args .n)
 
 cycle-at-requires : tie.Need-cycle-at-requires Inv-events μ-events
 cycle-at-requires c κs = omega arith
@@ -25,7 +32,7 @@ event-fits-requires : tie.Need-event-fits-requires Inv-events μ-events
 event-fits-requires c κs = tt
 
 add-next : tie.Need-add-next Inv-events μ-events
-add-next c = omega (arith, room _ _ _ (sym (c .before .event-fits .ensures) ∙ c .if1 .taken))
+add-next c = omega (arith, room _ _ _ (sym (c .before .event-fits .ensures) ∙ c .if2 .taken))
 
 add-i : tie.Need-add-i Inv-events μ-events
 add-i c = omega arith
@@ -35,17 +42,17 @@ events-less c = omega arith
 
 events-again : tie.Need-events-again Inv-events μ-events
 events-again c =
-    goes-on (c .before .before .before .before .before .events .inv) (omega arith) (c .before .before .before .cycle-at .ensures) (c .before .before .pins-at .ensures) (sym (c .before .event-fits .ensures) ∙ c .if1 .taken)
+    goes-on (c .before .before .before .before .before .events .inv) (omega arith) (c .before .before .before .cycle-at .ensures) (c .before .before .pins-at .ensures) (sym (c .before .event-fits .ensures) ∙ c .if2 .taken)
 
-cast-t9 : tie.Need-cast-t9 Inv-events μ-events
-cast-t9 c = omega arith
-
-returns : tie.Need-returns Inv-events μ-events
-returns c =
-    stops (c .before .before .before .before .before .events .inv) (omega arith) (c .before .before .before .cycle-at .ensures) (c .before .before .pins-at .ensures) (sym (c .before .event-fits .ensures) ∙ c .if1 .left)
+cast-t10 : tie.Need-cast-t10 Inv-events μ-events
+cast-t10 c = omega arith
 
 returns-2 : tie.Need-returns-2 Inv-events μ-events
-returns-2 c = ends (c .before .events .inv) (omega arith)
+returns-2 c =
+    stops (c .before .before .before .before .before .events .inv) (omega arith) (c .before .before .before .cycle-at .ensures) (c .before .before .pins-at .ensures) (sym (c .before .event-fits .ensures) ∙ c .if2 .left)
+
+returns-3 : tie.Need-returns-3 Inv-events μ-events
+returns-3 c = ends (c .before .events .inv) (omega arith)
 
 pub lowest-bad-event-spec : {M : Type 1} → statement M
 lowest-bad-event-spec =
@@ -53,6 +60,8 @@ lowest-bad-event-spec =
     (tie.spec
     Inv-events
     μ-events
+    all-fit-requires
+    returns
     events-holds
     cycle-at-requires
     pins-at-requires
@@ -61,6 +70,6 @@ lowest-bad-event-spec =
     add-i
     events-less
     events-again
-    cast-t9
-    returns
-    returns-2)
+    cast-t10
+    returns-2
+    returns-3)

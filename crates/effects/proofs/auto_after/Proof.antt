@@ -3,9 +3,6 @@ use borrow.Author.Needs.{needs}
 use Rattle.effects.proofs.auto_after.Statement.{statement}
 use Rattle.effects.proofs.auto_after.Tie as tie
 
-pick-requires : tie.Need-pick-requires
-pick-requires c κs = search needs
-
 add-d : tie.Need-add-d
 add-d c = search needs
 
@@ -27,18 +24,6 @@ element-copy-out-latest c = search needs
 latest-requires : tie.Need-latest-requires
 latest-requires c κs = search needs
 
-add-pick : tie.Need-add-pick
-add-pick c = search needs
-
-mul-pick : tie.Need-mul-pick
-mul-pick c = search needs
-
-element-copy-out-pick : tie.Need-element-copy-out-pick
-element-copy-out-pick c = search needs
-
-pick-requires-2 : tie.Need-pick-requires-2
-pick-requires-2 c κs = search needs
-
 add-d-2 : tie.Need-add-d-2
 add-d-2 c = search needs
 
@@ -50,13 +35,12 @@ element-write-d-2 c = search needs
 
 returns : tie.Need-returns
 unfolding autoAfter
-returns c = rw (c .pick2 .ensures, c .before .before .latest .ensures, c .before .before .before .before .pick .ensures)
+returns c = rw (c .latest .ensures)
 
 pub auto-after-spec : {M : Type 1} → statement M
 auto-after-spec =
     tie.close
     (tie.spec
-    pick-requires
     add-d
     mul-d
     element-write-d
@@ -64,10 +48,6 @@ auto-after-spec =
     mul-latest
     element-copy-out-latest
     latest-requires
-    add-pick
-    mul-pick
-    element-copy-out-pick
-    pick-requires-2
     add-d-2
     mul-d-2
     element-write-d-2

@@ -6,8 +6,8 @@ use Rattle.effects.proofs.cut_read.Tie as tie
 element-copy-out-least : tie.Need-element-copy-out-least
 element-copy-out-least c = search needs
 
-latency-requires : tie.Need-latency-requires
-latency-requires c κs = search needs
+element-copy-out-after : tie.Need-element-copy-out-after
+element-copy-out-after c = search needs
 
 after-requires : tie.Need-after-requires
 after-requires c κs = search needs
@@ -26,14 +26,14 @@ element-write-d c = search needs
 
 returns : tie.Need-returns
 unfolding cutRead
-returns c = rw (c .pick .ensures, c .before .before .least .ensures, c .before .before .before .after .ensures, c .before .before .before .before .latency .ensures)
+returns c = rw (c .pick .ensures, c .before .before .least .ensures, c .before .before .before .after .ensures)
 
 pub cut-read-spec : {M : Type 1} → statement M
 cut-read-spec =
     tie.close
     (tie.spec
     element-copy-out-least
-    latency-requires
+    element-copy-out-after
     after-requires
     least-requires
     element-copy-out-pick

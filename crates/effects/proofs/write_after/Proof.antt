@@ -3,8 +3,8 @@ use borrow.Author.Needs.{needs}
 use Rattle.effects.proofs.write_after.Statement.{statement}
 use Rattle.effects.proofs.write_after.Tie as tie
 
-half-requires : tie.Need-half-requires
-half-requires c κs = search needs
+element-copy-out-pairs : tie.Need-element-copy-out-pairs
+element-copy-out-pairs c = search needs
 
 cut-write-requires : tie.Need-cut-write-requires
 cut-write-requires c κs = search needs
@@ -14,12 +14,6 @@ new-write-requires c κs = search needs
 
 after-requires : tie.Need-after-requires
 after-requires c κs = search needs
-
-element-copy-out-pick : tie.Need-element-copy-out-pick
-element-copy-out-pick c = search needs
-
-pick-requires : tie.Need-pick-requires
-pick-requires c κs = search needs
 
 element-write-d : tie.Need-element-write-d
 element-write-d c = search needs
@@ -38,21 +32,24 @@ auto-after-requires c κs = search needs
 
 returns : tie.Need-returns
 unfolding writeAfter
-returns c = rw (c .auto-after .ensures, c .before .data-after2 .ensures, c .before .before .before .before .before .pick .ensures, c .before .before .before .before .before .before .before .after .ensures, c .before .before .before .before .before .before .before .before .new-write .ensures, c .before .before .before .before .before .before .before .before .before .before .cut-write .ensures, c .before .before .before .before .before .before .before .before .before .before .before .before .half .ensures)
+returns c = rw (c .auto-after .ensures, c .before .data-after2 .ensures, c .before .before .before .before .before .after .ensures, c .before .before .before .before .before .before .if1 .taken, c .before .before .before .before .before .before .before .new-write .ensures, c .before .before .before .before .before .before .before .before .before .cut-write .ensures)
+
+returns-2 : tie.Need-returns-2
+unfolding writeAfter
+returns-2 c = rw (c .if1 .left, c .before .new-write .ensures, c .before .before .before .cut-write .ensures)
 
 pub write-after-spec : {M : Type 1} → statement M
 write-after-spec =
     tie.close
     (tie.spec
-    half-requires
+    element-copy-out-pairs
     cut-write-requires
     new-write-requires
     after-requires
-    element-copy-out-pick
-    pick-requires
     element-write-d
     element-copy-out-data-after2
     element-copy-out-data-after2-2
     data-after2-requires
     auto-after-requires
-    returns)
+    returns
+    returns-2)

@@ -1,5 +1,5 @@
 use Prim.Native.Nat.{_-_}
-use mathlib.Core.Path.{sym, _∙_}
+use mathlib.Core.Path.{sym}
 use native.Mathlib.Omega.{arith}
 use borrow.Author.Needs.{needs}
 use Rattle.judge.proofs.Walking.{Before, begins, kept-on, broke-at, ends}
@@ -7,28 +7,22 @@ use Rattle.judge.proofs.walk.Statement.{statement}
 use Rattle.judge.proofs.walk.Tie as tie
 
 abbrev Inv-events : tie.InvT-events
-Inv-events s part n deadlines₀ mode₀ i₀ deadlines mode i = Before s part n deadlines mode i
+Inv-events s d₀ pace₀ part n i₀ d pace i = Before s part n d pace i
 
 abbrev μ-events : tie.MeasureT-events
-μ-events s part n deadlines₀ mode₀ i₀ deadlines mode i = n - i
-
-start-requires : tie.Need-start-requires Inv-events μ-events
-start-requires c κs = search needs
-
-element-copy-out-mode : tie.Need-element-copy-out-mode Inv-events μ-events
-element-copy-out-mode c = omega arith
+μ-events s d₀ pace₀ part n i₀ d pace i = n - i
 
 events-holds : tie.Need-events-holds Inv-events μ-events
-events-holds c = rw (c .before .start .ensures) (begins (c .before .before .before .args .s .now) (c .before .before .before .args .part .now) (c .before .before .before .args .n))
+events-holds c = begins (c .before .args .s .now) (c .before .args .part .now) (c .before .args .n) (c .before .pre .1)
 
 cast-at : tie.Need-cast-at Inv-events μ-events
 cast-at c = omega arith
 
 cycle-at-requires : tie.Need-cycle-at-requires Inv-events μ-events
-cycle-at-requires c κs = omega (arith, c .before .before .before .before .before .pre .long)
+cycle-at-requires c κs = omega (arith, c .before .before .before .pre .0 .long)
 
 pins-at-requires : tie.Need-pins-at-requires Inv-events μ-events
-pins-at-requires c κs = omega (arith, c .before .before .before .before .before .before .pre .long)
+pins-at-requires c κs = omega (arith, c .before .before .before .before .pre .0 .long)
 
 step-requires : tie.Need-step-requires Inv-events μ-events
 step-requires c κs = search needs
@@ -39,11 +33,11 @@ enum-told c = search needs
 enum-told-2 : tie.Need-enum-told-2 Inv-events μ-events
 enum-told-2 c = search needs
 
-broken-requires : tie.Need-broken-requires Inv-events μ-events
-broken-requires c κs = search needs
+lowest-requires : tie.Need-lowest-requires Inv-events μ-events
+lowest-requires c κs = search needs
 
 returns : tie.Need-returns Inv-events μ-events
-returns c = c .broken .ensures ∙ sym (broke-at (c .before .before .before .before .before .before .before .before .before .before .before .before .before .args .s .now) (c .before .before .before .before .before .before .before .before .before .before .before .before .before .args .part .now) (c .before .before .before .before .before .before .before .before .before .before .before .before .before .args .n) (c .before .before .before .before .before .before .before .before .before .before .before .before .before .pre) (c .before .before .before .before .before .before .before .before .before .events .inv) (c .before .before .before .before .before .before .before .before .events-test .taken) (c .before .before .before .before .before .before .before .cycle-at .ensures) (c .before .before .before .before .before .before .pins-at .ensures) (c .before .before .before .step .ensures .0) (c .before .enum-told2 .given .1))
+returns c = sym (broke-at (c .before .before .before .before .before .before .before .before .before .before .before .before .args .s .now) (c .before .before .before .before .before .before .before .before .before .before .before .before .args .part .now) (c .before .before .before .before .before .before .before .before .before .before .before .before .args .n) (c .before .before .before .before .before .before .before .before .before .before .before .before .pre .0) (c .before .before .before .before .before .before .before .before .before .before .events .inv) (c .before .before .before .before .before .before .before .before .before .events-test .taken) (c .before .before .before .before .before .before .before .before .cycle-at .ensures) (c .before .before .before .before .before .before .before .pins-at .ensures) (c .before .before .before .before .step .ensures .0) (c .before .before .before .before .step .ensures .1 .0) (c .before .before .enum-told2 .given .1) (c .lowest .ensures))
 
 add-i : tie.Need-add-i Inv-events μ-events
 add-i c = omega arith
@@ -52,10 +46,10 @@ events-less : tie.Need-events-less Inv-events μ-events
 events-less c = omega arith
 
 events-again : tie.Need-events-again Inv-events μ-events
-events-again c = kept-on (c .before .before .before .before .before .before .before .before .before .before .before .before .args .s .now) (c .before .before .before .before .before .before .before .before .before .before .before .before .args .part .now) (c .before .before .before .before .before .before .before .before .before .before .before .before .args .n) (c .before .before .before .before .before .before .before .before .before .before .before .before .pre) (c .before .before .before .before .before .before .before .before .events .inv) (c .before .before .before .before .before .before .before .events-test .taken) (c .before .before .before .before .before .before .cycle-at .ensures) (c .before .before .before .before .before .pins-at .ensures) (c .before .before .step .ensures .0) (c .before .before .step .ensures .1 .0) (c .before .before .step .ensures .1 .1) (c .enum-told .given .1)
+events-again c = kept-on (c .before .before .before .before .before .before .before .before .before .before .args .s .now) (c .before .before .before .before .before .before .before .before .before .before .args .part .now) (c .before .before .before .before .before .before .before .before .before .before .args .n) (c .before .before .before .before .before .before .before .before .before .before .pre .0) (c .before .before .before .before .before .before .before .before .events .inv) (c .before .before .before .before .before .before .before .events-test .taken) (c .before .before .before .before .before .before .cycle-at .ensures) (c .before .before .before .before .before .pins-at .ensures) (c .before .before .step .ensures .0) (c .before .before .step .ensures .1 .0) (c .before .before .step .ensures .1 .1) (c .enum-told .given .1)
 
 returns-2 : tie.Need-returns-2 Inv-events μ-events
-returns-2 c = sym (ends (c .before .before .before .before .before .args .s .now) (c .before .before .before .before .before .args .part .now) (c .before .before .before .before .before .args .n) _ _ _ (c .before .events .inv) (omega arith))
+returns-2 c = sym (ends (c .before .before .before .args .s .now) (c .before .before .before .args .part .now) (c .before .before .before .args .n) _ _ _ (c .before .events .inv) (omega arith))
 
 pub walk-spec : {M : Type 1} → statement M
 walk-spec =
@@ -63,8 +57,6 @@ walk-spec =
     (tie.spec
     Inv-events
     μ-events
-    start-requires
-    element-copy-out-mode
     events-holds
     cast-at
     cycle-at-requires
@@ -72,7 +64,7 @@ walk-spec =
     step-requires
     enum-told
     enum-told-2
-    broken-requires
+    lowest-requires
     returns
     add-i
     events-less

@@ -1,64 +1,8 @@
+use borrow.Author.Tests.{le-leb, lt-leb, lt-ltb, le-ltb, eq-eqb, ne-eqb}
 use Rattle.deadlines.specs.Deadlines.{activeBreaks}
 use borrow.Author.Needs.{needs}
 use Rattle.rules.proofs.active_breaks.Statement.{statement}
 use Rattle.rules.proofs.active_breaks.Tie as tie
-
-due-breaks-requires : tie.Need-due-breaks-requires
-due-breaks-requires c κs = search needs
-
-others-apart-requires : tie.Need-others-apart-requires
-others-apart-requires c κs = search needs
-
-add-past : tie.Need-add-past
-add-past c = search needs
-
-mul-past : tie.Need-mul-past
-mul-past c = search needs
-
-element-copy-out-past : tie.Need-element-copy-out-past
-element-copy-out-past c = search needs
-
-past-requires : tie.Need-past-requires
-past-requires c κs = search needs
-
-or-else-requires : tie.Need-or-else-requires
-or-else-requires c κs = search needs
-
-add-past-2 : tie.Need-add-past-2
-add-past-2 c = search needs
-
-mul-past-2 : tie.Need-mul-past-2
-mul-past-2 c = search needs
-
-element-copy-out-past-2 : tie.Need-element-copy-out-past-2
-element-copy-out-past-2 c = search needs
-
-past-requires-2 : tie.Need-past-requires-2
-past-requires-2 c κs = search needs
-
-or-else-requires-2 : tie.Need-or-else-requires-2
-or-else-requires-2 c κs = search needs
-
-element-copy-out-past-3 : tie.Need-element-copy-out-past-3
-element-copy-out-past-3 c = search needs
-
-past-requires-3 : tie.Need-past-requires-3
-past-requires-3 c κs = search needs
-
-or-else-requires-3 : tie.Need-or-else-requires-3
-or-else-requires-3 c κs = search needs
-
-add-or-else : tie.Need-add-or-else
-add-or-else c = search needs
-
-mul-or-else : tie.Need-mul-or-else
-mul-or-else c = search needs
-
-element-copy-out-or-else : tie.Need-element-copy-out-or-else
-element-copy-out-or-else c = search needs
-
-or-else-requires-4 : tie.Need-or-else-requires-4
-or-else-requires-4 c κs = search needs
 
 element-copy-out-rows : tie.Need-element-copy-out-rows
 element-copy-out-rows c = search needs
@@ -66,37 +10,87 @@ element-copy-out-rows c = search needs
 rows-requires : tie.Need-rows-requires
 rows-requires c κs = search needs
 
-or-else-requires-5 : tie.Need-or-else-requires-5
-or-else-requires-5 c κs = search needs
-
 returns : tie.Need-returns
 unfolding activeBreaks
-returns c = rw (c .or-else5 .ensures, c .before .rows .ensures, c .before .before .before .or-else4 .ensures, c .before .before .before .before .before .or-else3 .ensures, c .before .before .before .before .before .before .past3 .ensures, c .before .before .before .before .before .before .before .before .or-else2 .ensures, c .before .before .before .before .before .before .before .before .before .past2 .ensures, c .before .before .before .before .before .before .before .before .before .before .before .or-else .ensures, c .before .before .before .before .before .before .before .before .before .before .before .before .past .ensures, c .before .before .before .before .before .before .before .before .before .before .before .before .before .before .others-apart .ensures, c .before .before .before .before .before .before .before .before .before .before .before .before .before .before .before .due-breaks .ensures)
+returns c = rw (← c .before .rows .ensures, le-ltb _ _ (c .if1 .taken))
+
+add-if2 : tie.Need-add-if2
+add-if2 c = search needs
+
+mul-if2 : tie.Need-mul-if2
+mul-if2 c = search needs
+
+element-copy-out-if2 : tie.Need-element-copy-out-if2
+element-copy-out-if2 c = search needs
+
+returns-2 : tie.Need-returns-2
+unfolding activeBreaks
+returns-2 c = rw (← c .before .before .before .rows .ensures, lt-ltb _ _ (c .before .before .if1 .left), ne-eqb _ _ (c .if2 .taken))
+
+element-copy-out-if3 : tie.Need-element-copy-out-if3
+element-copy-out-if3 c = search needs
+
+returns-3 : tie.Need-returns-3
+unfolding activeBreaks
+returns-3 c = rw (← c .before .before .before .before .before .rows .ensures, lt-ltb _ _ (c .before .before .before .before .if1 .left), eq-eqb _ _ (c .before .before .if2 .left), lt-leb _ _ (c .if3 .taken))
+
+add-if4 : tie.Need-add-if4
+add-if4 c = search needs
+
+mul-if4 : tie.Need-mul-if4
+mul-if4 c = search needs
+
+element-copy-out-if4 : tie.Need-element-copy-out-if4
+element-copy-out-if4 c = search needs
+
+returns-4 : tie.Need-returns-4
+unfolding activeBreaks
+returns-4 c = rw (← c .before .before .before .before .before .before .before .rows .ensures, lt-ltb _ _ (c .before .before .before .before .before .before .if1 .left), eq-eqb _ _ (c .before .before .before .before .if2 .left), le-leb _ _ (c .before .before .if3 .left), lt-leb _ _ (c .if4 .taken))
+
+add-if5 : tie.Need-add-if5
+add-if5 c = search needs
+
+mul-if5 : tie.Need-mul-if5
+mul-if5 c = search needs
+
+element-copy-out-if5 : tie.Need-element-copy-out-if5
+element-copy-out-if5 c = search needs
+
+returns-5 : tie.Need-returns-5
+unfolding activeBreaks
+returns-5 c = rw (← c .before .before .before .before .before .before .before .before .before .rows .ensures, lt-ltb _ _ (c .before .before .before .before .before .before .before .before .if1 .left), eq-eqb _ _ (c .before .before .before .before .before .before .if2 .left), le-leb _ _ (c .before .before .before .before .if3 .left), le-leb _ _ (c .before .before .if4 .left), lt-leb _ _ (c .if5 .taken))
+
+due-breaks-requires : tie.Need-due-breaks-requires
+due-breaks-requires c κs = search needs
+
+others-apart-requires : tie.Need-others-apart-requires
+others-apart-requires c κs = search needs
+
+returns-6 : tie.Need-returns-6
+unfolding activeBreaks
+returns-6 c = rw (← c .before .before .before .before .before .before .before .before .before .before .before .rows .ensures, lt-ltb _ _ (c .before .before .before .before .before .before .before .before .before .before .if1 .left), eq-eqb _ _ (c .before .before .before .before .before .before .before .before .if2 .left), le-leb _ _ (c .before .before .before .before .before .before .if3 .left), le-leb _ _ (c .before .before .before .before .if4 .left), le-leb _ _ (c .before .before .if5 .left), c .others-apart .ensures, c .before .due-breaks .ensures)
 
 pub active-breaks-spec : {M : Type 1} → statement M
 active-breaks-spec =
     tie.close
     (tie.spec
-    due-breaks-requires
-    others-apart-requires
-    add-past
-    mul-past
-    element-copy-out-past
-    past-requires
-    or-else-requires
-    add-past-2
-    mul-past-2
-    element-copy-out-past-2
-    past-requires-2
-    or-else-requires-2
-    element-copy-out-past-3
-    past-requires-3
-    or-else-requires-3
-    add-or-else
-    mul-or-else
-    element-copy-out-or-else
-    or-else-requires-4
     element-copy-out-rows
     rows-requires
-    or-else-requires-5
-    returns)
+    returns
+    add-if2
+    mul-if2
+    element-copy-out-if2
+    returns-2
+    element-copy-out-if3
+    returns-3
+    add-if4
+    mul-if4
+    element-copy-out-if4
+    returns-4
+    add-if5
+    mul-if5
+    element-copy-out-if5
+    returns-5
+    due-breaks-requires
+    others-apart-requires
+    returns-6)

@@ -1,0 +1,70 @@
+use Prim.Native.Nat.{_-_}
+use native.Mathlib.Omega.{arith}
+use Rattle.capture.proofs.Fitting.{Looked, begins, goes-on, ends, no-events}
+use Rattle.capture.proofs.all_fit.Statement.{statement}
+use Rattle.capture.proofs.all_fit.Tie as tie
+
+abbrev Inv-loop : tie.InvT-loop
+Inv-loop part n fine₀ last₀ i₀ fine last i = Looked part n fine last i
+
+abbrev μ-loop : tie.MeasureT-loop
+μ-loop part n fine₀ last₀ i₀ fine last i = n - i
+
+returns : tie.Need-returns Inv-loop μ-loop
+returns c = λ e. no-events (c .before .before .args .part .now) (c .before .before .args .n) (c .if1 .taken)
+
+pins-at-requires : tie.Need-pins-at-requires Inv-loop μ-loop
+pins-at-requires c κs = omega arith
+
+cycle-at-requires : tie.Need-cycle-at-requires Inv-loop μ-loop
+cycle-at-requires c κs = omega arith
+
+loop-holds : tie.Need-loop-holds Inv-loop μ-loop
+loop-holds c = begins (c .before .before .before .before .args .part .now) (c .before .before .before .before .args .n) (omega arith) (c .before .pins-at .ensures) (c .cycle-at .ensures)
+
+cycle-at-requires-2 : tie.Need-cycle-at-requires-2 Inv-loop μ-loop
+cycle-at-requires-2 c κs = omega arith
+
+pins-at-requires-2 : tie.Need-pins-at-requires-2 Inv-loop μ-loop
+pins-at-requires-2 c κs = omega arith
+
+both-requires : tie.Need-both-requires Inv-loop μ-loop
+both-requires c κs = tt
+
+both-requires-2 : tie.Need-both-requires-2 Inv-loop μ-loop
+both-requires-2 c κs = tt
+
+add-i : tie.Need-add-i Inv-loop μ-loop
+add-i c = omega arith
+
+loop-less : tie.Need-loop-less Inv-loop μ-loop
+loop-less c = omega arith
+
+loop-again : tie.Need-loop-again Inv-loop μ-loop
+loop-again c = goes-on (c .before .before .before .before .before .before .before .before .before .before .args .part .now) (c .before .before .before .before .before .before .before .before .before .before .args .n) (c .before .before .before .before .before .loop .inv) (omega arith) (c .before .before .before .cycle-at2 .ensures) (c .before .before .pins-at2 .ensures) (c .before .both .ensures) (c .both2 .ensures)
+
+both-requires-3 : tie.Need-both-requires-3 Inv-loop μ-loop
+both-requires-3 c κs = tt
+
+returns-2 : tie.Need-returns-2 Inv-loop μ-loop
+returns-2 c = ends (c .before .before .before .before .before .before .before .args .part .now) (c .before .before .before .before .before .before .before .args .n) (c .before .before .loop .inv) (omega arith) (c .both3 .ensures)
+
+pub all-fit-spec : {M : Type 1} → statement M
+all-fit-spec =
+    tie.close
+    (tie.spec
+    Inv-loop
+    μ-loop
+    returns
+    pins-at-requires
+    cycle-at-requires
+    loop-holds
+    cycle-at-requires-2
+    pins-at-requires-2
+    both-requires
+    both-requires-2
+    add-i
+    loop-less
+    loop-again
+    both-requires-3
+    returns-2)
