@@ -2,42 +2,11 @@
 """Runs the report program on captures built here from document 01's description of the bytes, and holds what it prints
 to what document 01 says. Each capture comes whole from a file, in pieces through a pipe, and byte by byte."""
 import os
-import struct
-import subprocess
 import sys
-import tempfile
-import time
 
-HERE = os.path.dirname(os.path.abspath(__file__))
-PROGRAM = [os.path.join(HERE, "..", "program"), "report"]
-
-# The settings of document 01's cases.
-USUAL = [1, 13, 10, 0x32, 3, 3, 7, 10, 2, 3, 1, 12, 2, 1000]
-
-# Pin words: RAS#, CAS#, WE# are bits 17, 18, 19, and low is 0.
-ACTIVE, READ, NOP = 0xC0000, 0xA0000, 0xE0000
-
-
-def words(values):
-    return struct.pack("<%dI" % len(values), *values)
-
-
-def capture(events, settings=USUAL, header=None):
-    n = len(events)
-    head = header or [80 + 8 * n, 14, 24, n, 80, 0]
-    return words(head) + words(settings) + b"".join(words(e) for e in events)
-
-
-def setting(number, word):
-    changed = list(USUAL)
-    changed[number] = word
-    return changed
-
-
-def quiet(n):
-    """n NOPs, one a cycle, under a GAP that allows them."""
-    return capture([(i, NOP) for i in range(n)], setting(13, 1_000_000))
-
+sys.path.insert(0, os.path.join(os.path.dirname(os.path.abspath(__file__)), ".."))
+from captures import ACTIVE, NOP, READ, capture, quiet, setting
+from running import from_file, from_pipe, unreadable
 
 CASES = [
     ("case b at cycle 2: tRCD is 3", capture([(0, ACTIVE), (2, READ)]),
@@ -65,47 +34,17 @@ CASES = [
 ]
 
 
-def from_file(data):
-    with tempfile.TemporaryFile() as f:
-        f.write(data)
-        f.seek(0)
-        return subprocess.run(PROGRAM, stdin=f, capture_output=True)
-
-
-def from_pipe(data, size, pause):
-    """The bytes arrive in pieces of one size, with a pause so that each is a short read."""
-    run = subprocess.Popen(PROGRAM, stdin=subprocess.PIPE, stdout=subprocess.PIPE, stderr=subprocess.PIPE)
-    try:
-        for at in range(0, len(data), size):
-            run.stdin.write(data[at:at + size])
-            run.stdin.flush()
-            time.sleep(pause)
-        run.stdin.close()
-    except BrokenPipeError:
-        pass  # the program has seen one byte too many and reads no further
-    out, err = run.stdout.read(), run.stderr.read()
-    run.wait()
-    return subprocess.CompletedProcess(PROGRAM, run.returncode, out, err)
-
-
-def unreadable():
-    """Standard input that cannot be read: a folder, and none at all."""
-    with_folder = subprocess.run(PROGRAM + [], stdin=os.open(HERE, os.O_RDONLY), capture_output=True)
-    closed = subprocess.run(["sh", "-c", 'exec "$0" "$@" <&-'] + PROGRAM, capture_output=True)
-    return [("a folder as standard input", with_folder), ("standard input closed", closed)]
-
-
 def main():
     wrong = 0
     for name, data, expected in CASES:
-        runs = [("file", from_file(data)), ("pipe", from_pipe(data, 4096, 0.001))]
+        runs = [("file", from_file("report", data)), ("pipe", from_pipe("report", data, 4096, 0.001))]
         if len(data) < 200:
-            runs.append(("byte by byte", from_pipe(data, 1, 0.001)))
+            runs.append(("byte by byte", from_pipe("report", data, 1, 0.001)))
         for how, run in runs:
             if run.stdout.decode() != expected or run.stderr:
                 wrong += 1
                 print(f"WRONG {name} ({how}): {run.stdout!r} {run.stderr!r}, not {expected!r}")
-    for name, run in unreadable():
+    for name, run in unreadable("report"):
         if run.stdout or b"nothing was judged" not in run.stderr:
             wrong += 1
             print(f"WRONG {name}: {run.stdout!r} {run.stderr!r}")
