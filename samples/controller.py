@@ -1,0 +1,167 @@
+"""A memory controller that keeps the rules of document 01, to make captures of plausible traffic.
+
+Every command goes out at the first cycle that the rules leave to it, or later. The controller runs every burst to its end
+except where it ends a read by BURST TERMINATE, and it waits tRC from ACTIVE to AUTO REFRESH as well, which some data
+sheets ask for and document 01 does not."""
+import os
+import random
+import sys
+
+sys.path.insert(0, os.path.join(os.path.dirname(os.path.abspath(__file__)), "..", "tests"))
+from captures import (A10, ACTIVE, AUTO_REFRESH, BURST_TERMINATE, DESELECT, MODE_REGISTER_SET, NOP, PRECHARGE, READ, WRITE,
+                      bank, column)
+
+BANKS = range(4)
+
+
+class Controller:
+    def __init__(self, part, seed):
+        self.part = part
+        self.random = random.Random(seed)
+        self.events = []
+        self.mode = part["mode"]
+        self.next = 20  # the first cycle that is free on the command pins
+        self.ready = 0  # tRFC and tMRD are over
+        self.row_ready = 0  # tRRD is over
+        self.read_ready = 0  # no burst, data or turn of the bus is in the way of a READ
+        self.write_ready = 0
+        self.reads_done = 0  # the data of every read has left the bus
+        self.row = [None] * 4  # the open row
+        self.opened = [0] * 4  # its ACTIVE
+        self.column_ready = [0] * 4  # tRCD is over
+        self.close_ready = [0] * 4  # tRAS, tWR and the bank's bursts are over
+        self.open_ready = [0] * 4  # tRP and tRC are over
+        self.refreshing = True
+        self.refreshed = 0
+        self.refresh_due = part["tREFI"]
+
+    def below(self, n):
+        """A number from 0 to n - 1. Only random() is promised to give the same numbers in every version of Python."""
+        return int(self.random.random() * n)
+
+    @property
+    def h(self):
+        return 2 ** (self.mode % 8) // 2
+
+    @property
+    def latency(self):
+        return self.mode // 16
+
+    def put(self, cycle, pins):
+        self.events.append((cycle, pins))
+        self.next = cycle + 1
+        return cycle
+
+    def send(self, earliest, pins):
+        return self.put(max(self.next, self.ready, *earliest), pins)
+
+    # ---- commands
+
+    def active(self, b, row):
+        t = self.send([self.row_ready, self.open_ready[b]], ACTIVE | bank(b) | row)
+        self.row[b], self.opened[b] = row, t
+        self.row_ready = t + self.part["tRRD"]
+        self.column_ready[b] = t + self.part["tRCD"]
+        self.close_ready[b] = t + self.part["tRAS"]
+        self.open_ready[b] = t + self.part["tRC"]
+        return t
+
+    def read(self, b, c, auto=False):
+        t = self.send([self.column_ready[b], self.read_ready], READ | bank(b) | column(c) | A10 * auto)
+        self.read_ready = t + self.h
+        self.write_ready = self.reads_done = t + self.latency + self.h
+        self.burst_ends(b, t + self.h, auto)
+        return t
+
+    def write(self, b, c, auto=False):
+        t = self.send([self.column_ready[b], self.write_ready], WRITE | bank(b) | column(c) | A10 * auto)
+        end = t + 1 + self.h
+        self.read_ready = end + self.part["tWTR"]
+        self.write_ready = t + self.h
+        self.burst_ends(b, end + self.part["tWR"], auto)
+        return t
+
+    def burst_ends(self, b, cycle, auto):
+        self.close_ready[b] = max(self.close_ready[b], cycle)
+        if auto:
+            self.closed(b, self.close_ready[b])
+
+    def closed(self, b, cycle):
+        self.row[b] = None
+        self.open_ready[b] = max(self.open_ready[b], cycle + self.part["tRP"])
+
+    def burst_terminate(self):
+        return self.send([], BURST_TERMINATE)
+
+    def precharge(self, b):
+        t = self.send([self.close_ready[b]], PRECHARGE | bank(b))
+        self.closed(b, t)
+        return t
+
+    def precharge_all(self):
+        t = self.send([self.close_ready[b] for b in BANKS if self.row[b] is not None], PRECHARGE | A10)
+        for b in BANKS:
+            if self.row[b] is not None:
+                self.closed(b, t)
+        return t
+
+    def close_rows(self):
+        if any(row is not None for row in self.row):
+            self.precharge_all()
+
+    def auto_refresh(self):
+        self.close_rows()
+        t = self.send([self.reads_done, *self.open_ready], AUTO_REFRESH)
+        self.ready = t + self.part["tRFC"]
+        self.refreshed, self.refresh_due = t, t + self.part["tREFI"]
+        return t
+
+    def mode_set(self, word):
+        self.close_rows()
+        t = self.send([self.reads_done, *self.open_ready], MODE_REGISTER_SET | word)
+        self.ready = t + self.part["tMRD"]
+        self.mode = word
+        return t
+
+    # ---- traffic
+
+    def open_row(self, b, row):
+        if self.row[b] is not None and self.row[b] != row:
+            self.precharge(b)
+        if self.row[b] is None:
+            self.active(b, row)
+
+    def reach(self):
+        """A bank, and a row of it: usually the open one, as programs stay near where they were."""
+        b = self.below(4)
+        if self.row[b] is not None and self.below(4):
+            return b, self.row[b]
+        return b, self.below(2 ** self.part["rowbits"])
+
+    def request(self):
+        b, row = self.reach()
+        self.open_row(b, row)
+        c = self.below(2 ** self.part["colbits"])
+        auto = self.below(8) == 0
+        if self.below(3) == 0:
+            self.write(b, c, auto)
+            return
+        self.read(b, c, auto)
+        if not auto and self.below(10) == 0:
+            self.burst_terminate()
+
+    def rest(self):
+        """Nothing to do for a while; a logic analyser now and then keeps a cycle with DESELECT or NOP."""
+        self.next += self.below(12)
+        if self.below(20) == 0:
+            self.next += self.below(self.part["tREFI"] // 3)
+        if self.below(40) == 0:
+            self.put(self.next, DESELECT if self.below(2) else NOP)
+
+    def run(self, events):
+        """Traffic until there are so many events, with an AUTO REFRESH every tREFI."""
+        while len(self.events) < events:
+            if self.refreshing and self.refresh_due <= self.next:
+                self.auto_refresh()
+            self.request()
+            self.rest()

@@ -1,0 +1,177 @@
+#!/usr/bin/env python3
+"""make.py [FOLDER]: writes every sample into FOLDER (this one if none is named) and prints the table of README.md.
+
+The settings are those of real parts, from tests/data/part-settings.csv. What the report has to say of a sample is known
+from how it is made: the controller keeps every rule, and a fault is one command whose cycle or pins break one rule of
+document 01 and no lower one."""
+import csv
+import os
+import sys
+
+HERE = os.path.dirname(os.path.abspath(__file__))
+sys.path.insert(0, HERE)
+from controller import Controller
+from captures import ACTIVE, AUTO_REFRESH, PRECHARGE, READ, bank, capture, column
+
+# The columns that are settings, in the order of document 01's table.
+SETTINGS = ["lane", "rowbits", "colbits", "mode", "tRCD", "tRP", "tRAS", "tRC", "tRRD", "tWR", "tWTR", "tRFC", "tMRD", "GAP"]
+
+
+def parts():
+    with open(os.path.join(HERE, "..", "tests", "data", "part-settings.csv"), newline="") as f:
+        rows = list(csv.DictReader(f))
+    numbers = SETTINGS + ["tREFI"]
+    return {(r["part"], r["grade"]): dict({name: int(r[name]) for name in numbers}, width=16 * int(r["lane"])) for r in rows}
+
+
+def settings_of(part):
+    return [part[name] for name in SETTINGS]
+
+
+def clean(events):
+    return [f"events {len(events)}", f"judged {len(events)}", "clean"]
+
+
+def broken(events, rule, at):
+    return [f"events {len(events)}", f"judged {at}", f"broken rule {rule} event {at} cycle {events[at][0]}"]
+
+
+# ---- samples: each takes a part and a seed, and gives the bytes and the lines of the report
+
+def clean_run(part, seed):
+    c = Controller(part, seed)
+    c.run(900)
+    c.mode_set(part["mode"] // 16 * 16 + 8 + 3)  # BL 8, interleaved
+    c.run(1800)
+    c.close_rows()
+    return capture(c.events, settings_of(part)), clean(c.events)
+
+
+def with_fault(part, seed, fault, rule):
+    """Traffic, a fault in the middle of it, and more traffic: the recorder does not know."""
+    c = Controller(part, seed)
+    c.run(200 + c.below(100))
+    fault(c)
+    at = len(c.events) - 1
+    c.run(at + 40)
+    return capture(c.events, settings_of(part)), broken(c.events, rule, at)
+
+
+def read_before_trcd(part, seed):
+    def fault(c):
+        c.close_rows()
+        t = c.active(2, 77)
+        c.put(t + part["tRCD"] - 1, READ | bank(2) | column(16))
+    return with_fault(part, seed, fault, 8)
+
+
+def read_before_twtr(part, seed):
+    def fault(c):
+        c.open_row(1, 300)
+        c.open_row(3, 1200)
+        c.read(3, 8)
+        t = c.write(1, 40)
+        c.put(t + 1 + c.h + part["tWTR"] - 1, READ | bank(3) | column(12))
+    return with_fault(part, seed, fault, 11)
+
+
+def precharge_before_twr(part, seed):
+    def fault(c):
+        c.open_row(0, 9)
+        for place in range(4):  # so many that tRAS is over
+            t = c.write(0, 4 * place)
+        c.put(t + 1 + c.h + part["tWR"] - 1, PRECHARGE | bank(0))
+    return with_fault(part, seed, fault, 10)
+
+
+def refresh_with_open_row(part, seed):
+    def fault(c):
+        c.close_rows()
+        c.active(1, 21)
+        t = c.active(2, 22)
+        c.precharge(1)
+        c.put(max(c.next, c.reads_done, t + 2 * part["tRC"]), AUTO_REFRESH)
+    return with_fault(part, seed, fault, 3)
+
+
+def mode_set_latency_4(part, seed):
+    def fault(c):
+        c.mode_set(0x42)
+    return with_fault(part, seed, fault, 2)
+
+
+def late_refresh(part, seed):
+    """The controller stops refreshing; the first event after GAP is late."""
+    c = Controller(part, seed)
+    c.run(6000)
+    c.refreshing = False
+    last = c.refreshed + part["GAP"]
+    while c.events[-1][0] <= last:
+        c.run(len(c.events) + 1)
+    at = next(i for i, (cycle, _) in enumerate(c.events) if last < cycle)
+    c.run(at + 40)
+    return capture(c.events, settings_of(part)), broken(c.events, 14, at)
+
+
+def unknown_latency(part, seed):
+    c = Controller(part, seed)
+    c.run(100)
+    return capture(c.events, settings_of(dict(part, mode=0x42))), ["refused 3 place 3"]
+
+
+def cut_short(part, seed):
+    data, _ = clean_run(part, seed)
+    return data[:3000], ["refused 1 place 0"]
+
+
+def stamps_of_16_bits(part, seed):
+    """A recorder whose cycle counter has 16 bits: it starts again at 65,536."""
+    c = Controller(part, seed)
+    while c.next < 70_000:
+        c.run(len(c.events) + 20)
+    at = next(i for i, (cycle, _) in enumerate(c.events) if 65_536 <= cycle)
+    return capture([(cycle % 65_536, pins) for cycle, pins in c.events], settings_of(part)), [f"refused 4 place {at}"]
+
+
+def case_b(part, seed):
+    events = [(0, ACTIVE), (2, READ)]
+    return capture(events), broken(events, 8, 1)
+
+
+SAMPLES = [
+    ("clean-MT46H128M16LF", ("MT46H128M16LF", "-48 CL3"), clean_run, "traffic that keeps every rule; columns of 11 bits"),
+    ("clean-W948D6KBHX", ("W948D6KBHX", "-6 CL2"), clean_run, "the same at CAS latency 2"),
+    ("clean-IS43LR32400G", ("IS43LR32400G", "-6 CL3"), clean_run, "the same, of a part with 12 row and 8 column bits"),
+    ("clean-MT46H32M32LF", ("MT46H32M32LF", "-75 CL3"), clean_run, "the same at 7.5 ns a cycle"),
+    ("clean-MT46H64M16LF", ("MT46H64M16LF", "-54 CL3"), clean_run, "the same at 5.4 ns a cycle"),
+    ("read-before-tRCD", None, case_b, "case b of document 01 with its settings: READ two cycles after ACTIVE"),
+    ("tRCD", ("IS43LR32400G", "-6 CL3"), read_before_trcd, "READ a cycle before tRCD is over"),
+    ("tWTR", ("MT46H64M16LF", "-5 CL3"), read_before_twtr, "READ a cycle too soon after the data of a WRITE to another bank"),
+    ("tWR", ("W948D6KBHX", "-6 CL2"), precharge_before_twr, "PRECHARGE a cycle too soon after the data of a WRITE"),
+    ("refresh-with-open-row", ("MT46H32M32LF", "-75 CL3"), refresh_with_open_row,
+     "AUTO REFRESH while the row of bank 2 is open"),
+    ("mode-set-latency-4", ("MT46H64M32LF", "-48 CL3"), mode_set_latency_4, "MODE REGISTER SET with a CAS latency of 4"),
+    ("late-refresh", ("MT46H128M16LF", "-48 CL3"), late_refresh, "a large capture; refreshing stops, and GAP passes"),
+    ("setting-latency-4", ("W948D6KBHX", "-5 CL3"), unknown_latency, "a mode word among the settings with CAS latency 4"),
+    ("cut-short", ("MT46H64M16LF", "-6 CL3"), cut_short, "the first 3,000 bytes of a longer capture"),
+    ("cycles-of-16-bits", ("IS43LR32400G", "-6 CL3"), stamps_of_16_bits, "a recorder whose cycles start again at 65,536"),
+]
+
+
+def row(name, key, part, shows, lines):
+    of = f"{key[0]} {key[1]}, x{part['width']}" if key else "-"
+    return f"| `{name}.capture` | {of} | {shows} | {'<br>'.join(f'`{line}`' for line in lines)} |"
+
+
+def main(folder):
+    known = parts()
+    for seed, (name, key, make, shows) in enumerate(SAMPLES, 1):
+        part = known.get(key)
+        data, lines = make(part, seed)
+        with open(os.path.join(folder, name + ".capture"), "wb") as f:
+            f.write(data)
+        print(row(name, key, part, shows, lines))
+
+
+if __name__ == "__main__":
+    main(sys.argv[1] if len(sys.argv) > 1 else HERE)
