@@ -1,0 +1,53 @@
+use Prim.Native.Nat.{_≤_, _-_}
+use native.Mathlib.Omega.{arith}
+use Rattle.listing.proofs.values.print_settings.Statement.{statement}
+use Rattle.listing.proofs.values.print_settings.Tie as tie
+
+abbrev Inv-loop : tie.InvT-loop
+Inv-loop settings i₀ i = i ≤ 14
+
+abbrev μ-loop : tie.MeasureT-loop
+μ-loop settings i₀ i = 14 - i
+
+loop-holds : tie.Need-loop-holds Inv-loop μ-loop
+loop-holds c = omega arith
+
+cast-print-setting : tie.Need-cast-print-setting Inv-loop μ-loop
+cast-print-setting c = omega arith
+
+mul-print-setting : tie.Need-mul-print-setting Inv-loop μ-loop
+mul-print-setting c = omega arith
+
+element-copy-out-print-setting : tie.Need-element-copy-out-print-setting Inv-loop μ-loop
+element-copy-out-print-setting c = omega arith
+
+print-setting-requires : tie.Need-print-setting-requires Inv-loop μ-loop
+print-setting-requires c κs = tt
+
+add-i : tie.Need-add-i Inv-loop μ-loop
+add-i c = omega arith
+
+loop-less : tie.Need-loop-less Inv-loop μ-loop
+loop-less c = omega arith
+
+loop-again : tie.Need-loop-again Inv-loop μ-loop
+loop-again c = omega arith
+
+returns : tie.Need-returns Inv-loop μ-loop
+returns c = tt
+
+pub print-settings-spec : {M : Type 1} → statement M
+print-settings-spec =
+    tie.close
+    (tie.spec
+    Inv-loop
+    μ-loop
+    loop-holds
+    cast-print-setting
+    mul-print-setting
+    element-copy-out-print-setting
+    print-setting-requires
+    add-i
+    loop-less
+    loop-again
+    returns)

@@ -1,0 +1,100 @@
+// What a broken rule asks, in a sentence with the settings that it looks at.
+use crate::text::say;
+use crate::text::say_number;
+
+fn ask(before: &[u8], setting: u32, after: &[u8]) {
+    say_number(before, setting);
+    say(after);
+}
+
+fn ask_after_refresh_and_mode_set(settings: &[u32; 14]) {
+    ask(
+        b"a command at least tRFC (",
+        settings[11],
+        b") cycles after the last AUTO REFRESH",
+    );
+    ask(
+        b" and tMRD (",
+        settings[12],
+        b") after the last MODE REGISTER SET",
+    );
+}
+
+fn ask_of_rows(settings: &[u32; 14], rule: u32) {
+    match rule {
+        1 => ask(
+            b"the row of an ACTIVE fits in the row bits (",
+            settings[1],
+            b"); its pins above them are low",
+        ),
+        2 => say(
+            b"MODE REGISTER SET writes a burst length of 2 to 16 and a CAS latency of 2 or 3, with A7 to A13 low, to register 00, or anything to register 10",
+        ),
+        3 => say(
+            b"ACTIVE finds its bank idle, READ and WRITE find theirs open, AUTO REFRESH and MODE REGISTER SET find all idle",
+        ),
+        4 => ask_after_refresh_and_mode_set(settings),
+        5 => ask(
+            b"ACTIVE at least tRP (",
+            settings[5],
+            b") cycles after its bank's precharge; AUTO REFRESH and MODE REGISTER SET after every bank's",
+        ),
+        6 => ask(
+            b"ACTIVE at least tRC (",
+            settings[7],
+            b") cycles after the bank's last ACTIVE",
+        ),
+        _ => ask(
+            b"ACTIVE at least tRRD (",
+            settings[8],
+            b") cycles after the last ACTIVE of another bank",
+        ),
+    }
+}
+
+fn ask_of_bursts(settings: &[u32; 14], rule: u32) {
+    match rule {
+        8 => ask(
+            b"READ or WRITE at least tRCD (",
+            settings[4],
+            b") cycles after the bank's ACTIVE",
+        ),
+        9 => ask(
+            b"PRECHARGE at least tRAS (",
+            settings[6],
+            b") cycles after the ACTIVE of each row that it closes",
+        ),
+        10 => ask(
+            b"PRECHARGE at least tWR (",
+            settings[9],
+            b") cycles after the last write data of each row that it closes",
+        ),
+        11 => ask(
+            b"READ at least tWTR (",
+            settings[10],
+            b") cycles after the last write data, of whatever bank",
+        ),
+        12 => say(
+            b"WRITE, AUTO REFRESH or MODE REGISTER SET not before the data of the last READ has left the bus",
+        ),
+        13 => say(
+            b"READ does not cut a read with auto precharge, WRITE not a write with auto precharge, BURST TERMINATE neither such a read nor any write",
+        ),
+        _ => ask(
+            b"every event at most GAP (",
+            settings[13],
+            b") cycles after the last AUTO REFRESH, or after cycle 0 if there was none",
+        ),
+    }
+}
+
+pub fn print_rule(settings: &[u32; 14], rule: u32) {
+    say_number(b"rule ", rule);
+    say(b": ");
+    if rule < 8 {
+        ask_of_rows(settings, rule);
+    } else {
+        ask_of_bursts(settings, rule);
+    }
+    say(b"\n");
+}

@@ -1,0 +1,244 @@
+// The lines of events.
+use crate::text::say;
+use crate::text::say_number;
+use crate::text::say_word;
+ghost use mathlib.Core.Path.{_≡_};
+ghost use Prim.Native.Nat.{_<_};
+ghost use Rattle.part.specs.Steps.{codeOf, addressOf, tenOf};
+
+// How many events are listed before the broken one, and the broken one with those behind it.
+const BEFORE: u32 = 8;
+
+const FROM_BROKEN: u32 = 5;
+
+struct Event {
+    cycle: u32,
+    pins: u32,
+}
+
+// ---- events of a capture
+
+// N of an accepted capture: its events are all that follows byte 80, eight bytes each.
+pub fn count_in(capture: &[u8]) -> u32 {
+    let size = capture.len();
+    if size < 80 {
+        return 0;
+    }
+    ((size - 80) / 8 % 65_536) as u32
+}
+
+// Event i; zeros where there is none.
+fn event_at(capture: &[u8], i: u32) -> Event {
+    let at = i as usize;
+    if capture.len() < 88 + 8 * at {
+        return Event { cycle: 0, pins: 0 };
+    }
+    let part = &capture[80..];
+    Event {
+        cycle: capture::cycle_at(part, at),
+        pins: capture::pins_at(part, at),
+    }
+}
+
+// ---- what the pins say
+
+// CS#, RAS#, CAS#, WE#, CS# the lowest.
+fn code(pins: u32) -> u32
+    ensures { λ r. ⌜ r ≡ codeOf pins ⌝ }
+{
+    pins / 65_536 % 16
+}
+
+fn address(pins: u32) -> u32
+    ensures { λ r. ⌜ r ≡ addressOf pins ⌝ }
+{
+    pins % 16_384
+}
+
+fn ten(pins: u32) -> bool
+    ensures { λ r. ⌜ r ≡ tenOf pins ⌝ }
+{
+    pins / 1024 % 2 == 1
+}
+
+// An accepted capture has at most 14 row bits and 11 column bits.
+fn column(settings: &[u32; 14], pins: u32) -> u32 {
+    if 14 < settings[1] {
+        return 0;
+    }
+    if 11 < settings[2] {
+        return 0;
+    }
+    beats::column(settings, pins)
+}
+
+// ---- commands in words
+
+fn say_active(pins: u32) {
+    say_number(b"ACTIVE bank ", beats::bank(pins));
+    say_number(b" row ", address(pins));
+}
+
+fn say_burst(settings: &[u32; 14], pins: u32) {
+    say_number(b" bank ", beats::bank(pins));
+    say_number(b" column ", column(settings, pins));
+    if ten(pins) {
+        say(b" auto precharge");
+    }
+}
+
+fn say_read(settings: &[u32; 14], pins: u32) {
+    say(b"READ");
+    say_burst(settings, pins);
+}
+
+fn say_write(settings: &[u32; 14], pins: u32) {
+    say(b"WRITE");
+    say_burst(settings, pins);
+}
+
+fn say_precharge(pins: u32) {
+    if ten(pins) {
+        say(b"PRECHARGE ALL");
+        return;
+    }
+    say_number(b"PRECHARGE bank ", beats::bank(pins));
+}
+
+// BA1,BA0 as document 01 writes them.
+fn say_register(pins: u32) {
+    match beats::bank(pins) {
+        0 => say(b"00"),
+        1 => say(b"01"),
+        2 => say(b"10"),
+        _ => say(b"11"),
+    }
+}
+
+fn say_mode_set(pins: u32) {
+    say(b"MODE REGISTER SET register ");
+    say_register(pins);
+    say_word(b" value ", address(pins), 4);
+}
+
+fn say_command(settings: &[u32; 14], pins: u32) {
+    match code(pins) {
+        12 => say_active(pins),
+        10 => say_read(settings, pins),
+        2 => say_write(settings, pins),
+        4 => say_precharge(pins),
+        6 => say(b"BURST TERMINATE"),
+        8 => say(b"AUTO REFRESH"),
+        0 => say_mode_set(pins),
+        14 => say(b"NOP"),
+        _ => say(b"DESELECT"),
+    }
+}
+
+// ---- lines
+
+fn print_event(settings: &[u32; 14], mark: &[u8], i: u32, event: Event) {
+    say(mark);
+    say_number(b" event ", i);
+    say_number(b" cycle ", event.cycle);
+    say(b" ");
+    say_command(settings, event.pins);
+    say(b"\n");
+}
+
+fn print_words(mark: &[u8], i: u32, event: Event) {
+    say(mark);
+    say_number(b" event ", i);
+    say_word(b" words ", event.cycle, 8);
+    say_word(b" ", event.pins, 8);
+    say(b"\n");
+}
+
+// The event that was refused, and the one that its cycle has to be above.
+pub fn print_refused(capture: &[u8], i: u32) {
+    if 0 < i {
+        print_words(b" ", i - 1, event_at(capture, i - 1));
+    }
+    print_words(b">", i, event_at(capture, i));
+}
+
+// ---- the events before those listed
+
+// ACTIVE by its bank, AUTO REFRESH, MODE REGISTER SET, and the others.
+fn kind(pins: u32) -> usize
+    ensures { λ r. ⌜ r < 7 ⌝ }
+{
+    match code(pins) {
+        12 => beats::bank(pins) as usize,
+        8 => 4,
+        0 => 5,
+        _ => 6,
+    }
+}
+
+// The last event of each kind before event `end`; `end` where there is none.
+fn last_of_each(capture: &[u8], end: u32) -> [u32; 7] {
+    let mut last = [end; 7];
+    let mut i: u32 = 0;
+    while i < end {
+        let event = event_at(capture, i);
+        last[kind(event.pins)] = i;
+        i += 1;
+    }
+    last
+}
+
+fn print_if_last(settings: &[u32; 14], capture: &[u8], last: &[u32; 7], i: u32) {
+    let event = event_at(capture, i);
+    let k = kind(event.pins);
+    if k == 6 {
+        return;
+    }
+    if last[k] == i {
+        print_event(settings, b"^", i, event);
+    }
+}
+
+fn print_earlier(settings: &[u32; 14], capture: &[u8], end: u32) {
+    let last = last_of_each(capture, end);
+    for i in 0..end {
+        print_if_last(settings, capture, &last, i);
+    }
+}
+
+// ---- the events around the broken one
+
+fn first_listed(broken: u32) -> u32 {
+    if broken < BEFORE {
+        return 0;
+    }
+    broken - BEFORE
+}
+
+fn end_listed(broken: u32, n: u32) -> u32 {
+    if n < FROM_BROKEN {
+        return n;
+    }
+    if n - FROM_BROKEN < broken {
+        return n;
+    }
+    broken + FROM_BROKEN
+}
+
+fn print_listed(settings: &[u32; 14], capture: &[u8], broken: u32, i: u32) {
+    let event = event_at(capture, i);
+    if i == broken {
+        print_event(settings, b">", i, event);
+        return;
+    }
+    print_event(settings, b" ", i, event);
+}
+
+pub fn print_around(settings: &[u32; 14], capture: &[u8], broken: u32, n: u32) {
+    let first = first_listed(broken);
+    print_earlier(settings, capture, first);
+    let end = end_listed(broken, n);
+    for i in first..end {
+        print_listed(settings, capture, broken, i);
+    }
+}

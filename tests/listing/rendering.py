@@ -1,0 +1,112 @@
+"""The listing of a capture whose verdict is known, written from docs/LISTING.md and document 01. It judges nothing."""
+import os
+import re
+import struct
+import sys
+
+HERE = os.path.dirname(os.path.abspath(__file__))
+sys.path.insert(0, os.path.join(HERE, ".."))
+import captures
+from captures import USUAL
+
+NAMES = ["lane code", "row bits", "column bits", "mode word", "tRCD", "tRP", "tRAS", "tRC", "tRRD", "tWR", "tWTR", "tRFC",
+         "tMRD", "GAP"]
+
+# By RAS#, CAS#, WE# with CS# low.
+COMMANDS = {getattr(captures, name.replace(" ", "_")): name for name in
+            ["ACTIVE", "READ", "WRITE", "BURST TERMINATE", "PRECHARGE", "AUTO REFRESH", "MODE REGISTER SET", "NOP"]}
+
+
+def sentences():
+    """The table of sentences in docs/LISTING.md, whose numbers are the settings of document 01's cases."""
+    with open(os.path.join(HERE, "..", "..", "docs", "LISTING.md")) as f:
+        return dict(re.findall(r"^\| (\d+) \| `([^`]+)` \|$", f.read(), re.M))
+
+
+SENTENCES = sentences()
+
+
+def with_settings(sentence, settings):
+    def number(match):
+        i = NAMES.index(match.group(1))
+        assert int(match.group(2)) == USUAL[i], match.group(0)
+        return f"{NAMES[i]} ({settings[i]})"
+    return re.sub(r"(row bits|t[A-Z]+|GAP) \((\d+)\)", number, sentence)
+
+
+def setting_line(i, word):
+    return f"setting {i} {NAMES[i]} " + (f"0x{word:02x}" if i == 3 else str(word))
+
+
+def setting_lines(settings):
+    lines = [setting_line(i, word) for i, word in enumerate(settings)]
+    mode = settings[3]
+    order = "interleaved" if mode & 8 else "sequential"
+    lines[3] += f", burst length {2 ** (mode & 7)}, {order}, CAS latency {mode >> 4}"
+    return lines
+
+
+def name_of(pins):
+    return "DESELECT" if pins >> 16 & 1 else COMMANDS[pins & 0xE0000]
+
+
+def column_of(pins, bits):
+    column = pins & 0x3FF & (1 << bits) - 1
+    if bits == 11:
+        column |= (pins >> 11 & 1) << 10
+    return column
+
+
+def command(pins, column_bits):
+    name, bank, address, a10 = name_of(pins), pins >> 14 & 3, pins & 0x3FFF, pins >> 10 & 1
+    if name == "ACTIVE":
+        return f"ACTIVE bank {bank} row {address}"
+    if name in ("READ", "WRITE"):
+        return f"{name} bank {bank} column {column_of(pins, column_bits)}" + (" auto precharge" if a10 else "")
+    if name == "PRECHARGE":
+        return "PRECHARGE ALL" if a10 else f"PRECHARGE bank {bank}"
+    if name == "MODE REGISTER SET":
+        return f"MODE REGISTER SET register {bank:02b} value 0x{address:04x}"
+    return name
+
+
+def kind_of(pins):
+    """What an earlier event is the last of, if it is of a kind that is listed."""
+    name = name_of(pins)
+    if name == "ACTIVE":
+        return name, pins >> 14 & 3
+    return name if name in ("AUTO REFRESH", "MODE REGISTER SET") else None
+
+
+def event_lines(events, settings, broken):
+    first, end = max(0, broken - 8), min(len(events), broken + 5)
+    last = {kind_of(pins): i for i, (_, pins) in enumerate(events[:first])}
+    last.pop(None, None)
+    marked = [("^", i) for i in sorted(last.values())]
+    marked += [(">" if i == broken else " ", i) for i in range(first, end)]
+    return [f"{mark} event {i} cycle {events[i][0]} {command(events[i][1], settings[2])}" for mark, i in marked]
+
+
+def text(lines):
+    return "".join(line + "\n" for line in lines)
+
+
+def clean(events, settings):
+    return text(setting_lines(settings) + [f"events {len(events)}", f"judged {len(events)}", "clean"])
+
+
+def broken(events, settings, rule, at):
+    verdict = [f"events {len(events)}", f"judged {at}", f"broken rule {rule} event {at} cycle {events[at][0]}"]
+    asks = f"rule {rule}: {with_settings(SENTENCES[str(rule)], settings)}"
+    return text(setting_lines(settings) + verdict + event_lines(events, settings, at) + [asks])
+
+
+def refused(data, number, place):
+    lines = [f"refused {number} place {place}"]
+    if number == 3:
+        lines.append(setting_line(place, struct.unpack_from("<I", data, 24 + 4 * place)[0]))
+    if number == 4:
+        for i in range(max(0, place - 1), place + 1):
+            cycle, pins = struct.unpack_from("<II", data, 80 + 8 * i)
+            lines.append(f"{'>' if i == place else ' '} event {i} words 0x{cycle:08x} 0x{pins:08x}")
+    return text(lines)

@@ -1,0 +1,176 @@
+#!/usr/bin/env python3
+"""Runs the listing program on captures whose verdict is known from how they are built by document 01, and holds what it
+prints to tests/listing/rendering.py."""
+import os
+import random
+import sys
+
+import rendering
+from captures import (A10, ACTIVE, AUTO_REFRESH, BURST_TERMINATE, DESELECT, MODE_REGISTER_SET, NOP, PRECHARGE, READ, USUAL,
+                      WRITE, bank, capture, column, quiet, setting)
+from running import from_file, from_pipe, unreadable
+
+CRATE = os.path.join(os.path.dirname(os.path.abspath(__file__)), "..", "..", "crates", "listing")
+
+# More than any time of the usual settings, and a burst with its latency.
+APART = 20
+
+# For each rule, events counted from a cycle at which the part is idle and every time is over; the last event breaks the
+# rule and no lower one. tRC is 10, so for rule 6 alone a setting has to change.
+FAULTS = [
+    (1, USUAL, [(0, ACTIVE | bank(1) | 1 << 13)]),
+    (1, setting(1, 12), [(0, ACTIVE | 0x1FFF)]),
+    (2, USUAL, [(0, MODE_REGISTER_SET | 0x42)]),
+    (2, USUAL, [(0, MODE_REGISTER_SET | 0x30)]),
+    (2, USUAL, [(0, MODE_REGISTER_SET | 1 << 13 | 0x32)]),
+    (2, USUAL, [(0, MODE_REGISTER_SET | bank(1) | 0x32)]),
+    (2, USUAL, [(0, MODE_REGISTER_SET | bank(3))]),
+    (3, USUAL, [(0, READ | bank(2))]),
+    (3, USUAL, [(0, WRITE | A10 | column(77))]),
+    (3, USUAL, [(0, ACTIVE | bank(3) | 5), (30, AUTO_REFRESH)]),
+    (4, USUAL, [(0, AUTO_REFRESH), (11, ACTIVE)]),
+    (4, USUAL, [(0, MODE_REGISTER_SET | 0x2B), (1, ACTIVE)]),
+    (5, USUAL, [(0, ACTIVE), (8, PRECHARGE), (10, ACTIVE)]),
+    (5, USUAL, [(0, ACTIVE | bank(2)), (3, READ | bank(2) | A10), (9, AUTO_REFRESH)]),
+    (6, setting(7, 11), [(0, ACTIVE), (3, READ | A10), (10, ACTIVE)]),
+    (7, USUAL, [(0, ACTIVE | bank(3)), (1, ACTIVE | bank(1))]),
+    (8, USUAL, [(0, ACTIVE), (2, READ)]),
+    (8, USUAL, [(0, ACTIVE), (2, WRITE | A10 | column(1023))]),
+    (9, USUAL, [(0, ACTIVE), (6, PRECHARGE)]),
+    (10, USUAL, [(0, ACTIVE), (3, WRITE), (8, PRECHARGE | A10)]),
+    (11, USUAL, [(0, ACTIVE), (3, WRITE), (6, READ)]),
+    (12, USUAL, [(0, ACTIVE), (3, READ), (7, WRITE)]),
+    (13, USUAL, [(0, ACTIVE), (3, WRITE), (4, BURST_TERMINATE)]),
+    (13, USUAL, [(0, ACTIVE), (2, ACTIVE | bank(1)), (5, READ | A10), (6, READ | bank(1))]),
+]
+
+
+def traffic(n):
+    """n events that keep every rule and leave the part idle: rows opened, read or written, closed, and a refresh."""
+    events = []
+    for i in range(n // 4):
+        b = bank(i % 4)
+        events += [ACTIVE | b | i, (WRITE if i % 3 else READ) | b | column(i), PRECHARGE | (A10 if i % 2 else b), AUTO_REFRESH]
+    events += [NOP, DESELECT, NOP][:n % 4]
+    if 2 <= n % 4:
+        events[-1] = MODE_REGISTER_SET | 0x32
+    return [(APART * i, pins) for i, pins in enumerate(events)]
+
+
+def anything(chance, n, cycle):
+    """Events behind the broken one, which are not judged: any pins."""
+    return [(cycle + 1 + i, chance.randrange(1 << 20)) for i in range(n)]
+
+
+def fault_cases(chance):
+    for rule, settings, fault in FAULTS:
+        for before in (0, 1, 6, 8, 9, 30):
+            for after in (0, 3, 5):
+                start = traffic(before)
+                events = start + [(APART * before + cycle, pins) for cycle, pins in fault]
+                at = len(events) - 1
+                events += anything(chance, after, events[-1][0])
+                yield capture(events, settings), rendering.broken(events, settings, rule, at)
+
+
+def late_cases(chance):
+    """Rule 14, GAP behind the last AUTO REFRESH, or behind cycle 0."""
+    for before in (0, 3, 4, 5, 7, 8, 9, 40):
+        start = traffic(before)
+        refreshed = max([cycle for cycle, pins in start if pins == AUTO_REFRESH], default=0)
+        for pins in (NOP, DESELECT, AUTO_REFRESH, PRECHARGE | A10):
+            events = start + [(refreshed + 1001, pins)] + anything(chance, before % 7, refreshed + 1001)
+            yield capture(events), rendering.broken(events, USUAL, 14, before)
+
+
+def any_settings(chance):
+    """Settings within document 01's limits."""
+    def between(least, most):
+        return least + chance.randrange(most - least + 1)
+    mode = between(1, 4) + 8 * between(0, 1) + 16 * between(2, 3)
+    return [between(1, 2), between(12, 14), between(8, 11), mode] + [between(1, 10_000) for _ in range(9)] + [between(1, 10**6)]
+
+
+def command_cases(chance):
+    """READ of an idle bank at cycle 0 breaks rule 3 whatever the settings are; the four events behind it are listed."""
+    for _ in range(200):
+        settings = any_settings(chance)
+        events = [(0, READ | chance.randrange(1 << 16))] + anything(chance, 6, 0)
+        yield capture(events, settings), rendering.broken(events, settings, 3, 0)
+
+
+def longest_cases():
+    settings = setting(13, 1_000_000)
+    still = [(i, NOP) for i in range(7999)]
+    yield quiet(8000), rendering.clean(still + [(7999, NOP)], settings)
+    for at in (0, 4000, 7999):
+        events = [(i + 5, READ if i == at else NOP) for i in range(8000)]
+        yield capture(events, settings), rendering.broken(events, settings, 3, at)
+
+
+def clean_cases(chance):
+    for n in (0, 1, 2, 9, 100):
+        yield capture(traffic(n)), rendering.clean(traffic(n), USUAL)
+    for _ in range(40):
+        settings = any_settings(chance)
+        yield capture([(0, NOP)], settings), rendering.clean([(0, NOP)], settings)
+
+
+def refused_cases(chance):
+    cases = [(b"", 1, 0), (capture([])[:79], 1, 0), (capture([]) + b"\0", 1, 0), (quiet(8000) + b"\0", 1, 0),
+             (quiet(8001), 1, 0), (capture([], header=[80, 14, 24, 1, 80, 0]), 2, 0),
+             (capture([], header=[80, 14, 25, 0, 80, 0]), 2, 0)]
+    below_and_above = [(0, 3), (11, 15), (7, 12), (0x30, 0x42)] + [(0, 10_001)] * 9 + [(0, 1_000_001)]
+    for i, words in enumerate(below_and_above):
+        cases += [(capture(traffic(5), setting(i, word)), 3, i) for word in words + (0xFFFF_FFFF,)]
+    for n in (1, 2, 9, 200):
+        for at in {0, n // 2, n - 1}:
+            for cycle, pins in [(0xFFFF_FFFF, NOP), (2_000_000_001, READ), (APART * at, NOP | 1 << 20), (APART * at, 1 << 31)]:
+                events = traffic(n)
+                events[at] = cycle, pins
+                cases.append((capture(events), 4, at))
+            if at:
+                events = traffic(n)
+                events[at] = events[at - 1][0], chance.randrange(1 << 20)
+                cases.append((capture(events), 4, at))
+    return [(data, rendering.refused(data, number, place)) for data, number, place in cases]
+
+
+# Every form of a command, broken in the middle: bank 0 is precharged at 36 and opened at 38, and tRP is 3.
+STORED = [
+    (5, MODE_REGISTER_SET | 0x32), (8, MODE_REGISTER_SET | bank(2) | 0x20), (10, AUTO_REFRESH), (22, ACTIVE | bank(3) | 8191),
+    (25, READ | bank(3) | A10 | column(1023)), (27, ACTIVE | 5), (30, WRITE), (32, NOP), (33, DESELECT),
+    (34, READ | column(512)), (35, BURST_TERMINATE), (36, PRECHARGE), (38, ACTIVE | 6), (41, PRECHARGE | A10),
+    (45, AUTO_REFRESH), (60, NOP), (70, NOP), (80, NOP), (90, NOP),
+]
+
+
+def stored_case():
+    """The crate's own run, whose output was worked out by hand."""
+    with open(os.path.join(CRATE, "stdin"), "rb") as i, open(os.path.join(CRATE, "stdout")) as o:
+        return i.read(), o.read()
+
+
+def main():
+    chance = random.Random(1)
+    data, output = stored_case()
+    wrong = int(data != capture(STORED) or output != rendering.broken(STORED, USUAL, 5, 12))
+    if wrong:
+        print("WRONG the crate's stdin and stdout")
+    cases = [stored_case(), *fault_cases(chance), *late_cases(chance), *command_cases(chance), *longest_cases(),
+             *clean_cases(chance), *refused_cases(chance)]
+    for number, (data, expected) in enumerate(cases):
+        runs = [from_file("listing", data)] + ([from_pipe("listing", data, 100, 0.001)] if number % 50 == 0 else [])
+        for run in runs:
+            if run.stdout.decode() != expected or run.stderr:
+                wrong += 1
+                print(f"WRONG capture {number}: {run.stdout.decode()}{run.stderr.decode()}not\n{expected}")
+    for name, run in unreadable("listing"):
+        if run.stdout or b"nothing was judged" not in run.stderr:
+            wrong += 1
+            print(f"WRONG {name}: {run.stdout!r} {run.stderr!r}")
+    print(f"listing: {len(cases)} captures, {wrong} wrong")
+    return 1 if wrong else 0
+
+
+sys.exit(main())
