@@ -3,11 +3,8 @@
 Every command goes out at the first cycle that the rules leave to it, or later. The controller runs every burst to its end
 except where it ends a read by BURST TERMINATE, and it waits tRC from ACTIVE to AUTO REFRESH as well, which some data
 sheets ask for and document 01 does not."""
-import os
 import random
-import sys
 
-sys.path.insert(0, os.path.join(os.path.dirname(os.path.abspath(__file__)), "..", "tests"))
 from captures import (A10, ACTIVE, AUTO_REFRESH, BURST_TERMINATE, DESELECT, MODE_REGISTER_SET, NOP, PRECHARGE, READ, WRITE,
                       bank, column)
 

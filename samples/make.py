@@ -9,16 +9,17 @@ import os
 import sys
 
 HERE = os.path.dirname(os.path.abspath(__file__))
-sys.path.insert(0, HERE)
-from controller import Controller
+TESTS = os.path.join(HERE, "..", "tests")
+sys.path.insert(0, TESTS)
 from captures import ACTIVE, AUTO_REFRESH, PRECHARGE, READ, bank, capture, column
+from controller import Controller
 
 # The columns that are settings, in the order of document 01's table.
 SETTINGS = ["lane", "rowbits", "colbits", "mode", "tRCD", "tRP", "tRAS", "tRC", "tRRD", "tWR", "tWTR", "tRFC", "tMRD", "GAP"]
 
 
 def parts():
-    with open(os.path.join(HERE, "..", "tests", "data", "part-settings.csv"), newline="") as f:
+    with open(os.path.join(TESTS, "data", "part-settings.csv"), newline="") as f:
         rows = list(csv.DictReader(f))
     numbers = SETTINGS + ["tREFI"]
     return {(r["part"], r["grade"]): dict({name: int(r[name]) for name in numbers}, width=16 * int(r["lane"])) for r in rows}

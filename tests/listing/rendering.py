@@ -2,12 +2,11 @@
 import os
 import re
 import struct
-import sys
 
-HERE = os.path.dirname(os.path.abspath(__file__))
-sys.path.insert(0, os.path.join(HERE, ".."))
 import captures
 from captures import USUAL
+
+ROOT = os.path.join(os.path.dirname(os.path.abspath(__file__)), "..", "..")
 
 NAMES = ["lane code", "row bits", "column bits", "mode word", "tRCD", "tRP", "tRAS", "tRC", "tRRD", "tWR", "tWTR", "tRFC",
          "tMRD", "GAP"]
@@ -19,7 +18,7 @@ COMMANDS = {getattr(captures, name.replace(" ", "_")): name for name in
 
 def sentences():
     """The table of sentences in docs/LISTING.md, whose numbers are the settings of document 01's cases."""
-    with open(os.path.join(HERE, "..", "..", "docs", "LISTING.md")) as f:
+    with open(os.path.join(ROOT, "docs", "LISTING.md")) as f:
         return dict(re.findall(r"^\| (\d+) \| `([^`]+)` \|$", f.read(), re.M))
 
 

@@ -5,12 +5,14 @@ import os
 import random
 import sys
 
+HERE = os.path.dirname(os.path.abspath(__file__))
+sys.path.insert(0, os.path.join(HERE, ".."))
 import rendering
 from captures import (A10, ACTIVE, AUTO_REFRESH, BURST_TERMINATE, DESELECT, MODE_REGISTER_SET, NOP, PRECHARGE, READ, USUAL,
                       WRITE, bank, capture, column, quiet, setting)
 from running import from_file, from_pipe, unreadable
 
-CRATE = os.path.join(os.path.dirname(os.path.abspath(__file__)), "..", "..", "crates", "listing")
+CRATE = os.path.join(HERE, "..", "..", "crates", "listing")
 
 # More than any time of the usual settings, and a burst with its latency.
 APART = 20

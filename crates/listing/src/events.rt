@@ -3,8 +3,9 @@ use crate::text::say;
 use crate::text::say_number;
 use crate::text::say_word;
 ghost use mathlib.Core.Path.{_≡_};
-ghost use Prim.Native.Nat.{_<_};
+ghost use Prim.Native.Nat.{_+_, _-_, _<_, min};
 ghost use Rattle.part.specs.Steps.{codeOf, addressOf, tenOf};
+ghost use Rattle.listing.specs.Kinds.{kindOf};
 
 // How many events are listed before the broken one, and the broken one with those behind it.
 const BEFORE: u32 = 8;
@@ -166,14 +167,19 @@ pub fn print_refused(capture: &[u8], i: u32) {
 
 // ACTIVE by its bank, AUTO REFRESH, MODE REGISTER SET, and the others.
 fn kind(pins: u32) -> usize
-    ensures { λ r. ⌜ r < 7 ⌝ }
+    ensures { λ r. ⌜ (r ≡ kindOf pins) × (r < 7) ⌝ }
 {
-    match code(pins) {
-        12 => beats::bank(pins) as usize,
-        8 => 4,
-        0 => 5,
-        _ => 6,
+    let asked = code(pins);
+    if asked == 12 {
+        return beats::bank(pins) as usize;
     }
+    if asked == 8 {
+        return 4;
+    }
+    if asked == 0 {
+        return 5;
+    }
+    6
 }
 
 // The last event of each kind before event `end`; `end` where there is none.
@@ -208,14 +214,18 @@ fn print_earlier(settings: &[u32; 14], capture: &[u8], end: u32) {
 
 // ---- the events around the broken one
 
-fn first_listed(broken: u32) -> u32 {
+fn first_listed(broken: u32) -> u32
+    ensures { λ r. ⌜ r ≡ broken - 8 ⌝ }
+{
     if broken < BEFORE {
         return 0;
     }
     broken - BEFORE
 }
 
-fn end_listed(broken: u32, n: u32) -> u32 {
+fn end_listed(broken: u32, n: u32) -> u32
+    ensures { λ r. ⌜ r ≡ min (broken + 5) n ⌝ }
+{
     if n < FROM_BROKEN {
         return n;
     }
