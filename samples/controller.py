@@ -137,6 +137,8 @@ class Controller:
 
     def request(self):
         b, row = self.reach()
+        if self.below(8) == 0:
+            self.open_row(*self.reach())  # a row that is wanted soon, opened ahead
         self.open_row(b, row)
         c = self.below(2 ** self.part["colbits"])
         auto = self.below(8) == 0

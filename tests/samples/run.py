@@ -1,14 +1,23 @@
 #!/usr/bin/env python3
 """Holds the samples to each other: samples/make.py makes the captures that are there and the table of samples/README.md,
-and tools/judge-samples prints what the table says."""
+tools/judge-samples prints what the table says, and the clean samples stand at the limits of the rules."""
 import os
 import re
+import struct
 import subprocess
 import sys
 import tempfile
 
-ROOT = os.path.join(os.path.dirname(os.path.abspath(__file__)), "..", "..")
+HERE = os.path.dirname(os.path.abspath(__file__))
+sys.path.insert(0, os.path.join(HERE, ".."))
+from running import from_file
+
+ROOT = os.path.join(HERE, "..", "..")
 SAMPLES = os.path.join(ROOT, "samples")
+
+# For settings 4 to 12, tRCD to tMRD, the rules that ask for them. An auto precharge waits for tRAS and tWR, and rule 5 for
+# an auto precharge.
+ASKING = [(4, [8]), (5, [5]), (6, [5, 9]), (7, [6]), (8, [7]), (9, [5, 10]), (10, [11]), (11, [4]), (12, [4])]
 
 
 def captures_in(folder):
@@ -35,6 +44,19 @@ def expected(rows):
     return lines
 
 
+def longer(name, data):
+    """What is wrong if each time in turn is a cycle longer: a rule that asks for it has to be broken."""
+    wrong = []
+    settings = list(struct.unpack_from("<14I", data, 24))
+    for i, rules in ASKING:
+        changed = settings[:i] + [settings[i] + 1] + settings[i + 1:]
+        said = from_file("report", data[:24] + struct.pack("<14I", *changed) + data[80:]).stdout.decode()
+        hidden = i == 7 and changed[7] <= settings[5] + settings[6]
+        if not hidden and not any(f"broken rule {rule} " in said for rule in rules):
+            wrong.append(f"{name} with setting {i} at {changed[i]}: {said!r}")
+    return wrong
+
+
 def main():
     wrong = []
     with tempfile.TemporaryDirectory() as folder:
@@ -46,6 +68,9 @@ def main():
     judged = subprocess.run([os.path.join(ROOT, "tools", "judge-samples")], capture_output=True, text=True)
     if judged.stdout.splitlines() != expected(table()) or judged.returncode:
         wrong.append(f"judge-samples prints otherwise than README.md's table: {judged.stdout}{judged.stderr}")
+    for name, data in here.items():
+        if name.startswith("clean-"):
+            wrong += longer(name, data)
     for line in wrong:
         print("WRONG", line)
     print(f"samples: {len(here)} captures, {len(wrong)} wrong")
