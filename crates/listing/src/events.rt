@@ -3,7 +3,8 @@ use crate::text::say;
 use crate::text::say_number;
 use crate::text::say_word;
 ghost use mathlib.Core.Path.{_≡_};
-ghost use Prim.Native.Nat.{_+_, _-_, _<_, min};
+ghost use Prim.Native.Nat.{_+_, _-_, _/_, _%_, _<_, min};
+ghost use lib.ListN.{length};
 ghost use Rattle.part.specs.Steps.{codeOf, addressOf, tenOf};
 ghost use Rattle.listing.specs.Kinds.{kindOf};
 
@@ -20,7 +21,9 @@ struct Event {
 // ---- events of a capture
 
 // N of an accepted capture: its events are all that follows byte 80, eight bytes each.
-pub fn count_in(capture: &[u8]) -> u32 {
+pub fn count_in(capture: &[u8]) -> u32
+    ensures { λ r. ⌜ r ≡ (length (now (capture .entry)) - 80) / 8 % 65536 ⌝ }
+{
     let size = capture.len();
     if size < 80 {
         return 0;
