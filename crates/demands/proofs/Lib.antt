@@ -2,3 +2,4 @@
 pub mod Judging
 pub mod Refusing
 pub mod Scheduling
+mod Settled

@@ -1,0 +1,295 @@
+-- Every public function of every library crate: any two results, and any two contents of each lent buffer, that its contract
+-- allows for the same arguments are equal. `Post` is the contract itself, as the check reads it: the arguments a, the
+-- result z, and e what is lent as it is left.
+use Prim.Native.Nat.{ℕ}
+use mathlib.Core.Option.{Option, none, some}
+use mathlib.Core.Path.{_≡_, refl, sym, ap, _∙_}
+use denote.Ref.{now}
+use Rattle.words.specs.Found.{placeOf}
+use Rattle.words.specs.declared.Found.{Found}
+use Rattle.words.specs.declared.Found.the-variants.{Nothing, At}
+use Rattle.settings.proofs.Unique as settings
+use Rattle.capture.proofs.Unique as capture
+use Rattle.cells.proofs.Unique as cells
+use Rattle.schedule.proofs.Unique as schedule
+use Rattle.demands.proofs.Judging as judging
+use Rattle.words.proofs.word_at.Reads as words-word-at
+use Rattle.words.proofs.put_word.Reads as words-put-word
+use Rattle.settings.proofs.mode_word.Reads as settings-mode-word
+use Rattle.settings.proofs.lowest_bad.Reads as settings-lowest-bad
+use Rattle.settings.proofs.check.Reads as settings-check
+use Rattle.capture.proofs.event_count.Reads as capture-event-count
+use Rattle.capture.proofs.setting_words.Reads as capture-setting-words
+use Rattle.capture.proofs.cycle_at.Reads as capture-cycle-at
+use Rattle.capture.proofs.pins_at.Reads as capture-pins-at
+use Rattle.capture.proofs.open.Reads as capture-open
+use Rattle.deadlines.proofs.sums.past.Reads as deadlines-past
+use Rattle.deadlines.proofs.sums.after.Reads as deadlines-after
+use Rattle.deadlines.proofs.sums.after2.Reads as deadlines-after2
+use Rattle.deadlines.proofs.sums.data_after.Reads as deadlines-data-after
+use Rattle.deadlines.proofs.sums.data_after2.Reads as deadlines-data-after2
+use Rattle.deadlines.proofs.sums.least.Reads as deadlines-least
+use Rattle.deadlines.proofs.sums.latest.Reads as deadlines-latest
+use Rattle.deadlines.proofs.sums.pick.Reads as deadlines-pick
+use Rattle.deadlines.proofs.sums.pace.Reads as deadlines-pace
+use Rattle.deadlines.proofs.sums.rows.Reads as deadlines-rows
+use Rattle.rules.proofs.due_breaks.Reads as rules-due-breaks
+use Rattle.rules.proofs.active_breaks.Reads as rules-active-breaks
+use Rattle.rules.proofs.read_breaks.Reads as rules-read-breaks
+use Rattle.rules.proofs.write_breaks.Reads as rules-write-breaks
+use Rattle.rules.proofs.terminate_breaks.Reads as rules-terminate-breaks
+use Rattle.rules.proofs.close_breaks.Reads as rules-close-breaks
+use Rattle.rules.proofs.close_all_breaks.Reads as rules-close-all-breaks
+use Rattle.rules.proofs.refresh_breaks.Reads as rules-refresh-breaks
+use Rattle.rules.proofs.mode_breaks.Reads as rules-mode-breaks
+use Rattle.effects.proofs.active_after.Reads as effects-active-after
+use Rattle.effects.proofs.read_after.Reads as effects-read-after
+use Rattle.effects.proofs.write_after.Reads as effects-write-after
+use Rattle.effects.proofs.cut_read.Reads as effects-cut-read
+use Rattle.effects.proofs.close_after.Reads as effects-close-after
+use Rattle.effects.proofs.close_all_after.Reads as effects-close-all-after
+use Rattle.effects.proofs.refresh_after.Reads as effects-refresh-after
+use Rattle.effects.proofs.mode_set_after.Reads as effects-mode-set-after
+use Rattle.effects.proofs.start.Reads as effects-start
+use Rattle.part.proofs.step.Reads as part-step
+use Rattle.part.proofs.lowest.Reads as part-lowest
+use Rattle.judge.proofs.walk.Reads as judge-walk
+use Rattle.judge.proofs.judge.Reads as judge-judge
+use Rattle.beats.proofs.bank.Reads as beats-bank
+use Rattle.beats.proofs.mode_after.Reads as beats-mode-after
+use Rattle.beats.proofs.row_after.Reads as beats-row-after
+use Rattle.beats.proofs.column.Reads as beats-column
+use Rattle.beats.proofs.first_cell.Reads as beats-first-cell
+use Rattle.beats.proofs.write_burst.Reads as beats-write-burst
+use Rattle.beats.proofs.kept.Reads as beats-kept
+use Rattle.cells.proofs.burst_cells.Reads as cells-burst-cells
+use Rattle.soonest.proofs.active_soonest.Reads as soonest-active-soonest
+use Rattle.soonest.proofs.burst_soonest.Reads as soonest-burst-soonest
+use Rattle.soonest.proofs.refresh_soonest.Reads as soonest-refresh-soonest
+use Rattle.requests.proofs.asks_write.Reads as requests-asks-write
+use Rattle.requests.proofs.bank.Reads as requests-bank
+use Rattle.requests.proofs.active_pins.Reads as requests-active-pins
+use Rattle.requests.proofs.burst_pins.Reads as requests-burst-pins
+use Rattle.requests.proofs.lowest_bad.Reads as requests-lowest-bad
+use Rattle.turns.proofs.serve.Reads as turns-serve
+use Rattle.schedule.proofs.schedule.Reads as schedule-schedule
+
+-- what a search found is told by its place
+found-one : (x y : Found) → placeOf x ≡ placeOf y → x ≡ y
+found-one x y h = sym (back x) ∙ ap from h ∙ back y
+  where
+    from : Option ℕ → Found
+    from none = Nothing
+    from (some i) = At i
+
+    back : (x : Found) → from (placeOf x) ≡ x
+    back Nothing = refl
+    back (At i) = refl
+
+-- ---- words
+
+pub words-word-at-settles : (κs : _) (a : _) (z z′ : _) (e e′ : _) → words-word-at.Post κs a z e → words-word-at.Post κs a z′ e′ → z ≡ z′
+words-word-at-settles κs a z z′ e e′ p q = p ∙ sym q
+
+pub words-put-word-settles : (κs : _) (a : _) (z z′ : _) (e e′ : _) → words-put-word.Post κs a z e → words-put-word.Post κs a z′ e′ → now (e .0) ≡ now (e′ .0)
+words-put-word-settles κs a z z′ e e′ p q = p ∙ sym q
+
+-- ---- settings
+
+pub settings-mode-word-settles : (κs : _) (a : _) (z z′ : _) (e e′ : _) → settings-mode-word.Post κs a z e → settings-mode-word.Post κs a z′ e′ → z ≡ z′
+settings-mode-word-settles κs a z z′ e e′ p q = p ∙ sym q
+
+pub settings-lowest-bad-settles : (κs : _) (a : _) (z z′ : _) (e e′ : _) → settings-lowest-bad.Post κs a z e → settings-lowest-bad.Post κs a z′ e′ → z ≡ z′
+settings-lowest-bad-settles κs a z z′ e e′ p q = found-one z z′ (p ∙ sym q)
+
+pub settings-check-settles : (κs : _) (a : _) (z z′ : _) (e e′ : _) → settings-check.Post κs a z e → settings-check.Post κs a z′ e′ → z ≡ z′
+settings-check-settles κs a z z′ e e′ p q = settings.one-answer z z′ (p ∙ sym q)
+
+-- ---- capture
+
+pub capture-event-count-settles : (κs : _) (a : _) (z z′ : _) (e e′ : _) → capture-event-count.Post κs a z e → capture-event-count.Post κs a z′ e′ → z ≡ z′
+capture-event-count-settles κs a z z′ e e′ p q = p ∙ sym q
+
+pub capture-setting-words-settles : (κs : _) (a : _) (z z′ : _) (e e′ : _) → capture-setting-words.Post κs a z e → capture-setting-words.Post κs a z′ e′ → z ≡ z′
+capture-setting-words-settles κs a z z′ e e′ p q = p ∙ sym q
+
+pub capture-cycle-at-settles : (κs : _) (a : _) (z z′ : _) (e e′ : _) → capture-cycle-at.Post κs a z e → capture-cycle-at.Post κs a z′ e′ → z ≡ z′
+capture-cycle-at-settles κs a z z′ e e′ p q = p ∙ sym q
+
+pub capture-pins-at-settles : (κs : _) (a : _) (z z′ : _) (e e′ : _) → capture-pins-at.Post κs a z e → capture-pins-at.Post κs a z′ e′ → z ≡ z′
+capture-pins-at-settles κs a z z′ e e′ p q = p ∙ sym q
+
+pub capture-open-settles : (κs : _) (a : _) (z z′ : _) (e e′ : _) → capture-open.Post κs a z e → capture-open.Post κs a z′ e′ → z ≡ z′
+capture-open-settles κs a z z′ e e′ p q = capture.one-answer z z′ (p ∙ sym q)
+
+-- ---- deadlines
+
+pub deadlines-past-settles : (κs : _) (a : _) (z z′ : _) (e e′ : _) → deadlines-past.Post κs a z e → deadlines-past.Post κs a z′ e′ → z ≡ z′
+deadlines-past-settles κs a z z′ e e′ p q = p ∙ sym q
+
+pub deadlines-after-settles : (κs : _) (a : _) (z z′ : _) (e e′ : _) → deadlines-after.Post κs a z e → deadlines-after.Post κs a z′ e′ → z ≡ z′
+deadlines-after-settles κs a z z′ e e′ p q = p ∙ sym q
+
+pub deadlines-after2-settles : (κs : _) (a : _) (z z′ : _) (e e′ : _) → deadlines-after2.Post κs a z e → deadlines-after2.Post κs a z′ e′ → z ≡ z′
+deadlines-after2-settles κs a z z′ e e′ p q = p ∙ sym q
+
+pub deadlines-data-after-settles : (κs : _) (a : _) (z z′ : _) (e e′ : _) → deadlines-data-after.Post κs a z e → deadlines-data-after.Post κs a z′ e′ → z ≡ z′
+deadlines-data-after-settles κs a z z′ e e′ p q = p ∙ sym q
+
+pub deadlines-data-after2-settles : (κs : _) (a : _) (z z′ : _) (e e′ : _) → deadlines-data-after2.Post κs a z e → deadlines-data-after2.Post κs a z′ e′ → z ≡ z′
+deadlines-data-after2-settles κs a z z′ e e′ p q = p ∙ sym q
+
+pub deadlines-least-settles : (κs : _) (a : _) (z z′ : _) (e e′ : _) → deadlines-least.Post κs a z e → deadlines-least.Post κs a z′ e′ → z ≡ z′
+deadlines-least-settles κs a z z′ e e′ p q = p ∙ sym q
+
+pub deadlines-latest-settles : (κs : _) (a : _) (z z′ : _) (e e′ : _) → deadlines-latest.Post κs a z e → deadlines-latest.Post κs a z′ e′ → z ≡ z′
+deadlines-latest-settles κs a z z′ e e′ p q = p ∙ sym q
+
+pub deadlines-pick-settles : (κs : _) (a : _) (z z′ : _) (e e′ : _) → deadlines-pick.Post κs a z e → deadlines-pick.Post κs a z′ e′ → z ≡ z′
+deadlines-pick-settles κs a z z′ e e′ p q = p ∙ sym q
+
+pub deadlines-pace-settles : (κs : _) (a : _) (z z′ : _) (e e′ : _) → deadlines-pace.Post κs a z e → deadlines-pace.Post κs a z′ e′ → z ≡ z′
+deadlines-pace-settles κs a z z′ e e′ p q = p ∙ sym q
+
+pub deadlines-rows-settles : (κs : _) (a : _) (z z′ : _) (e e′ : _) → deadlines-rows.Post κs a z e → deadlines-rows.Post κs a z′ e′ → z ≡ z′
+deadlines-rows-settles κs a z z′ e e′ p q = p ∙ sym q
+
+-- ---- rules
+
+pub rules-due-breaks-settles : (κs : _) (a : _) (z z′ : _) (e e′ : _) → rules-due-breaks.Post κs a z e → rules-due-breaks.Post κs a z′ e′ → z ≡ z′
+rules-due-breaks-settles κs a z z′ e e′ p q = p ∙ sym q
+
+pub rules-active-breaks-settles : (κs : _) (a : _) (z z′ : _) (e e′ : _) → rules-active-breaks.Post κs a z e → rules-active-breaks.Post κs a z′ e′ → z ≡ z′
+rules-active-breaks-settles κs a z z′ e e′ p q = p ∙ sym q
+
+pub rules-read-breaks-settles : (κs : _) (a : _) (z z′ : _) (e e′ : _) → rules-read-breaks.Post κs a z e → rules-read-breaks.Post κs a z′ e′ → z ≡ z′
+rules-read-breaks-settles κs a z z′ e e′ p q = p ∙ sym q
+
+pub rules-write-breaks-settles : (κs : _) (a : _) (z z′ : _) (e e′ : _) → rules-write-breaks.Post κs a z e → rules-write-breaks.Post κs a z′ e′ → z ≡ z′
+rules-write-breaks-settles κs a z z′ e e′ p q = p ∙ sym q
+
+pub rules-terminate-breaks-settles : (κs : _) (a : _) (z z′ : _) (e e′ : _) → rules-terminate-breaks.Post κs a z e → rules-terminate-breaks.Post κs a z′ e′ → z ≡ z′
+rules-terminate-breaks-settles κs a z z′ e e′ p q = p ∙ sym q
+
+pub rules-close-breaks-settles : (κs : _) (a : _) (z z′ : _) (e e′ : _) → rules-close-breaks.Post κs a z e → rules-close-breaks.Post κs a z′ e′ → z ≡ z′
+rules-close-breaks-settles κs a z z′ e e′ p q = p ∙ sym q
+
+pub rules-close-all-breaks-settles : (κs : _) (a : _) (z z′ : _) (e e′ : _) → rules-close-all-breaks.Post κs a z e → rules-close-all-breaks.Post κs a z′ e′ → z ≡ z′
+rules-close-all-breaks-settles κs a z z′ e e′ p q = p ∙ sym q
+
+pub rules-refresh-breaks-settles : (κs : _) (a : _) (z z′ : _) (e e′ : _) → rules-refresh-breaks.Post κs a z e → rules-refresh-breaks.Post κs a z′ e′ → z ≡ z′
+rules-refresh-breaks-settles κs a z z′ e e′ p q = p ∙ sym q
+
+pub rules-mode-breaks-settles : (κs : _) (a : _) (z z′ : _) (e e′ : _) → rules-mode-breaks.Post κs a z e → rules-mode-breaks.Post κs a z′ e′ → z ≡ z′
+rules-mode-breaks-settles κs a z z′ e e′ p q = p ∙ sym q
+
+-- ---- effects
+
+pub effects-active-after-settles : (κs : _) (a : _) (z z′ : _) (e e′ : _) → effects-active-after.Post κs a z e → effects-active-after.Post κs a z′ e′ → now (e .1 .0) ≡ now (e′ .1 .0)
+effects-active-after-settles κs a z z′ e e′ p q = p ∙ sym q
+
+pub effects-read-after-settles : (κs : _) (a : _) (z z′ : _) (e e′ : _) → effects-read-after.Post κs a z e → effects-read-after.Post κs a z′ e′ → now (e .1 .0) ≡ now (e′ .1 .0)
+effects-read-after-settles κs a z z′ e e′ p q = p ∙ sym q
+
+pub effects-write-after-settles : (κs : _) (a : _) (z z′ : _) (e e′ : _) → effects-write-after.Post κs a z e → effects-write-after.Post κs a z′ e′ → now (e .1 .0) ≡ now (e′ .1 .0)
+effects-write-after-settles κs a z z′ e e′ p q = p ∙ sym q
+
+pub effects-cut-read-settles : (κs : _) (a : _) (z z′ : _) (e e′ : _) → effects-cut-read.Post κs a z e → effects-cut-read.Post κs a z′ e′ → now (e .0) ≡ now (e′ .0)
+effects-cut-read-settles κs a z z′ e e′ p q = p ∙ sym q
+
+pub effects-close-after-settles : (κs : _) (a : _) (z z′ : _) (e e′ : _) → effects-close-after.Post κs a z e → effects-close-after.Post κs a z′ e′ → now (e .1 .0) ≡ now (e′ .1 .0)
+effects-close-after-settles κs a z z′ e e′ p q = p ∙ sym q
+
+pub effects-close-all-after-settles : (κs : _) (a : _) (z z′ : _) (e e′ : _) → effects-close-all-after.Post κs a z e → effects-close-all-after.Post κs a z′ e′ → now (e .1 .0) ≡ now (e′ .1 .0)
+effects-close-all-after-settles κs a z z′ e e′ p q = p ∙ sym q
+
+pub effects-refresh-after-settles : (κs : _) (a : _) (z z′ : _) (e e′ : _) → effects-refresh-after.Post κs a z e → effects-refresh-after.Post κs a z′ e′ → now (e .1 .0) ≡ now (e′ .1 .0)
+effects-refresh-after-settles κs a z z′ e e′ p q = p ∙ sym q
+
+pub effects-mode-set-after-settles : (κs : _) (a : _) (z z′ : _) (e e′ : _) → effects-mode-set-after.Post κs a z e → effects-mode-set-after.Post κs a z′ e′ → now (e .1 .0) ≡ now (e′ .1 .0)
+effects-mode-set-after-settles κs a z z′ e e′ p q = p ∙ sym q
+
+pub effects-start-settles : (κs : _) (a : _) (z z′ : _) (e e′ : _) → effects-start.Post κs a z e → effects-start.Post κs a z′ e′ → z ≡ z′
+effects-start-settles κs a z z′ e e′ p q = p ∙ sym q
+
+-- ---- part
+
+pub part-step-settles : (κs : _) (a : _) (z z′ : _) (e e′ : _) → part-step.Post κs a z e → part-step.Post κs a z′ e′ → (z ≡ z′) × ((now (e .1 .0) ≡ now (e′ .1 .0)) × (now (e .1 .1 .0) ≡ now (e′ .1 .1 .0)))
+part-step-settles κs a z z′ e e′ p q = (p .0 ∙ sym (q .0), (p .1 .0 ∙ sym (q .1 .0), p .1 .1 ∙ sym (q .1 .1)))
+
+pub part-lowest-settles : (κs : _) (a : _) (z z′ : _) (e e′ : _) → part-lowest.Post κs a z e → part-lowest.Post κs a z′ e′ → z ≡ z′
+part-lowest-settles κs a z z′ e e′ p q = p ∙ sym q
+
+-- ---- judge
+
+pub judge-walk-settles : (κs : _) (a : _) (z z′ : _) (e e′ : _) → judge-walk.Post κs a z e → judge-walk.Post κs a z′ e′ → z ≡ z′
+judge-walk-settles κs a z z′ e e′ p q = p ∙ sym q
+
+pub judge-judge-settles : (κs : _) (a : _) (z z′ : _) (e e′ : _) → judge-judge.Post κs a z e → judge-judge.Post κs a z′ e′ → z ≡ z′
+judge-judge-settles κs a z z′ e e′ p q = judging.one-answer (now (a .0)) z z′ p q
+
+-- ---- beats
+
+pub beats-bank-settles : (κs : _) (a : _) (z z′ : _) (e e′ : _) → beats-bank.Post κs a z e → beats-bank.Post κs a z′ e′ → z ≡ z′
+beats-bank-settles κs a z z′ e e′ p q = p .0 ∙ sym (q .0)
+
+pub beats-mode-after-settles : (κs : _) (a : _) (z z′ : _) (e e′ : _) → beats-mode-after.Post κs a z e → beats-mode-after.Post κs a z′ e′ → z ≡ z′
+beats-mode-after-settles κs a z z′ e e′ p q = p ∙ sym q
+
+pub beats-row-after-settles : (κs : _) (a : _) (z z′ : _) (e e′ : _) → beats-row-after.Post κs a z e → beats-row-after.Post κs a z′ e′ → z ≡ z′
+beats-row-after-settles κs a z z′ e e′ p q = p ∙ sym q
+
+pub beats-column-settles : (κs : _) (a : _) (z z′ : _) (e e′ : _) → beats-column.Post κs a z e → beats-column.Post κs a z′ e′ → z ≡ z′
+beats-column-settles κs a z z′ e e′ p q = p ∙ sym q
+
+pub beats-first-cell-settles : (κs : _) (a : _) (z z′ : _) (e e′ : _) → beats-first-cell.Post κs a z e → beats-first-cell.Post κs a z′ e′ → z ≡ z′
+beats-first-cell-settles κs a z z′ e e′ p q = p ∙ sym q
+
+pub beats-write-burst-settles : (κs : _) (a : _) (z z′ : _) (e e′ : _) → beats-write-burst.Post κs a z e → beats-write-burst.Post κs a z′ e′ → now (e .0) ≡ now (e′ .0)
+beats-write-burst-settles κs a z z′ e e′ p q = p ∙ sym q
+
+pub beats-kept-settles : (κs : _) (a : _) (z z′ : _) (e e′ : _) → beats-kept.Post κs a z e → beats-kept.Post κs a z′ e′ → z ≡ z′
+beats-kept-settles κs a z z′ e e′ p q = p ∙ sym q
+
+-- ---- cells
+
+pub cells-burst-cells-settles : (κs : _) (a : _) (z z′ : _) (e e′ : _) → cells-burst-cells.Post κs a z e → cells-burst-cells.Post κs a z′ e′ → (z ≡ z′) × (now (e .1 .0) ≡ now (e′ .1 .0))
+cells-burst-cells-settles κs a z z′ e e′ p q = (cells.one-answer z z′ (p .0 ∙ sym (q .0)), p .1 ∙ sym (q .1))
+
+-- ---- soonest
+
+pub soonest-active-soonest-settles : (κs : _) (a : _) (z z′ : _) (e e′ : _) → soonest-active-soonest.Post κs a z e → soonest-active-soonest.Post κs a z′ e′ → z ≡ z′
+soonest-active-soonest-settles κs a z z′ e e′ p q = p ∙ sym q
+
+pub soonest-burst-soonest-settles : (κs : _) (a : _) (z z′ : _) (e e′ : _) → soonest-burst-soonest.Post κs a z e → soonest-burst-soonest.Post κs a z′ e′ → z ≡ z′
+soonest-burst-soonest-settles κs a z z′ e e′ p q = p ∙ sym q
+
+pub soonest-refresh-soonest-settles : (κs : _) (a : _) (z z′ : _) (e e′ : _) → soonest-refresh-soonest.Post κs a z e → soonest-refresh-soonest.Post κs a z′ e′ → z ≡ z′
+soonest-refresh-soonest-settles κs a z z′ e e′ p q = p ∙ sym q
+
+-- ---- requests
+
+pub requests-asks-write-settles : (κs : _) (a : _) (z z′ : _) (e e′ : _) → requests-asks-write.Post κs a z e → requests-asks-write.Post κs a z′ e′ → z ≡ z′
+requests-asks-write-settles κs a z z′ e e′ p q = p ∙ sym q
+
+pub requests-bank-settles : (κs : _) (a : _) (z z′ : _) (e e′ : _) → requests-bank.Post κs a z e → requests-bank.Post κs a z′ e′ → z ≡ z′
+requests-bank-settles κs a z z′ e e′ p q = p ∙ sym q
+
+pub requests-active-pins-settles : (κs : _) (a : _) (z z′ : _) (e e′ : _) → requests-active-pins.Post κs a z e → requests-active-pins.Post κs a z′ e′ → z ≡ z′
+requests-active-pins-settles κs a z z′ e e′ p q = p ∙ sym q
+
+pub requests-burst-pins-settles : (κs : _) (a : _) (z z′ : _) (e e′ : _) → requests-burst-pins.Post κs a z e → requests-burst-pins.Post κs a z′ e′ → z ≡ z′
+requests-burst-pins-settles κs a z z′ e e′ p q = p ∙ sym q
+
+pub requests-lowest-bad-settles : (κs : _) (a : _) (z z′ : _) (e e′ : _) → requests-lowest-bad.Post κs a z e → requests-lowest-bad.Post κs a z′ e′ → z ≡ z′
+requests-lowest-bad-settles κs a z z′ e e′ p q = found-one z z′ (p ∙ sym q)
+
+-- ---- turns
+
+pub turns-serve-settles : (κs : _) (a : _) (z z′ : _) (e e′ : _) → turns-serve.Post κs a z e → turns-serve.Post κs a z′ e′ → (z ≡ z′) × (now (e .1 .0) ≡ now (e′ .1 .0))
+turns-serve-settles κs a z z′ e e′ p q = (p .0 ∙ sym (q .0), p .1 ∙ sym (q .1))
+
+-- ---- schedule
+
+pub schedule-schedule-settles : (κs : _) (a : _) (z z′ : _) (e e′ : _) → schedule-schedule.Post κs a z e → schedule-schedule.Post κs a z′ e′ → (z ≡ z′) × (now (e .1 .1 .0) ≡ now (e′ .1 .1 .0))
+schedule-schedule-settles κs a z z′ e e′ p q = (schedule.one-answer z z′ (p .0 ∙ sym (q .0)), p .1 ∙ sym (q .1))
