@@ -1,43 +1,18 @@
 #!/usr/bin/env python3
-"""Runs the report program on captures built here from document 01's description of the bytes, and holds what it prints
+"""Runs the report program on captures built from document 01's description of the bytes, and holds what it prints
 to what document 01 says. Each capture comes whole from a file, in pieces through a pipe, and byte by byte."""
 import os
-import struct
 import subprocess
 import sys
 import tempfile
 import time
 
 HERE = os.path.dirname(os.path.abspath(__file__))
+sys.dont_write_bytecode = True
+sys.path.insert(0, os.path.join(HERE, ".."))
+from captures import ACTIVE, NOP, READ, capture, quiet, setting
+
 PROGRAM = [os.path.join(HERE, "..", "program"), "report"]
-
-# The settings of document 01's cases.
-USUAL = [1, 13, 10, 0x32, 3, 3, 7, 10, 2, 3, 1, 12, 2, 1000]
-
-# Pin words: RAS#, CAS#, WE# are bits 17, 18, 19, and low is 0.
-ACTIVE, READ, NOP = 0xC0000, 0xA0000, 0xE0000
-
-
-def words(values):
-    return struct.pack("<%dI" % len(values), *values)
-
-
-def capture(events, settings=USUAL, header=None):
-    n = len(events)
-    head = header or [80 + 8 * n, 14, 24, n, 80, 0]
-    return words(head) + words(settings) + b"".join(words(e) for e in events)
-
-
-def setting(number, word):
-    changed = list(USUAL)
-    changed[number] = word
-    return changed
-
-
-def quiet(n):
-    """n NOPs, one a cycle, under a GAP that allows them."""
-    return capture([(i, NOP) for i in range(n)], setting(13, 1_000_000))
-
 
 CASES = [
     ("case b at cycle 2: tRCD is 3", capture([(0, ACTIVE), (2, READ)]),
