@@ -5,7 +5,8 @@ import struct
 USUAL = [1, 13, 10, 0x32, 3, 3, 7, 10, 2, 3, 1, 12, 2, 1000]
 
 # Pin words: RAS#, CAS#, WE# are bits 17, 18, 19, and low is 0.
-ACTIVE, READ, NOP = 0xC0000, 0xA0000, 0xE0000
+ACTIVE, READ, WRITE, TERMINATE = 0xC0000, 0xA0000, 0x20000, 0x60000
+PRECHARGE, REFRESH, MODE, NOP = 0x40000, 0x80000, 0x00000, 0xE0000
 
 
 def words(values):
