@@ -36,7 +36,7 @@ unpacked-packed (breach rule event) f = word-back 0 rule event (omega arith) (f 
 -- ---- the judge
 
 -- Two captures with the same number have the same refusal and place, the same count of judged events, or the same rule
--- and event. The cycle of a broken rule and the count of events are not in the number.
+-- and event. How many events a broken capture holds and the cycle of the broken one are not in the number.
 pub judge-tells : (a b : List ℕ) → packed (judgeTold (judgeAnswer a)) ≡ packed (judgeTold (judgeAnswer b)) →
     judgeTold (judgeAnswer a) ≡ judgeTold (judgeAnswer b)
 judge-tells a b e = sym (unpacked-packed _ (judge-fits a)) ∙ ap unpacked e ∙ unpacked-packed _ (judge-fits b)
@@ -75,7 +75,7 @@ told-back capture =
 pub judge-back : (capture : List ℕ) → judgeAnswerOf capture (unpacked (packed (judgeTold (judgeAnswer capture)))) ≡ judgeAnswer capture
 judge-back capture = ap (judgeAnswerOf capture) (unpacked-packed (judgeTold (judgeAnswer capture)) (judge-fits capture)) ∙ told-back capture
 
--- ---- the calls that fill a buffer
+-- ---- the calls that fill a buffer: the number alone tells the answer
 
 count-back : (a : Answer ℕ) → Fits (countTold a) → countAnswerOf (unpacked (packed (countTold a))) ≡ a
 count-back a f = ap countAnswerOf (unpacked-packed (countTold a) f) ∙ go a
@@ -84,10 +84,26 @@ count-back a f = ap countAnswerOf (unpacked-packed (countTold a) f) ∙ go a
     go (refused number place) = refl
     go (answered n) = refl
 
-pub cells-back : (capture buffer : List ℕ) →
-    countAnswerOf (unpacked (packed (countTold (cellsOutcome capture buffer .answer)))) ≡ cellsOutcome capture buffer .answer
-cells-back capture buffer = count-back _ (cells-fits capture buffer)
+count-tells : (a b : Answer ℕ) → Fits (countTold a) → Fits (countTold b) → packed (countTold a) ≡ packed (countTold b) → a ≡ b
+count-tells a b f g e = sym (count-back a f) ∙ ap (λ (w : ℕ). countAnswerOf (unpacked w)) e ∙ count-back b g
 
-pub schedule-back : (settings requests buffer : List ℕ) →
-    countAnswerOf (unpacked (packed (countTold (scheduleOutcome settings requests buffer .answer)))) ≡ scheduleOutcome settings requests buffer .answer
-schedule-back settings requests buffer = count-back _ (schedule-fits settings requests buffer)
+module _ (capture buffer : List ℕ) where
+  abbrev cellsAnswer : Answer ℕ
+  cellsAnswer = cellsOutcome capture buffer .answer
+
+  pub cells-back : countAnswerOf (unpacked (packed (countTold cellsAnswer))) ≡ cellsAnswer
+  cells-back = count-back cellsAnswer (cells-fits capture buffer)
+
+pub cells-tells : (a b : List ℕ) (x y : List ℕ) → packed (countTold (cellsAnswer a x)) ≡ packed (countTold (cellsAnswer b y)) → cellsAnswer a x ≡ cellsAnswer b y
+cells-tells a b x y = count-tells (cellsAnswer a x) (cellsAnswer b y) (cells-fits a x) (cells-fits b y)
+
+module _ (settings requests buffer : List ℕ) where
+  abbrev scheduleAnswer : Answer ℕ
+  scheduleAnswer = scheduleOutcome settings requests buffer .answer
+
+  pub schedule-back : countAnswerOf (unpacked (packed (countTold scheduleAnswer))) ≡ scheduleAnswer
+  schedule-back = count-back scheduleAnswer (schedule-fits settings requests buffer)
+
+pub schedule-tells : (a b q r x y : List ℕ) → packed (countTold (scheduleAnswer a q x)) ≡ packed (countTold (scheduleAnswer b r y)) →
+    scheduleAnswer a q x ≡ scheduleAnswer b r y
+schedule-tells a b q r x y = count-tells (scheduleAnswer a q x) (scheduleAnswer b r y) (schedule-fits a q x) (schedule-fits b r y)
