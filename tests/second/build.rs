@@ -1,17 +1,10 @@
-//! Builds the C next door with gcc, and finds the verified library where one is named.
+//! Builds the C next door with gcc.
 
 use std::path::{Path, PathBuf};
 use std::process::Command;
 use std::{env, fs};
 
 fn main() {
-    build_c_judge();
-    if env::var_os("CARGO_FEATURE_ARCHIVE").is_some() {
-        find_archive();
-    }
-}
-
-fn build_c_judge() {
     let manifest = PathBuf::from(env::var_os("CARGO_MANIFEST_DIR").expect("set by cargo"));
     let out = PathBuf::from(env::var_os("OUT_DIR").expect("set by cargo"));
     let source = manifest.join("../bench/judge.c");
@@ -30,16 +23,6 @@ fn build_c_judge() {
     for file in [source, manifest.join("../bench/judge.h")] {
         rerun_if_changed(&file);
     }
-}
-
-/// The folder that holds libmorgazell.a.
-fn find_archive() {
-    println!("cargo:rerun-if-env-changed=MORGAZELL_ARCHIVE");
-    let folder = env::var("MORGAZELL_ARCHIVE")
-        .expect("feature `archive` wants MORGAZELL_ARCHIVE, the folder of libmorgazell.a");
-    rerun_if_changed(&Path::new(&folder).join("libmorgazell.a"));
-    println!("cargo:rustc-link-search=native={folder}");
-    println!("cargo:rustc-link-lib=static=morgazell");
 }
 
 fn rerun_if_changed(file: &Path) {

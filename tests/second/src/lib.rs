@@ -2,10 +2,11 @@
 //! purpose, to hold the verified one against. `fast` and the C next door answer the same
 //! questions at speed.
 
+pub mod archive;
+pub mod c;
 pub mod capture;
 pub mod command;
 pub mod fast;
-pub mod foreign;
 pub mod generate;
 pub mod memory;
 pub mod packed;

@@ -2,11 +2,10 @@
 //! that looks only at running bursts, the fast one and the C one.
 
 use second::capture::{word, Refusal};
-use second::foreign::C;
 use second::generate::{input, Dice, Input, Tally};
 use second::schedule::schedule_literally;
 use second::verdict::{cells_literally, judge_literally};
-use second::{cells, fast, judge, packed, plain, replay, schedule, Answer};
+use second::{c, cells, fast, judge, packed, plain, replay, schedule, Answer};
 
 const SEED: u64 = 1;
 const INPUTS: usize = 20_000;
@@ -116,7 +115,7 @@ fn the_fast_judges_agree() {
         if let Input::Capture(capture) = input {
             let expected = judge(&capture);
             assert_eq!(fast::judge(&capture), expected);
-            assert_eq!(C.judge(&capture), packed::of_answer(expected));
+            assert_eq!(c::judge(&capture), packed::of_answer(expected));
         }
     }
 }
@@ -125,7 +124,7 @@ fn the_fast_judges_agree() {
 fn the_fast_burst_lists_agree() {
     let literal: CellsOf = &|capture, out| packed::of_count(cells(capture, out));
     let fast: CellsOf = &|capture, out| packed::of_count(fast::cells(capture, out));
-    let c: CellsOf = &|capture, out| C.cells(capture, out);
+    let c: CellsOf = &|capture, out| c::cells(capture, out);
     for input in inputs(INPUTS / 2) {
         if let Input::Capture(capture) = input {
             let needed = needed(cells(&capture, &mut vec![0; CELL_ROOM]));
@@ -142,7 +141,7 @@ fn the_fast_burst_lists_agree() {
 fn the_fast_schedules_agree() {
     let literal: ScheduleOf = &|s, r, out| packed::of_count(schedule(s, r, out));
     let fast: ScheduleOf = &|s, r, out| packed::of_count(fast::schedule(s, r, out));
-    let c: ScheduleOf = &|s, r, out| C.schedule(s, r, out);
+    let c: ScheduleOf = &|s, r, out| c::schedule(s, r, out);
     for input in inputs(INPUTS) {
         if let Input::Requests { settings, requests } = input {
             let needed = needed(schedule(&settings, &requests, &mut vec![0; BYTE_ROOM]));

@@ -1,16 +1,15 @@
-//! Holds an implementation against this crate's own on generated inputs.
+//! Holds the verified library against this crate on generated inputs.
 //!
 //!     differential INPUTS SEED
 //!
-//! With feature `archive` the verified library is held against it, else the C one. Ends
-//! with 1 if an answer or any element of a buffer differs, or if the run was too small for
-//! every rule and every refusal to come up.
+//! Ends with 1 if an answer or any element of a buffer differs, or if the run was too small
+//! for every rule and every refusal to come up.
 
 use std::process::ExitCode;
-use std::{env, fmt};
+use std::{env, fmt, io};
 
+use second::archive::Archive;
 use second::capture::Refusal;
-use second::foreign::SUBJECT;
 use second::generate::{input, Dice, Input, Tally};
 use second::{cells, judge, packed, schedule};
 
@@ -26,7 +25,13 @@ fn main() -> ExitCode {
     let arguments: Vec<String> = env::args().skip(1).collect();
     let numbers: Option<Vec<u64>> = arguments.iter().map(|text| text.parse().ok()).collect();
     match numbers.as_deref() {
-        Some(&[inputs, seed]) => run(inputs, seed),
+        Some(&[inputs, seed]) => match run(inputs, seed) {
+            Ok(()) => ExitCode::SUCCESS,
+            Err(reason) => {
+                eprintln!("{reason}");
+                ExitCode::FAILURE
+            }
+        },
         _ => {
             eprintln!("usage: differential INPUTS SEED");
             ExitCode::FAILURE
@@ -34,60 +39,39 @@ fn main() -> ExitCode {
     }
 }
 
-fn run(inputs: u64, seed: u64) -> ExitCode {
+fn run(inputs: u64, seed: u64) -> Result<(), String> {
     let mut comparison = Comparison {
         dice: Dice::new(seed),
         tally: Tally::default(),
+        archive: Archive::start().map_err(|error| format!("the archive: {error}"))?,
     };
     for number in 0..inputs {
-        if let Err(difference) = comparison.compare_next() {
-            eprintln!(
-                "input {number} of seed {seed}, {}: {difference}",
-                SUBJECT.name
-            );
-            return ExitCode::FAILURE;
-        }
+        comparison
+            .compare_next()
+            .map_err(|difference| format!("input {number} of seed {seed}: {difference}"))?;
     }
-    println!(
-        "{inputs} inputs of seed {seed}, {}: no difference",
-        SUBJECT.name
-    );
-    println!("{}", comparison.tally);
-    let missing = comparison.tally.missing();
+    let Comparison { tally, archive, .. } = comparison;
+    archive.finish().map_err(|error| error.to_string())?;
+    println!("{inputs} inputs of seed {seed}: no difference");
+    println!("{tally}");
+    let missing = tally.missing();
     if missing.is_empty() {
-        ExitCode::SUCCESS
+        Ok(())
     } else {
-        eprintln!("never came up: {}", missing.join(", "));
-        ExitCode::FAILURE
+        Err(format!("never came up: {}", missing.join(", ")))
     }
 }
 
 /// Where two implementations part, with the input that shows it.
 struct Difference {
     question: &'static str,
-    expected: u64,
-    found: u64,
-    element: Option<usize>,
+    what: String,
     input: String,
 }
 
 impl fmt::Display for Difference {
     fn fmt(&self, f: &mut fmt::Formatter<'_>) -> fmt::Result {
-        let Difference {
-            question,
-            expected,
-            found,
-            element,
-            input,
-        } = self;
-        write!(
-            f,
-            "{question} expected {expected:#018x}, found {found:#018x}"
-        )?;
-        if let Some(element) = element {
-            write!(f, ", and the buffers part at element {element}")?;
-        }
-        write!(f, "\n{input}")
+        write!(f, "{}, {}\n{}", self.question, self.what, self.input)
     }
 }
 
@@ -100,6 +84,7 @@ struct Left<T> {
 struct Comparison {
     dice: Dice,
     tally: Tally,
+    archive: Archive,
 }
 
 impl Comparison {
@@ -120,11 +105,11 @@ impl Comparison {
             answer: packed::of_answer(answer),
             buffer: Vec::<u8>::new(),
         };
-        let found = Left {
-            answer: SUBJECT.judge(capture),
+        let found = self.archive.judge(capture).map(|answer| Left {
+            answer,
             buffer: Vec::new(),
-        };
-        same("judge", &expected, &found, || hex(capture))
+        });
+        same("judge", &expected, found, || hex(capture))
     }
 
     fn compare_cells(&mut self, capture: &[u8]) -> Result<(), Difference> {
@@ -138,9 +123,9 @@ impl Comparison {
                 buffer,
             };
             let mut buffer = vec![UNTOUCHED; length + FENCE];
-            let answer = SUBJECT.cells(capture, &mut buffer[..length]);
-            let found = Left { answer, buffer };
-            same("cells", &expected, &found, || hex(capture))?;
+            let answer = self.archive.cells(capture, &mut buffer, length);
+            let found = answer.map(|answer| Left { answer, buffer });
+            same("cells", &expected, found, || hex(capture))?;
         }
         Ok(())
     }
@@ -161,16 +146,18 @@ impl Comparison {
                 buffer,
             };
             let mut buffer = vec![untouched; length + FENCE];
-            let answer = SUBJECT.schedule(settings, requests, &mut buffer[..length]);
-            let found = Left { answer, buffer };
+            let answer = self
+                .archive
+                .schedule(settings, requests, &mut buffer, length);
+            let found = answer.map(|answer| Left { answer, buffer });
             let shown = || format!("settings {settings:?} requests {requests:?}");
-            same("schedule", &expected, &found, shown)?;
+            same("schedule", &expected, found, shown)?;
         }
         Ok(())
     }
 
     /// Two buffer lengths to try: one with room behind the answer, one just long enough or
-    /// too short. A refused call gets any length.
+    /// too short. A refused call gets a short one, and now and then one of any length.
     fn lengths(&mut self, needed: Option<usize>, most: usize) -> [usize; 2] {
         let spare = self.dice.below(20) as usize;
         match needed {
@@ -182,7 +169,10 @@ impl Comparison {
                     self.dice.pick(&[needed, one_short, one_short, shorter, 0]),
                 ]
             }
-            None => [spare, self.dice.below(most as u32) as usize],
+            None => {
+                let longest = if self.dice.once_in(20) { most } else { 400 };
+                [spare, self.dice.below(longest as u32) as usize]
+            }
         }
     }
 }
@@ -194,21 +184,33 @@ fn needed(answer: Result<u32, Refusal>) -> Option<usize> {
 fn same<T: PartialEq>(
     question: &'static str,
     expected: &Left<T>,
-    found: &Left<T>,
+    found: io::Result<Left<T>>,
     shown: impl Fn() -> String,
 ) -> Result<(), Difference> {
-    let mut pairs = expected.buffer.iter().zip(&found.buffer);
-    let element = pairs.position(|(expected, found)| expected != found);
-    if expected.answer == found.answer && element.is_none() {
-        return Ok(());
+    let what = match found {
+        Ok(found) => difference(expected, &found),
+        Err(error) => Some(format!("the archive's program ended: {error}")),
+    };
+    match what {
+        None => Ok(()),
+        Some(what) => Err(Difference {
+            question,
+            what,
+            input: shown(),
+        }),
     }
-    Err(Difference {
-        question,
-        expected: expected.answer,
-        found: found.answer,
-        element,
-        input: shown(),
-    })
+}
+
+fn difference<T: PartialEq>(expected: &Left<T>, found: &Left<T>) -> Option<String> {
+    if expected.answer != found.answer {
+        return Some(format!(
+            "expected {:#018x}, found {:#018x}",
+            expected.answer, found.answer
+        ));
+    }
+    let mut pairs = expected.buffer.iter().zip(&found.buffer);
+    let element = pairs.position(|(expected, found)| expected != found)?;
+    Some(format!("the buffers part at element {element}"))
 }
 
 fn hex(capture: &[u8]) -> String {

@@ -2,19 +2,17 @@
 //!
 //!     speed
 //!
-//! Prints nanoseconds an event, the least of many runs. With feature `archive` the verified
-//! library stands beside the C and the Rust one.
+//! Prints nanoseconds an event, the least of many runs, for the Rust and the C one.
 
 use std::hint::black_box;
 use std::time::{Duration, Instant};
 
 use second::capture::{bytes_of, Event, Settings, SETTINGS};
 use second::command::Command;
-use second::foreign::{C, SUBJECT};
 use second::generate::{busy_capture, Dice};
 use second::part::{LookBack, Part};
 use second::schedule::earliest;
-use second::{fast, judge, schedule, Answer};
+use second::{c, fast, judge, schedule, Answer};
 
 /// A real part: 64M x 16 at 6 ns.
 const PART: [u32; SETTINGS] = [1, 14, 10, 0x32, 3, 3, 7, 10, 2, 3, 1, 12, 2, 10_400];
@@ -23,8 +21,8 @@ const RUNS: u32 = 400;
 
 fn main() {
     println!(
-        "{:<34}{:>8}{:>10}{:>10}{:>10}",
-        "ns an event", "events", "Rust", "C", SUBJECT.name
+        "{:<34}{:>8}{:>10}{:>10}",
+        "ns an event", "events", "Rust", "C"
     );
     for (name, capture) in captures() {
         judge_row(name, &capture);
@@ -129,10 +127,10 @@ fn least<T>(mut call: impl FnMut() -> T) -> Duration {
     (0..RUNS).map(timed).min().expect("some runs")
 }
 
-fn row(name: &str, events: u32, times: [Duration; 3]) {
+fn row(name: &str, events: u32, times: [Duration; 2]) {
     let per_event = times.map(|time| time.as_nanos() as f64 / f64::from(events));
-    let [rust, c, subject] = per_event;
-    println!("{name:<34}{events:>8}{rust:>10.2}{c:>10.2}{subject:>10.2}");
+    let [rust, c] = per_event;
+    println!("{name:<34}{events:>8}{rust:>10.2}{c:>10.2}");
 }
 
 fn judge_row(name: &str, capture: &[u8]) {
@@ -140,9 +138,8 @@ fn judge_row(name: &str, capture: &[u8]) {
         panic!("{name} is not clean");
     };
     let rust = least(|| fast::judge(black_box(capture)));
-    let c = least(|| C.judge(black_box(capture)));
-    let subject = least(|| SUBJECT.judge(black_box(capture)));
-    row(name, judged, [rust, c, subject]);
+    let c = least(|| c::judge(black_box(capture)));
+    row(name, judged, [rust, c]);
 }
 
 fn cells_row(name: &str, capture: &[u8]) {
@@ -151,16 +148,14 @@ fn cells_row(name: &str, capture: &[u8]) {
     };
     let mut out = vec![0; 16 * 8_000];
     let rust = least(|| fast::cells(black_box(capture), &mut out));
-    let c = least(|| C.cells(black_box(capture), &mut out));
-    let subject = least(|| SUBJECT.cells(black_box(capture), &mut out));
-    row(&format!("cells, {name}"), judged, [rust, c, subject]);
+    let c = least(|| c::cells(black_box(capture), &mut out));
+    row(&format!("cells, {name}"), judged, [rust, c]);
 }
 
 fn schedule_row(name: &str, requests: &[u32]) {
     let mut out = vec![0; 64_080];
     let bytes = fast::schedule(&PART, requests, &mut out).expect("a schedule");
     let rust = least(|| fast::schedule(&PART, black_box(requests), &mut out));
-    let c = least(|| C.schedule(&PART, black_box(requests), &mut out));
-    let subject = least(|| SUBJECT.schedule(&PART, black_box(requests), &mut out));
-    row(name, (bytes - 80) / 8, [rust, c, subject]);
+    let c = least(|| c::schedule(&PART, black_box(requests), &mut out));
+    row(name, (bytes - 80) / 8, [rust, c]);
 }

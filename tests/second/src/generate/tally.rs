@@ -1,72 +1,107 @@
-//! Counts of answers, so that a run can show that it tried everything. One input may be
-//! counted several times: by the judge, and by the burst list for each buffer.
+//! Counts of answers, so that a run can show that it tried everything. A burst list and a
+//! schedule may be asked for several times, with buffers of different lengths.
 
+use std::collections::BTreeMap;
 use std::fmt;
 
 use crate::capture::Refusal;
 use crate::verdict::Answer;
 
 pub const RULES: usize = 14;
-pub const REFUSALS: usize = 8;
+
+/// The refusals that document 01's table has for each question, in its order.
+const OF_JUDGE: [u32; 4] = [1, 2, 3, 4];
+const OF_CELLS: [u32; 6] = [1, 2, 3, 4, 8, 7];
+const OF_SCHEDULE: [u32; 5] = [2, 3, 5, 6, 7];
+
+/// How often a question was answered, and refused with each number.
+#[derive(Clone, Debug, Default)]
+pub struct Answers {
+    pub given: u64,
+    refused: BTreeMap<u32, u64>,
+}
+
+impl Answers {
+    fn count(&mut self, refusal: Option<u32>) {
+        match refusal {
+            None => self.given += 1,
+            Some(number) => *self.refused.entry(number).or_default() += 1,
+        }
+    }
+
+    fn of(&self, number: u32) -> u64 {
+        self.refused.get(&number).copied().unwrap_or(0)
+    }
+}
 
 #[derive(Clone, Debug, Default)]
 pub struct Tally {
-    pub clean: u64,
     pub rules: [u64; RULES],
-    pub refusals: [u64; REFUSALS],
-    pub cell_lists: u64,
-    pub schedules: u64,
+    pub verdicts: Answers,
+    pub cell_lists: Answers,
+    pub schedules: Answers,
 }
 
 impl Tally {
     pub fn count_answer(&mut self, answer: Answer) {
         match answer {
-            Answer::Clean { .. } => self.clean += 1,
+            Answer::Clean { .. } => self.verdicts.count(None),
             Answer::Broken { rule, .. } => self.rules[rule as usize - 1] += 1,
-            Answer::Refused { number, .. } => self.refusals[number as usize - 1] += 1,
+            Answer::Refused { number, .. } => self.verdicts.count(Some(number)),
         }
     }
 
     pub fn count_cells(&mut self, answer: Result<u32, Refusal>) {
-        match answer {
-            Ok(_) => self.cell_lists += 1,
-            Err(refusal) => self.refusals[refusal.number as usize - 1] += 1,
-        }
+        self.cell_lists
+            .count(answer.err().map(|refusal| refusal.number));
     }
 
     pub fn count_schedule(&mut self, answer: Result<u32, Refusal>) {
-        match answer {
-            Ok(_) => self.schedules += 1,
-            Err(refusal) => self.refusals[refusal.number as usize - 1] += 1,
-        }
+        self.schedules
+            .count(answer.err().map(|refusal| refusal.number));
     }
 
-    /// The rules and refusals that never came up.
-    pub fn missing(&self) -> Vec<String> {
-        let absent = |counts: &[u64], name: &str| -> Vec<String> {
-            (1..=counts.len())
-                .filter(|number| counts[number - 1] == 0)
-                .map(|number| format!("{name} {number}"))
-                .collect()
-        };
-        [
-            absent(&self.rules, "rule"),
-            absent(&self.refusals, "refusal"),
-        ]
-        .concat()
+    /// What was counted, by name.
+    fn counts(&self) -> Vec<(String, u64)> {
+        let mut counts = vec![("judge: clean".to_string(), self.verdicts.given)];
+        for (rule, &count) in (1..).zip(&self.rules) {
+            counts.push((format!("judge: rule {rule}"), count));
+        }
+        counts.extend(refusals("judge", &self.verdicts, &OF_JUDGE));
+        counts.push(("cells: written".to_string(), self.cell_lists.given));
+        counts.extend(refusals("cells", &self.cell_lists, &OF_CELLS));
+        counts.push(("schedule: written".to_string(), self.schedules.given));
+        counts.extend(refusals("schedule", &self.schedules, &OF_SCHEDULE));
+        counts
     }
+
+    /// What never came up.
+    pub fn missing(&self) -> Vec<String> {
+        self.counts()
+            .into_iter()
+            .filter(|&(_, count)| count == 0)
+            .map(|(name, _)| name)
+            .collect()
+    }
+}
+
+fn refusals<'a>(
+    question: &'a str,
+    answers: &'a Answers,
+    numbers: &'a [u32],
+) -> impl Iterator<Item = (String, u64)> + 'a {
+    numbers
+        .iter()
+        .map(move |&number| (format!("{question}: refusal {number}"), answers.of(number)))
 }
 
 impl fmt::Display for Tally {
     fn fmt(&self, f: &mut fmt::Formatter<'_>) -> fmt::Result {
-        writeln!(f, "clean captures {}", self.clean)?;
-        for (number, count) in (1..).zip(self.rules) {
-            writeln!(f, "rule {number}: {count}")?;
-        }
-        for (number, count) in (1..).zip(self.refusals) {
-            writeln!(f, "refusal {number}: {count}")?;
-        }
-        writeln!(f, "burst lists written {}", self.cell_lists)?;
-        write!(f, "schedules written {}", self.schedules)
+        let lines: Vec<String> = self
+            .counts()
+            .iter()
+            .map(|(name, count)| format!("{name}: {count}"))
+            .collect();
+        write!(f, "{}", lines.join("\n"))
     }
 }

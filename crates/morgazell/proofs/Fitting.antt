@@ -1,0 +1,249 @@
+-- Whatever document 01 answers fits the bits that it is packed into.
+use Prim.Native.Nat.{ℕ, zero, suc, _+_, _*_, _^_, _≤_, _<_}
+use mathlib.Core.Bool.{Bool, true, false, cond, not}
+use mathlib.Core.List.{List, [], _∷_, map, List·Memᴰ, List·Memᴰ·not-nil, List·Memᴰ·cases-cons}
+use mathlib.Core.Logic.{_⊎_, inl, inr}
+use mathlib.Core.Option.{Option, none, some}
+use mathlib.Core.Path.{_≡_, refl, sym, _∙_, subst}
+use native.Mathlib.Omega.{arith}
+use borrow.Author.Tests.{eqb-true, ltb-false, not-false}
+use lib.Dec.{eqb, ltb}
+use lib.ListN.{length, length-append, length-map, length-reverse, getD}
+use Rattle.reading.specs.Search.{find, lowest, given}
+use Rattle.reading.specs.Search as search
+use Rattle.reading.specs.Settings.{Settings, settingsOf, settingFits, badSetting}
+use Rattle.reading.specs.Capture.{Event, eventCount, settingWords, eventPart, eventAt, eventsOf, badLength, goodHeader, eventFits, badEvent}
+use Rattle.reading.specs.Commands.{READ, WRITE, among, commandOf}
+use Rattle.reading.specs.Bursts.{Burst, beatCell, burstCells, cutBy}
+use Rattle.reading.specs.Part.{Part, start, step, run, burstGiven}
+use Rattle.reading.specs.Rules.{rules}
+use Rattle.reading.specs.Verdict as is
+use Rattle.reading.specs.Cells.{burstsOf, cellsOf}
+use Rattle.reading.specs.Schedule.{Schedule, planned, late, requestFits, badRequest, scheduleFrom, scheduleOf, served, onwards, captureOf}
+use Rattle.reading.specs.Answers.{Answer, Report, refused, answered, unless, accepted, settingsIn, verdictIn, judgeAnswer, leaves, fitting, notClean, cellsIn, cellsOutcome, keptUp, scheduleOutcome}
+use Rattle.reading.proofs.Meaning.{BrokenAt, verdict-broken}
+use Rattle.reading.proofs.Cuts.{All, nil, cons, Whole, bursts-whole}
+use Rattle.capture.proofs.Accepted.{sized}
+use Rattle.beats.proofs.Columns.{half-le}
+use Rattle.judge.proofs.Events.{length-count}
+use Rattle.plan.proofs.Ready.{few-requests}
+use Rattle.plan.proofs.Captured as plan
+use Rattle.plan.proofs.Captured.{size}
+use Rattle.morgazell.specs.Packing.{Told, refusal, count, breach, verdictTold, judgeTold, countTold}
+
+-- a number of eight bits that is not 0, and one of 32
+abbrev pub Number : ℕ → Type 0
+Number n = (1 ≤ n) × (n < 2 ^ 8)
+
+abbrev pub Value : ℕ → Type 0
+Value n = n < 2 ^ 32
+
+abbrev pub Fits : Told → Type 0
+Fits (refusal number place) = Number number × Value place
+Fits (count n) = Value n
+Fits (breach rule event) = Number rule × Value event
+
+-- ---- places that are searched for
+
+counted : (f : ℕ → Bool) (from n i : ℕ) → find f (search.count from n) ≡ some i → i < from + n
+counted f from zero i e = let z : _≡_ {A = ℕ} 0 1 = cc in absurd (omega arith)
+counted f from (suc n) i e = go (f from) e (counted f (suc from) n i)
+  where
+    go : (b : Bool) → cond b (some from) (find f (search.count (suc from) n)) ≡ some i → (find f (search.count (suc from) n) ≡ some i → i < suc from + n) →
+        i < from + suc n
+    go true v ih = let z : from ≡ i = cc in omega arith
+    go false v ih = omega (arith, ih v)
+
+below : (f : ℕ → Bool) (n i : ℕ) → lowest f n ≡ some i → i < n
+below f n i e = omega (arith, counted f 0 n i e)
+
+-- ---- a capture: refused with a number from 1 to 4 and a small place, or short
+
+few : (capture : List ℕ) → given 0 (badLength capture) ≡ none → given 0 (not (goodHeader capture)) ≡ none → eventCount capture ≤ 8000
+few capture a b = sized capture (clear _ a) (not-false _ (clear _ b)) .few
+  where
+    clear : (b : Bool) → given 0 b ≡ none → b ≡ false
+    clear true e = let z : _≡_ {A = ℕ} 0 1 = cc in absurd (omega arith)
+    clear false e = refl
+
+at-zero : (b : Bool) (place : ℕ) → given 0 b ≡ some place → Value place
+at-zero true place e = let z : 0 ≡ place = cc in omega arith
+at-zero false place e = let z : _≡_ {A = ℕ} 0 1 = cc in absurd (omega arith)
+
+bad-setting : (ws : List ℕ) (place : ℕ) → badSetting ws ≡ some place → Value place
+unfolding badSetting
+bad-setting ws place e = omega (arith, below (λ i. not (settingFits i (getD ws i 0))) 14 place e)
+
+bad-event : (part : List ℕ) (n place : ℕ) → n ≤ 8000 → badEvent part n ≡ some place → Value place
+unfolding badEvent
+bad-event part n place l e = omega (arith, below (λ i. not (eventFits part i)) n place e)
+
+-- what holds of small refusals, and of what follows when there are at most 8,000 events, holds
+pub on-accepted : {A : Type 0} (P : Answer A → Type 0) (capture : List ℕ) (rest : Answer A) →
+    ((number place : ℕ) → Number number → Value place → P (refused number place)) → (eventCount capture ≤ 8000 → P rest) → P (accepted capture rest)
+unfolding accepted
+on-accepted {A} P capture rest refusing going-on =
+    go (given 0 (badLength capture)) (given 0 (not (goodHeader capture))) (badSetting (settingWords capture)) (badEvent (eventPart capture) (eventCount capture))
+    refl refl refl refl
+  where
+    go : (a b c d : Option ℕ) → given 0 (badLength capture) ≡ a → given 0 (not (goodHeader capture)) ≡ b → badSetting (settingWords capture) ≡ c →
+        badEvent (eventPart capture) (eventCount capture) ≡ d → P (unless 1 a (unless 2 b (unless 3 c (unless 4 d rest))))
+    go (some place) b c d p q r s = refusing 1 place (omega arith) (at-zero (badLength capture) place p)
+    go none (some place) c d p q r s = refusing 2 place (omega arith) (at-zero (not (goodHeader capture)) place q)
+    go none none (some place) d p q r s = refusing 3 place (omega arith) (bad-setting (settingWords capture) place r)
+    go none none none (some place) p q r s = refusing 4 place (omega arith) (bad-event (eventPart capture) (eventCount capture) place (few capture p q) s)
+    go none none none none p q r s = going-on (few capture p q)
+
+-- ---- the judge
+
+-- each rule has a number of eight bits
+abbrev Each : List ℕ → Type 0
+Each [] = Unit {0}
+Each (x ∷ xs) = Number x × Each xs
+
+member : (xs : List ℕ) → Each xs → (x : ℕ) → List·Memᴰ x xs → Number x
+member [] z x m = absurd (List·Memᴰ·not-nil m)
+member (y ∷ ys) z x m = go (List·Memᴰ·cases-cons m) (member ys (z .1) x)
+  where
+    go : (x ≡ y) ⊎ List·Memᴰ x ys → (List·Memᴰ x ys → Number x) → Number x
+    go (inl p) ih = subst Number (sym p) (z .0)
+    go (inr n) ih = ih n
+
+rules-fit : Each rules
+rules-fit = omega arith
+
+module _ (capture : List ℕ) (short : eventCount capture ≤ 8000) where
+  pub events-length : length (eventsOf capture) ≡ eventCount capture
+  unfolding eventsOf
+  events-length = length-map (search.count 0 (eventCount capture)) (eventAt (eventPart capture)) ∙ length-count 0 (eventCount capture)
+
+  pub broken-at : (rule event cycle : ℕ) → verdictIn capture ≡ is.broken rule event cycle →
+      BrokenAt (settingsIn capture) (start (settingsIn capture)) (eventsOf capture) event rule cycle
+  unfolding verdictIn
+  broken-at rule event cycle e = verdict-broken (settingsIn capture) (eventsOf capture) rule event cycle .0 e
+
+  broken-fits : (rule event cycle : ℕ) → verdictIn capture ≡ is.broken rule event cycle → Number rule × Value event
+  broken-fits rule event cycle e =
+      let b = broken-at rule event cycle e in
+      (member rules rules-fit rule (b .breaks .rule), omega (arith, b .there, events-length))
+
+  verdict-fits : (v : is.Verdict) → verdictIn capture ≡ v → Fits (verdictTold (is.judgedOf (eventCount capture) v) v)
+  verdict-fits is.clean e = omega arith
+  verdict-fits (is.broken rule event cycle) e = broken-fits rule event cycle e
+
+  not-clean-fits : (v : is.Verdict) → verdictIn capture ≡ v → (place : ℕ) → notClean v ≡ some place → Value place
+  not-clean-fits is.clean e place f = let z : _≡_ {A = ℕ} 0 1 = cc in absurd (omega arith)
+  not-clean-fits (is.broken rule event cycle) e place f =
+      let z : event ≡ place = cc in
+      omega (arith, broken-fits rule event cycle e .1)
+
+pub judge-fits : (capture : List ℕ) → Fits (judgeTold (judgeAnswer capture))
+unfolding judgeAnswer
+judge-fits capture =
+    on-accepted (λ (a : Answer Report). Fits (judgeTold a)) capture _ (λ number place n v. (n, v))
+    (λ short. verdict-fits capture short (verdictIn capture) refl)
+
+-- ---- calls that fill a buffer
+
+abbrev Filled : List ℕ → Answer (List ℕ) → Type 0
+Filled buffer a = Fits (countTold (leaves a buffer .answer))
+
+-- the length needed is given as the place or as the count
+room : (buffer out : List ℕ) → Value (length out) → Filled buffer (fitting buffer out)
+room buffer out l = go (ltb (length buffer) (length out))
+  where
+    go : (b : Bool) → Filled buffer (unless 7 (given (length out) b) (answered out))
+    go true = (omega arith, l)
+    go false = l
+
+-- ---- burst cells: at most 128 a burst, and a burst an event
+
+cells-length : (s : Settings) (xs : List Burst) → All Whole xs → length (cellsOf s xs) ≤ 128 * length xs
+unfolding cellsOf burstCells
+cells-length s [] nil = omega arith
+cells-length s (x ∷ xs) (cons w ws) =
+    omega (
+      arith,
+      length-append (burstCells s x) (cellsOf s xs),
+      length-map (search.count 0 (2 * x .n)) (beatCell s x),
+      length-count 0 (2 * x .n),
+      w .most,
+      half-le (x .mode),
+      cells-length s xs ws,
+    )
+
+run-length : (s : Settings) (p : Part) (es : List Event) → length (run s p es .bursts) ≤ length (p .bursts) + length es
+run-length s p [] = omega arith
+run-length s p (e ∷ es) = omega (arith, run-length s (step s p e) es, go (among (READ ∷ WRITE ∷ []) (commandOf (e .pins))))
+  where
+    kept : List Burst
+    kept = map (cutBy (e .cycle) (commandOf (e .pins))) (p .bursts)
+
+    go : (b : Bool) → length (cond b (burstGiven s p (e .cycle) (commandOf (e .pins)) ∷ kept) kept) ≤ suc (length (p .bursts))
+    go true = omega (arith, length-map (p .bursts) (cutBy (e .cycle) (commandOf (e .pins))))
+    go false = omega (arith, length-map (p .bursts) (cutBy (e .cycle) (commandOf (e .pins))))
+
+bursts-length : (s : Settings) (es : List Event) → length (burstsOf s es) ≤ length es
+unfolding burstsOf
+bursts-length s es = omega (arith, length-reverse (run s (start s) es .bursts), run-length s (start s) es)
+
+cells-few : (capture : List ℕ) → eventCount capture ≤ 8000 → Value (length (cellsIn capture))
+unfolding cellsIn
+cells-few capture short =
+    let s = settingsIn capture in
+    let xs = burstsOf s (eventsOf capture) in
+    omega (arith, cells-length s xs (bursts-whole s (eventsOf capture)), bursts-length s (eventsOf capture), events-length capture short)
+
+pub cells-fits : (capture buffer : List ℕ) → Fits (countTold (cellsOutcome capture buffer .answer))
+unfolding cellsOutcome
+cells-fits capture buffer =
+    on-accepted (Filled buffer) capture _ (λ number place n v. (n, v)) (λ short. go short (notClean (verdictIn capture)) refl)
+  where
+    go : eventCount capture ≤ 8000 → (o : Option ℕ) → notClean (verdictIn capture) ≡ o → Filled buffer (unless 8 o (fitting buffer (cellsIn capture)))
+    go short none e = room buffer (cellsIn capture) (cells-few capture short)
+    go short (some place) e = (omega arith, not-clean-fits capture short (verdictIn capture) refl place e)
+
+-- ---- schedules
+
+bad-request : (s : Settings) (qs : List ℕ) (place : ℕ) → badRequest s qs ≡ some place → Value place
+unfolding badRequest
+bad-request s qs place e = go (ltb 2000 (length qs)) refl e
+  where
+    go : (b : Bool) → ltb 2000 (length qs) ≡ b → cond b (some 2000) (lowest (λ i. not (requestFits s (getD qs i 0))) (length qs)) ≡ some place → Value place
+    go true l v = let z : 2000 ≡ place = cc in omega arith
+    go false l v = omega (arith, ltb-false 2000 (length qs) l, below (λ i. not (requestFits s (getD qs i 0))) (length qs) place v)
+
+late-request : (s : Settings) (es : List Event) (from : ℕ) (qs : List ℕ) (i : ℕ) → scheduleFrom s es from qs ≡ late i → i < from + length qs
+unfolding scheduleFrom
+late-request s es from [] i e = let z : _≡_ {A = ℕ} 0 1 = cc in absurd (omega arith)
+late-request s es from (q ∷ qs) i e = go (served s es q) e (λ next. late-request s next (suc from) qs i)
+  where
+    go : (x : Option (List Event)) → onwards x (λ next. scheduleFrom s next (suc from) qs) from ≡ late i →
+        ((next : List Event) → scheduleFrom s next (suc from) qs ≡ late i → i < suc from + length qs) → i < from + suc (length qs)
+    go none v ih = let z : from ≡ i = cc in omega arith
+    go (some next) v ih = omega (arith, ih next v)
+
+late-fits : (s : Settings) (qs : List ℕ) (i : ℕ) → badRequest s qs ≡ none → scheduleOf s qs ≡ late i → Value i
+unfolding scheduleOf
+late-fits s qs i r e = omega (arith, few-requests s qs r, late-request s [] 0 qs i e)
+
+pub schedule-fits : (ws qs buffer : List ℕ) → Fits (countTold (scheduleOutcome ws qs buffer .answer))
+unfolding scheduleOutcome
+schedule-fits ws qs buffer =
+    go (given 0 (not (eqb (length ws) 14))) (badSetting ws) (badRequest (settingsOf ws) qs) (scheduleOf (settingsOf ws) qs) refl refl refl refl
+  where
+    fourteen : (b : Bool) → eqb (length ws) 14 ≡ b → given 0 (not b) ≡ none → length ws ≡ 14
+    fourteen true e f = eqb-true (length ws) 14 e
+    fourteen false e f = let z : _≡_ {A = ℕ} 0 1 = cc in absurd (omega arith)
+
+    go : (a b c : Option ℕ) (x : Schedule) → given 0 (not (eqb (length ws) 14)) ≡ a → badSetting ws ≡ b → badRequest (settingsOf ws) qs ≡ c →
+        scheduleOf (settingsOf ws) qs ≡ x →
+        Filled buffer (unless 2 a (unless 3 b (unless 5 c (keptUp x (λ es. fitting buffer (captureOf ws es))))))
+    go (some place) b c x p q r s = (omega arith, at-zero (not (eqb (length ws) 14)) place p)
+    go none (some place) c x p q r s = (omega arith, bad-setting ws place q)
+    go none none (some place) x p q r s = (omega arith, bad-request (settingsOf ws) qs place r)
+    go none none none (late i) p q r s = (omega arith, late-fits (settingsOf ws) qs i r s)
+    go none none none (planned es) p q r s =
+        let l : length ws ≡ 14 = fourteen (eqb (length ws) 14) refl p in
+        room buffer (captureOf ws es)
+        (omega (arith, size ws es l, plan.schedule-fits ws qs l q r es s .few, few-requests (settingsOf ws) qs r))

@@ -1,0 +1,4 @@
+-- The packing loses nothing: whatever is told fits its bits, and is got back from the number.
+pub mod Fitting
+pub mod Saying
+pub mod Reversible

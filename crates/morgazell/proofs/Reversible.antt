@@ -1,0 +1,109 @@
+-- The packing loses nothing: what was told is got back from the number, and the whole answer from it and the capture.
+use Prim.Native.Nat.{ℕ, zero, suc, _+_, _^_, _≤_, _<_}
+use mathlib.Core.Bool.{false}
+use mathlib.Core.List.{List, map}
+use mathlib.Core.Path.{_≡_, refl, sym, ap, _∙_}
+use native.Mathlib.Nat.{add-zero, zero-add, add-suc, suc-add}
+use native.Mathlib.Omega.{arith}
+use borrow.Author.Tests.{ne-eqb}
+use lib.Dec.{eqb}
+use lib.ListN.{getD}
+use Rattle.reading.specs.Search as search
+use Rattle.reading.specs.Capture.{Event, eventCount, eventPart, eventAt, eventsOf}
+use Rattle.reading.specs.Verdict as is
+use Rattle.reading.specs.Answers.{Answer, Report, refused, answered, verdictIn, judgeAnswer, cellsOutcome, scheduleOutcome}
+use Rattle.reading.proofs.Meaning.{eventOf}
+use Rattle.morgazell.specs.Packing.{Told, refusal, count, breach, word, packed, told, numberIn, ruleIn, valueIn, unpacked, verdictTold, judgeTold, countTold, judgeAnswerOf, countAnswerOf}
+use Rattle.morgazell.proofs.Fitting.{Number, Value, Fits, on-accepted, events-length, broken-at, judge-fits, cells-fits, schedule-fits}
+
+word-back : (number rule value : ℕ) → number < 2 ^ 8 → rule < 2 ^ 8 → Value value → unpacked (word number rule value) ≡ told number rule value
+unfolding unpacked
+word-back number rule value n r v =
+    let a : numberIn (word number rule value) ≡ number = omega arith in
+    let b : ruleIn (word number rule value) ≡ rule = omega arith in
+    let c : valueIn (word number rule value) ≡ value = omega arith in
+    rw (a, b, c)
+
+not-zero : (n : ℕ) → Number n → eqb n 0 ≡ false
+not-zero n l = ne-eqb n 0 (omega arith)
+
+-- whatever fits is got back
+pub unpacked-packed : (t : Told) → Fits t → unpacked (packed t) ≡ t
+unpacked-packed (refusal number place) f = word-back number 0 place (f .0 .1) (omega arith) (f .1) ∙ rw (not-zero number (f .0))
+unpacked-packed (count n) f = word-back 0 0 n (omega arith) (omega arith) f
+unpacked-packed (breach rule event) f = word-back 0 rule event (omega arith) (f .0 .1) (f .1) ∙ rw (not-zero rule (f .0))
+
+-- ---- the judge
+
+-- Two captures with the same number have the same refusal and place, the same count of judged events, or the same rule
+-- and event. How many events a broken capture holds and the cycle of the broken one are not in the number.
+pub judge-tells : (a b : List ℕ) → packed (judgeTold (judgeAnswer a)) ≡ packed (judgeTold (judgeAnswer b)) →
+    judgeTold (judgeAnswer a) ≡ judgeTold (judgeAnswer b)
+judge-tells a b e = sym (unpacked-packed _ (judge-fits a)) ∙ ap unpacked e ∙ unpacked-packed _ (judge-fits b)
+
+at-count : {A : Type 0} (f : ℕ → A) (x : A) (from n i : ℕ) → i < n → getD (map f (search.count from n)) i x ≡ f (from + i)
+at-count f x from zero i l = absurd (omega arith)
+at-count f x from (suc n) zero l = ap f (sym (add-zero from))
+at-count f x from (suc n) (suc i) l = at-count f x (suc from) n i (omega arith) ∙ ap f (suc-add from i ∙ sym (add-suc from i))
+
+module _ (capture : List ℕ) (short : eventCount capture ≤ 8000) where
+  -- the cycle of the broken event stands in the capture
+  cycle-is : (rule event cycle : ℕ) → verdictIn capture ≡ is.broken rule event cycle → eventAt (eventPart capture) event .cycle ≡ cycle
+  unfolding eventsOf
+  cycle-is rule event cycle e =
+      let b = broken-at capture short rule event cycle e in
+      let there : event < eventCount capture = omega (arith, b .there, events-length capture short) in
+      let found : eventOf (eventsOf capture) event ≡ eventAt (eventPart capture) event =
+      at-count (eventAt (eventPart capture)) (record { cycle = 0; pins = 0 }) 0 (eventCount capture) event there
+      ∙ ap (eventAt (eventPart capture)) (zero-add event) in
+      ap (λ (x : Event). x .cycle) (sym found) ∙ b .cycle
+
+  report-back : (v : is.Verdict) → verdictIn capture ≡ v →
+      judgeAnswerOf capture (verdictTold (is.judgedOf (eventCount capture) v) v) ≡
+      answered (record { events = eventCount capture; judged = is.judgedOf (eventCount capture) v; verdict = v })
+  report-back is.clean e = refl
+  report-back (is.broken rule event cycle) e =
+      ap (λ (t : ℕ). answered (record { events = eventCount capture; judged = event; verdict = is.broken rule event t })) (cycle-is rule event cycle e)
+
+told-back : (capture : List ℕ) → judgeAnswerOf capture (judgeTold (judgeAnswer capture)) ≡ judgeAnswer capture
+unfolding judgeAnswer
+told-back capture =
+    on-accepted (λ (a : Answer Report). judgeAnswerOf capture (judgeTold a) ≡ a) capture _ (λ number place n v. refl)
+    (λ short. report-back capture short (verdictIn capture) refl)
+
+-- with the capture at hand nothing at all is lost
+pub judge-back : (capture : List ℕ) → judgeAnswerOf capture (unpacked (packed (judgeTold (judgeAnswer capture)))) ≡ judgeAnswer capture
+judge-back capture = ap (judgeAnswerOf capture) (unpacked-packed (judgeTold (judgeAnswer capture)) (judge-fits capture)) ∙ told-back capture
+
+-- ---- the calls that fill a buffer: the number alone tells the answer
+
+count-back : (a : Answer ℕ) → Fits (countTold a) → countAnswerOf (unpacked (packed (countTold a))) ≡ a
+count-back a f = ap countAnswerOf (unpacked-packed (countTold a) f) ∙ go a
+  where
+    go : (a : Answer ℕ) → countAnswerOf (countTold a) ≡ a
+    go (refused number place) = refl
+    go (answered n) = refl
+
+count-tells : (a b : Answer ℕ) → Fits (countTold a) → Fits (countTold b) → packed (countTold a) ≡ packed (countTold b) → a ≡ b
+count-tells a b f g e = sym (count-back a f) ∙ ap (λ (w : ℕ). countAnswerOf (unpacked w)) e ∙ count-back b g
+
+module _ (capture buffer : List ℕ) where
+  abbrev cellsAnswer : Answer ℕ
+  cellsAnswer = cellsOutcome capture buffer .answer
+
+  pub cells-back : countAnswerOf (unpacked (packed (countTold cellsAnswer))) ≡ cellsAnswer
+  cells-back = count-back cellsAnswer (cells-fits capture buffer)
+
+pub cells-tells : (a b : List ℕ) (x y : List ℕ) → packed (countTold (cellsAnswer a x)) ≡ packed (countTold (cellsAnswer b y)) → cellsAnswer a x ≡ cellsAnswer b y
+cells-tells a b x y = count-tells (cellsAnswer a x) (cellsAnswer b y) (cells-fits a x) (cells-fits b y)
+
+module _ (settings requests buffer : List ℕ) where
+  abbrev scheduleAnswer : Answer ℕ
+  scheduleAnswer = scheduleOutcome settings requests buffer .answer
+
+  pub schedule-back : countAnswerOf (unpacked (packed (countTold scheduleAnswer))) ≡ scheduleAnswer
+  schedule-back = count-back scheduleAnswer (schedule-fits settings requests buffer)
+
+pub schedule-tells : (a b q r x y : List ℕ) → packed (countTold (scheduleAnswer a q x)) ≡ packed (countTold (scheduleAnswer b r y)) →
+    scheduleAnswer a q x ≡ scheduleAnswer b r y
+schedule-tells a b q r x y = count-tells (scheduleAnswer a q x) (scheduleAnswer b r y) (schedule-fits a q x) (schedule-fits b r y)

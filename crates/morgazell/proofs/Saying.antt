@@ -1,0 +1,29 @@
+-- What a call says is what its packed number tells.
+use Prim.Native.Nat.{ℕ}
+use mathlib.Core.List.{List}
+use mathlib.Core.Path.{_≡_, sym, ap, _∙_, subst}
+use Rattle.reading.specs.Capture.{eventCount}
+use Rattle.reading.specs.Answers.{Answer, judgeAnswer}
+use Rattle.judge.specs.declared.Verdict.{Verdict}
+use Rattle.judge.specs.Meaning.{means}
+use Rattle.morgazell.specs.Packing.{packed, judgeTold, countTold}
+use Rattle.morgazell.proofs.Fitting.{Fits, judge-fits}
+
+-- a verdict v that is w
+module _ (capture : List ℕ) {v w : Verdict} (said : means (eventCount capture) v ≡ judgeAnswer capture) (is : v ≡ w) where
+  tells : judgeTold (judgeAnswer capture) ≡ judgeTold (means (eventCount capture) w)
+  tells = ap judgeTold (sym said ∙ ap (means (eventCount capture)) is)
+
+  pub verdict-fits : Fits (judgeTold (means (eventCount capture) w))
+  verdict-fits = subst Fits tells (judge-fits capture)
+
+  pub verdict-packed : packed (judgeTold (means (eventCount capture) w)) ≡ packed (judgeTold (judgeAnswer capture))
+  verdict-packed = ap packed (sym tells)
+
+-- an answer a with the meaning f, that is b
+module _ {A : Type 0} (f : A → Answer ℕ) {a b : A} {x : Answer ℕ} (said : f a ≡ x) (is : a ≡ b) where
+  pub count-fits : Fits (countTold x) → Fits (countTold (f b))
+  count-fits fits = subst (λ (y : Answer ℕ). Fits (countTold y)) (sym said ∙ ap f is) fits
+
+  pub count-packed : packed (countTold (f b)) ≡ packed (countTold x)
+  count-packed = ap (λ (y : Answer ℕ). packed (countTold y)) (sym (ap f is) ∙ said)

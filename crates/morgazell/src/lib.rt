@@ -1,0 +1,58 @@
+// The calls for C and Rust programs. Each answers one number, whose bits `specs/Packing` and include/morgazell.h describe.
+use cells::Listed;
+use judge::Verdict;
+use schedule::Scheduled;
+ghost use mathlib.Core.Path.{_≡_};
+ghost use Prim.Native.Nat.{_<_};
+ghost use Rattle.reading.specs.Answers.{judgeAnswer, cellsOutcome, scheduleOutcome};
+ghost use Rattle.morgazell.specs.Packing.{word, packed, judgeTold, countTold};
+
+const REFUSAL: u64 = 0x100_0000_0000_0000;
+
+const RULE: u64 = 0x1_0000_0000_0000;
+
+fn pack(number: u32, rule: u32, value: u32) -> u64
+    requires { ⌜ (number < 256) × (rule < 256) ⌝ }
+    ensures { λ r. ⌜ r ≡ word number rule value ⌝ }
+{
+    REFUSAL * (number as u64) + RULE * (rule as u64) + (value as u64)
+}
+
+// What document 01 says of these bytes as a capture.
+#[no_mangle]
+pub extern "C" fn morgazell_judge(capture: &[u8]) -> u64
+    ensures { λ r. ⌜ r ≡ packed (judgeTold (judgeAnswer (now (capture .entry)))) ⌝ }
+{
+    let verdict = judge::judge(capture);
+    match verdict {
+        Verdict::Refused { number, place } => pack(number, 0, place),
+        Verdict::Clean { judged } => pack(0, 0, judged),
+        Verdict::Broken { rule, event, .. } => pack(0, rule, event),
+    }
+}
+
+// The cells of the bursts in these bytes as a capture; what lies behind them in the buffer stays.
+#[no_mangle]
+pub extern "C" fn morgazell_cells(capture: &[u8], out: &mut [u32]) -> u64
+    ensures { λ r. ⌜ r ≡ packed (countTold (cellsOutcome (now (capture .entry)) (now (out .entry)) .answer)) ⌝ }
+    ensures { λ _. ⌜ now (out .exit) ≡ cellsOutcome (now (capture .entry)) (now (out .entry)) .buffer ⌝ }
+{
+    let listed = cells::burst_cells(capture, out);
+    match listed {
+        Listed::Refused { number, place } => pack(number, 0, place),
+        Listed::Written { cells } => pack(0, 0, cells),
+    }
+}
+
+// The schedule of the requests, as a whole capture; bytes behind it in the buffer stay.
+#[no_mangle]
+pub extern "C" fn morgazell_schedule(settings: &[u32], requests: &[u32], out: &mut [u8]) -> u64
+    ensures { λ r. ⌜ r ≡ packed (countTold (scheduleOutcome (now (settings .entry)) (now (requests .entry)) (now (out .entry)) .answer)) ⌝ }
+    ensures { λ _. ⌜ now (out .exit) ≡ scheduleOutcome (now (settings .entry)) (now (requests .entry)) (now (out .entry)) .buffer ⌝ }
+{
+    let scheduled = schedule::schedule(settings, requests, out);
+    match scheduled {
+        Scheduled::Refused { number, place } => pack(number, 0, place),
+        Scheduled::Written { bytes } => pack(0, 0, bytes),
+    }
+}

@@ -1,0 +1,103 @@
+/* The archive behind standard input and output, so that a program on any processor can ask it.
+ *
+ * A question is five words and what they count:
+ *     0      1 morgazell_judge, 2 morgazell_cells, 3 morgazell_schedule
+ *     1, 2   elements of the inputs: bytes of a capture and 0; words of settings and of requests
+ *     3      elements of the lent buffer
+ *     4      elements behind it that the call must not touch
+ * then the inputs, then the buffer with what lies behind it. The answer is the packed number and, in the same length,
+ * the buffer with what lies behind it. Words are little-endian, as the processor has them.
+ *
+ * Inputs end where a page begins that nothing may touch, so a read behind an input ends the program. */
+#define _GNU_SOURCE
+#include <stdio.h>
+#include <stdlib.h>
+#include <sys/mman.h>
+
+#include "morgazell.h"
+
+enum { JUDGE = 1, CELLS = 2, SCHEDULE = 3 };
+
+#define PAGE 4096
+/* Room for any question of the tests: captures somewhat over the longest, buffers for any answer. */
+#define ROOM (256 * PAGE)
+
+static void fail(const char *what)
+{
+    fprintf(stderr, "serve: %s\n", what);
+    exit(1);
+}
+
+/* The end of ROOM bytes, behind which nothing may be touched. */
+static uint8_t *fenced_end(void)
+{
+    uint8_t *start = mmap(NULL, ROOM + PAGE, PROT_READ | PROT_WRITE, MAP_PRIVATE | MAP_ANONYMOUS, -1, 0);
+    if (start == MAP_FAILED || mprotect(start + ROOM, PAGE, PROT_NONE) != 0)
+        fail("no memory");
+    return start + ROOM;
+}
+
+static void take(void *to, size_t bytes)
+{
+    if (fread(to, 1, bytes, stdin) != bytes)
+        fail("the question ends too soon");
+}
+
+static void give(const void *from, size_t bytes)
+{
+    if (fwrite(from, 1, bytes, stdout) != bytes)
+        fail("the answer cannot be written");
+}
+
+/* The next bytes of the question, placed so that they end where nothing may be touched. */
+static uint8_t *placed(uint8_t *end, size_t bytes)
+{
+    if (bytes > ROOM)
+        fail("a question is too long");
+    take(end - bytes, bytes);
+    return end - bytes;
+}
+
+/* What is empty is passed as NULL, which the header allows. */
+static void *lent(uint8_t *start, uint32_t elements)
+{
+    return elements == 0 ? NULL : start;
+}
+
+static uint64_t call(const uint32_t *question, uint8_t *inputs[2], uint8_t *buffer)
+{
+    const void *first = lent(inputs[0], question[1]);
+    const void *second = lent(inputs[1], question[2]);
+    void *out = lent(buffer, question[3]);
+    switch (question[0]) {
+    case JUDGE:
+        return morgazell_judge(first, question[1]);
+    case CELLS:
+        return morgazell_cells(first, question[1], out, question[3]);
+    case SCHEDULE:
+        return morgazell_schedule(first, question[1], second, question[2], out, question[3]);
+    default:
+        fail("no such function");
+        return 0;
+    }
+}
+
+int main(void)
+{
+    static uint32_t question[5];
+    uint8_t *ends[3] = {fenced_end(), fenced_end(), fenced_end()};
+    while (fread(question, sizeof question, 1, stdin) == 1) {
+        size_t input = question[0] == SCHEDULE ? 4 : 1;
+        size_t element = question[0] == CELLS ? 4 : 1;
+        size_t whole = element * ((size_t)question[3] + question[4]);
+        uint8_t *inputs[2];
+        inputs[0] = placed(ends[0], input * question[1]);
+        inputs[1] = placed(ends[1], input * question[2]);
+        uint8_t *buffer = placed(ends[2], whole);
+        uint64_t answer = call(question, inputs, buffer);
+        give(&answer, sizeof answer);
+        give(buffer, whole);
+        fflush(stdout);
+    }
+    return 0;
+}

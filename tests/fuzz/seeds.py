@@ -1,0 +1,90 @@
+#!/usr/bin/env python3
+"""seeds.py FOLDER: writes the fuzzer's first inputs, small captures and request lists for every refusal and for many
+rules, by document 01's cases. The first byte of each says what it is (src/lib.rs)."""
+import os
+import sys
+
+sys.dont_write_bytecode = True
+sys.path.insert(0, os.path.join(os.path.dirname(os.path.abspath(__file__)), ".."))
+from captures import ACTIVE, MODE_REGISTER_SET, NOP, PRECHARGE, READ, AUTO_REFRESH, BURST_TERMINATE, USUAL, WRITE, capture, setting, words
+
+AUTO = ALL = 1 << 10
+BANK_1 = 1 << 14
+
+CAPTURE, SPELLED, LIST, SPELLED_LIST = 0, 1, 2, 3
+
+EVENTS = {
+    "nothing": [],
+    "read": [(0, ACTIVE), (3, READ | 5), (20, PRECHARGE | ALL), (23, AUTO_REFRESH), (35, NOP)],
+    "mode": [(0, MODE_REGISTER_SET | 0x24), (2, ACTIVE), (5, READ), (40, PRECHARGE), (43, MODE_REGISTER_SET | 0x8000)],
+    "writes": [(0, ACTIVE), (3, WRITE), (4, WRITE | 8), (9, READ), (20, ACTIVE | BANK_1), (23, WRITE | BANK_1 | AUTO)],
+    "rule 1": [(0, ACTIVE | 1 << 13)],
+    "rule 2": [(0, MODE_REGISTER_SET | 0x42)],
+    "rule 3": [(0, READ)],
+    "rule 4": [(1, AUTO_REFRESH), (12, ACTIVE)],
+    "rule 5": [(0, ACTIVE), (3, READ | AUTO), (9, ACTIVE)],
+    "rule 7": [(0, ACTIVE), (1, ACTIVE | BANK_1)],
+    "rule 8": [(0, ACTIVE), (2, READ)],
+    "rule 9": [(0, ACTIVE), (3, WRITE), (6, PRECHARGE)],
+    "rule 10": [(0, ACTIVE), (3, WRITE), (8, PRECHARGE)],
+    "rule 11": [(0, ACTIVE), (3, WRITE), (6, READ)],
+    "rule 12": [(0, ACTIVE), (3, READ), (4, BURST_TERMINATE), (6, WRITE)],
+    "rule 13": [(0, ACTIVE), (3, WRITE), (4, BURST_TERMINATE)],
+    "rule 14": [(1001, NOP)],
+}
+
+REFUSED = {
+    "refusal 1": capture([])[:79],
+    "refusal 2": capture([], header=[80, 15, 24, 0, 80, 0]),
+    "refusal 3": capture([], setting(3, 0x42)),
+    "refusal 4": capture([(0, NOP), (1, NOP | 1 << 20)]),
+}
+
+# Case m, and each refusal of a schedule.
+FOUR = [5, 1 << 31 | 8388608, 5, 8388608]
+LISTS = {
+    "case m": setting(13, 24) + FOUR,
+    "no request": USUAL,
+    "refusal 3 of a schedule": setting(1, 15) + FOUR,
+    "refusal 5": USUAL + [5, 1 << 27],
+    "refusal 6": setting(13, 16) + FOUR,
+}
+
+
+def spelled_settings(settings):
+    """As src/spelled.rs reads them."""
+    lane, rows, columns, mode, *times, gap = settings
+    order = (mode & 7) - 1 | (mode >> 3 & 1) << 2 | (mode >> 4 & 1) << 3
+    return bytes([lane - 1, rows - 12, columns - 8, order] + [t - 1 for t in times] + [(gap - 1) % 256, (gap - 1) // 256])
+
+
+def spelled(events, settings=USUAL):
+    data, free = spelled_settings(settings), 0
+    for cycle, pins in events:
+        data += words([pins | cycle - free << 24])
+        free = cycle + 1
+    return data
+
+
+def seeds():
+    for name, events in EVENTS.items():
+        yield name, CAPTURE, capture(events)
+        if all(cycle < 256 for cycle, _ in events):
+            yield "spelled " + name, SPELLED, spelled(events)
+    slow = setting(7, 11)
+    yield "rule 6", SPELLED, spelled([(0, ACTIVE), (3, READ | AUTO), (10, ACTIVE)], slow)
+    yield "spelled rule 14", SPELLED, spelled([(100, NOP)], setting(13, 99))
+    yield "too short a buffer", SPELLED | 2 << 2, spelled(EVENTS["read"])
+    for name, data in REFUSED.items():
+        yield name, CAPTURE, data
+    for name, list_ in LISTS.items():
+        yield name, LIST, words(list_)
+    yield "too short a buffer for a schedule", LIST | 2 << 2, words(LISTS["case m"])
+    yield "refusal 2 of a schedule", LIST | 13 << 4, words(LISTS["case m"])
+    yield "spelled case m", SPELLED_LIST, spelled_settings(setting(13, 24)) + words(FOUR)
+
+
+os.makedirs(sys.argv[1], exist_ok=True)
+for name, how, data in seeds():
+    with open(os.path.join(sys.argv[1], name.replace(" ", "-")), "wb") as file:
+        file.write(bytes([how]) + data)

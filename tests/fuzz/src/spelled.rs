@@ -1,0 +1,55 @@
+//! Captures and request lists spelled in few bytes. Whatever the bytes are, the settings are
+//! in range and cycles rise, so that the fuzzer gets past the refusals.
+
+use second::capture::{bytes_of, Event, SETTINGS};
+
+/// Bytes that spell the settings: one each, and one more for GAP.
+const SPELLED_SETTINGS: usize = SETTINGS + 1;
+
+/// Settings, then four bytes an event: three of pins, and one of cycles since the event
+/// before.
+pub fn capture(bytes: &[u8]) -> Vec<u8> {
+    let (settings, rest) = settings(bytes);
+    let mut next = 0;
+    let events: Vec<Event> = words(rest)
+        .map(|word| {
+            let cycle = next + (word >> 24);
+            next = cycle + 1;
+            Event {
+                cycle,
+                pins: word & 0xf_ffff,
+            }
+        })
+        .collect();
+    bytes_of(&settings, &events)
+}
+
+/// Settings, then a word each request, of a cell that the part has.
+pub fn requests(bytes: &[u8]) -> (Vec<u32>, Vec<u32>) {
+    let (settings, rest) = settings(bytes);
+    let cells = 4 << (settings[1] + settings[2]);
+    let requests = words(rest).map(|word| (word & 1 << 31) | (word % cells));
+    (settings.to_vec(), requests.collect())
+}
+
+pub fn words(bytes: &[u8]) -> impl Iterator<Item = u32> + '_ {
+    bytes
+        .chunks_exact(4)
+        .map(|word| u32::from_le_bytes(word.try_into().expect("four bytes")))
+}
+
+fn settings(bytes: &[u8]) -> ([u32; SETTINGS], &[u8]) {
+    let (spelled, rest) = bytes.split_at(bytes.len().min(SPELLED_SETTINGS));
+    let byte = |place: usize| spelled.get(place).map_or(0, |&byte| u32::from(byte));
+    let mut settings = [0; SETTINGS];
+    settings[0] = 1 + byte(0) % 2;
+    settings[1] = 12 + byte(1) % 3;
+    settings[2] = 8 + byte(2) % 4;
+    // A burst length of 2 to 16, the order, a latency of 2 or 3.
+    settings[3] = (1 + byte(3) % 4) | (byte(3) >> 2 & 1) << 3 | (2 + (byte(3) >> 3 & 1)) << 4;
+    for (place, time) in (4..).zip(&mut settings[4..13]) {
+        *time = 1 + byte(place);
+    }
+    settings[13] = 1 + byte(13) + 256 * byte(14);
+    (settings, rest)
+}

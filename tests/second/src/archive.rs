@@ -1,0 +1,107 @@
+//! The verified library, asked through pipes: `tests/c/serve.c` calls it, on another
+//! processor under an emulator. Answers are packed numbers.
+//!
+//! A buffer is passed with what lies behind it: the library is lent the first `lent`
+//! elements, and all of them come back as they are after the call.
+
+use std::io::{self, BufReader, Read, Write};
+use std::process::{Child, ChildStdin, ChildStdout, Command, Stdio};
+
+const RUNNER: &str = concat!(env!("CARGO_MANIFEST_DIR"), "/../x86");
+const SERVER: &str = concat!(env!("CARGO_MANIFEST_DIR"), "/../../target/c/serve");
+
+#[derive(Clone, Copy)]
+enum Function {
+    Judge = 1,
+    Cells = 2,
+    Schedule = 3,
+}
+
+pub struct Archive {
+    process: Child,
+    questions: ChildStdin,
+    answers: BufReader<ChildStdout>,
+}
+
+impl Archive {
+    /// Starts the program that `tests/c/build` made.
+    pub fn start() -> io::Result<Archive> {
+        let mut process = Command::new(RUNNER)
+            .args(["run", SERVER])
+            .stdin(Stdio::piped())
+            .stdout(Stdio::piped())
+            .spawn()?;
+        let questions = process.stdin.take().expect("a pipe");
+        let answers = BufReader::new(process.stdout.take().expect("a pipe"));
+        Ok(Archive {
+            process,
+            questions,
+            answers,
+        })
+    }
+
+    pub fn judge(&mut self, capture: &[u8]) -> io::Result<u64> {
+        let counts = [capture.len(), 0, 0, 0];
+        self.ask(Function::Judge, counts, capture.to_vec(), &mut [])
+    }
+
+    pub fn cells(&mut self, capture: &[u8], out: &mut [u32], lent: usize) -> io::Result<u64> {
+        let counts = [capture.len(), 0, lent, out.len() - lent];
+        let mut bytes = bytes_of(out);
+        let answer = self.ask(Function::Cells, counts, capture.to_vec(), &mut bytes)?;
+        for (element, word) in out.iter_mut().zip(bytes.chunks_exact(4)) {
+            *element = u32::from_le_bytes(word.try_into().expect("four bytes"));
+        }
+        Ok(answer)
+    }
+
+    pub fn schedule(
+        &mut self,
+        settings: &[u32],
+        requests: &[u32],
+        out: &mut [u8],
+        lent: usize,
+    ) -> io::Result<u64> {
+        let counts = [settings.len(), requests.len(), lent, out.len() - lent];
+        let inputs = [bytes_of(settings), bytes_of(requests)].concat();
+        self.ask(Function::Schedule, counts, inputs, out)
+    }
+
+    /// Ends the program, which must have nothing to complain of.
+    pub fn finish(self) -> io::Result<()> {
+        let Archive {
+            mut process,
+            questions,
+            ..
+        } = self;
+        drop(questions);
+        let status = process.wait()?;
+        if status.success() {
+            Ok(())
+        } else {
+            Err(io::Error::other(format!("the archive's program: {status}")))
+        }
+    }
+
+    fn ask(
+        &mut self,
+        function: Function,
+        counts: [usize; 4],
+        inputs: Vec<u8>,
+        buffer: &mut [u8],
+    ) -> io::Result<u64> {
+        let mut question = bytes_of(&[function as u32]);
+        question.extend(bytes_of(&counts.map(|count| count as u32)));
+        question.extend(inputs);
+        question.extend_from_slice(buffer);
+        self.questions.write_all(&question)?;
+        let mut answer = [0; 8];
+        self.answers.read_exact(&mut answer)?;
+        self.answers.read_exact(buffer)?;
+        Ok(u64::from_le_bytes(answer))
+    }
+}
+
+fn bytes_of(words: &[u32]) -> Vec<u8> {
+    words.iter().flat_map(|word| word.to_le_bytes()).collect()
+}
