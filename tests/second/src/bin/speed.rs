@@ -1,11 +1,15 @@
 //! How long the fast judges take an event, on captures of several kinds.
 //!
 //!     speed
+//!     speed FOLDER
 //!
-//! Prints nanoseconds an event, the least of many runs, for the Rust and the C one.
+//! Prints nanoseconds an event, the least of many runs, for the Rust and the C one. With a
+//! folder it writes the captures and the requests there instead, for `bench/run`.
 
 use std::hint::black_box;
+use std::path::Path;
 use std::time::{Duration, Instant};
+use std::{env, fs, io};
 
 use second::capture::{bytes_of, Event, Settings, SETTINGS};
 use second::command::Command;
@@ -20,6 +24,36 @@ const BL_16: u32 = 0x34;
 const RUNS: u32 = 400;
 
 fn main() {
+    match env::args().nth(1) {
+        Some(folder) => write_inputs(Path::new(&folder)).expect("a folder to write in"),
+        None => print_times(),
+    }
+}
+
+fn write_inputs(folder: &Path) -> io::Result<()> {
+    for (name, capture) in captures() {
+        fs::write(folder.join(format!("{name}.capture")), capture)?;
+    }
+    let (_, longest) = captures().swap_remove(4);
+    for events in [500, 1_000, 2_000, 4_000] {
+        let name = format!("random commands, {events} events.capture");
+        fs::write(folder.join(name), first_of(&longest, events))?;
+    }
+    let list: Vec<u32> = PART.into_iter().chain(requests()).collect();
+    let bytes: Vec<u8> = list.iter().flat_map(|word| word.to_le_bytes()).collect();
+    fs::write(folder.join("2,000 requests.list"), bytes)
+}
+
+/// The same capture with its first events alone.
+fn first_of(capture: &[u8], events: u32) -> Vec<u8> {
+    let total = 80 + 8 * events;
+    let mut shorter = capture[..total as usize].to_vec();
+    shorter[..4].copy_from_slice(&total.to_le_bytes());
+    shorter[12..16].copy_from_slice(&events.to_le_bytes());
+    shorter
+}
+
+fn print_times() {
     println!(
         "{:<34}{:>8}{:>10}{:>10}",
         "ns an event", "events", "Rust", "C"

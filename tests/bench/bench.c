@@ -1,0 +1,104 @@
+/* Morgazell's archive and the C next door on the same input, in one process.
+ *
+ *     bench time WHAT FILE         the least nanoseconds a call, ours and C's
+ *     bench call WHAT FILE WHO N   N calls of one of them, for counting instructions
+ *
+ * WHAT is judge, cells or schedule; WHO is ours or c. FILE is a capture, or for schedule the
+ * settings and the requests as words. */
+#define _POSIX_C_SOURCE 199309L
+#include <stdio.h>
+#include <stdlib.h>
+#include <string.h>
+#include <time.h>
+
+#include "judge.h"
+#include "morgazell.h"
+
+enum { MOST_BYTES = 64081, MOST_CELLS = 16 * 8000, SETTINGS = 14, RUNS = 60 };
+
+static uint32_t words[MOST_BYTES / 4 + 1];
+static size_t size;
+static uint32_t cells[MOST_CELLS];
+static uint8_t bytes[MOST_BYTES];
+
+typedef uint64_t call(void);
+
+static const uint8_t *capture(void) { return (const uint8_t *)words; }
+static size_t requests(void) { return size / 4 - SETTINGS; }
+
+static uint64_t our_judge(void) { return morgazell_judge(capture(), size); }
+static uint64_t c_s_judge(void) { return c_judge(capture(), size); }
+static uint64_t our_cells(void) { return morgazell_cells(capture(), size, cells, MOST_CELLS); }
+static uint64_t c_s_cells(void) { return c_cells(capture(), size, cells, MOST_CELLS); }
+
+static uint64_t our_schedule(void)
+{
+    return morgazell_schedule(words, SETTINGS, words + SETTINGS, requests(), bytes, MOST_BYTES);
+}
+
+static uint64_t c_s_schedule(void)
+{
+    return c_schedule(words, SETTINGS, words + SETTINGS, requests(), bytes, MOST_BYTES);
+}
+
+static const struct {
+    const char *what;
+    call *ours, *c;
+} questions[] = {
+    {"judge", our_judge, c_s_judge},
+    {"cells", our_cells, c_s_cells},
+    {"schedule", our_schedule, c_s_schedule},
+};
+
+static uint64_t nanoseconds(call *ask)
+{
+    struct timespec start, end;
+    clock_gettime(CLOCK_MONOTONIC, &start);
+    ask();
+    clock_gettime(CLOCK_MONOTONIC, &end);
+    return (uint64_t)((end.tv_sec - start.tv_sec) * 1000000000LL + end.tv_nsec - start.tv_nsec);
+}
+
+static uint64_t lesser(uint64_t a, uint64_t b) { return a < b ? a : b; }
+
+/* In turns, so that what slows the machine slows both. */
+static void print_times(call *ours, call *c)
+{
+    uint64_t our_least = UINT64_MAX, c_least = UINT64_MAX;
+    for (int run = 0; run < RUNS; run++) {
+        our_least = lesser(our_least, nanoseconds(ours));
+        c_least = lesser(c_least, nanoseconds(c));
+    }
+    printf("%llu %llu\n", (unsigned long long)our_least, (unsigned long long)c_least);
+}
+
+static int load(const char *name)
+{
+    FILE *file = fopen(name, "rb");
+    if (!file)
+        return 0;
+    size = fread(words, 1, MOST_BYTES, file);
+    return fclose(file) == 0;
+}
+
+int main(int count, char **word)
+{
+    if (count < 4 || !load(word[3]))
+        return 2;
+    for (size_t i = 0; i < sizeof questions / sizeof *questions; i++) {
+        if (strcmp(questions[i].what, word[2]) != 0)
+            continue;
+        call *ours = questions[i].ours, *c = questions[i].c;
+        if (ours() != c())
+            return 1;
+        if (strcmp(word[1], "time") == 0) {
+            print_times(ours, c);
+            return 0;
+        }
+        call *ask = count > 5 && strcmp(word[4], "ours") == 0 ? ours : c;
+        for (long n = count > 5 ? atol(word[5]) : 0; n > 0; n--)
+            ask();
+        return 0;
+    }
+    return 2;
+}
