@@ -73,6 +73,9 @@ use Rattle.requests.proofs.burst_pins.Reads as requests-burst-pins
 use Rattle.requests.proofs.lowest_bad.Reads as requests-lowest-bad
 use Rattle.turns.proofs.serve.Reads as turns-serve
 use Rattle.schedule.proofs.schedule.Reads as schedule-schedule
+use Rattle.morgazell.proofs.morgazell_judge.Reads as morgazell-morgazell-judge
+use Rattle.morgazell.proofs.morgazell_cells.Reads as morgazell-morgazell-cells
+use Rattle.morgazell.proofs.morgazell_schedule.Reads as morgazell-morgazell-schedule
 
 -- what a search found is told by its place
 found-one : (x y : Found) → placeOf x ≡ placeOf y → x ≡ y
@@ -293,3 +296,14 @@ turns-serve-settles κs a z z′ e e′ p q = (p .0 ∙ sym (q .0), p .1 ∙ sym
 
 pub schedule-schedule-settles : (κs : _) (a : _) (z z′ : _) (e e′ : _) → schedule-schedule.Post κs a z e → schedule-schedule.Post κs a z′ e′ → (z ≡ z′) × (now (e .1 .1 .0) ≡ now (e′ .1 .1 .0))
 schedule-schedule-settles κs a z z′ e e′ p q = (schedule.one-answer z z′ (p .0 ∙ sym (q .0)), p .1 ∙ sym (q .1))
+
+-- ---- morgazell
+
+pub morgazell-morgazell-judge-settles : (κs : _) (a : _) (z z′ : _) (e e′ : _) → morgazell-morgazell-judge.Post κs a z e → morgazell-morgazell-judge.Post κs a z′ e′ → z ≡ z′
+morgazell-morgazell-judge-settles κs a z z′ e e′ p q = p ∙ sym q
+
+pub morgazell-morgazell-cells-settles : (κs : _) (a : _) (z z′ : _) (e e′ : _) → morgazell-morgazell-cells.Post κs a z e → morgazell-morgazell-cells.Post κs a z′ e′ → (z ≡ z′) × (now (e .1 .0) ≡ now (e′ .1 .0))
+morgazell-morgazell-cells-settles κs a z z′ e e′ p q = (p .0 ∙ sym (q .0), p .1 ∙ sym (q .1))
+
+pub morgazell-morgazell-schedule-settles : (κs : _) (a : _) (z z′ : _) (e e′ : _) → morgazell-morgazell-schedule.Post κs a z e → morgazell-morgazell-schedule.Post κs a z′ e′ → (z ≡ z′) × (now (e .1 .1 .0) ≡ now (e′ .1 .1 .0))
+morgazell-morgazell-schedule-settles κs a z z′ e e′ p q = (p .0 ∙ sym (q .0), p .1 ∙ sym (q .1))
