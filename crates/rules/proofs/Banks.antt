@@ -33,7 +33,11 @@ passed {f} {b} p l rule rest = sym (ap (λ (k : Bool). orElse k rule rest) (ever
 pub left : {f : ℕ → Bool} {b : ℕ} → Passed f b → b < 4 → f b ≡ false → (rule rest : ℕ) → rule ≡ orElse (everyBank f) rule rest
 left {f} {b} p l e rule rest = sym (ap (λ (k : Bool). orElse k rule rest) (one-fails f b l e))
 
--- either of two tests lets a bank pass
-pub either : (a b : Bool) (rule rest : ℕ) → orElse a (orElse b rule rest) rest ≡ orElse (a || b) rule rest
-either true b rule rest = refl
-either false b rule rest = refl
+-- what a search told
+pub told-broken : (every : Bool) (rule : ℕ) {r : ℕ} → r ≡ orElse every rule 0 → (r ≡ 0 → ⊥) → every ≡ false
+told-broken true rule e z = absurd (z e)
+told-broken false rule e z = refl
+
+pub told-kept : (every : Bool) (rule : ℕ) {r : ℕ} → r ≡ orElse every (suc rule) 0 → r ≡ 0 → every ≡ true
+told-kept true rule e z = refl
+told-kept false rule e z = absurd (omega (arith, e, z))

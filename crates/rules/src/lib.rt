@@ -27,22 +27,19 @@ ghost use Rattle.reading.specs.Rules.{everyBank};
 ghost use Rattle.deadlines.specs.Deadlines as is;
 ghost use Rattle.deadlines.specs.Deadlines.{at, orElse};
 
-fn or_else(kept: bool, rule: u32, rest: u32) -> u32
-    ensures { λ r. ⌜ r ≡ orElse kept rule rest ⌝ }
-{
-    if kept { rest } else { rule }
-}
-
 pub fn due_breaks(d: &[u64; 40], t: u32) -> u32
     ensures { λ r. ⌜ r ≡ is.dueBreaks (now (d .entry)) t ⌝ }
 {
-    or_else((t as u64) <= d[DUE], 14, 0)
+    if d[DUE] < (t as u64) {
+        return 14;
+    }
+    0
 }
 
-// The searches: the banks in order, left at the first that breaks the rule, with its number.
+// The searches: the banks in order, left at the first that breaks the rule, with its number; 0 if none does.
 
-fn all_idle(d: &[u64; 40], rest: u32) -> u32
-    ensures { λ r. ⌜ r ≡ orElse (everyBank (λ i. eqb (at (now (d .entry)) (is.OPEN + i)) 0)) 3 rest ⌝ }
+fn all_idle(d: &[u64; 40]) -> u32
+    ensures { λ r. ⌜ r ≡ orElse (everyBank (λ i. eqb (at (now (d .entry)) (is.OPEN + i)) 0)) 3 0 ⌝ }
 {
     'banks: for i in 0..4 {
         if d[OPEN + i] == 0 {
@@ -50,11 +47,11 @@ fn all_idle(d: &[u64; 40], rest: u32) -> u32
         }
         return 3;
     }
-    rest
+    0
 }
 
-fn all_rested(d: &[u64; 40], t: u32, rest: u32) -> u32
-    ensures { λ r. ⌜ r ≡ orElse (everyBank (λ i. leb (at (now (d .entry)) (is.REST + i)) t)) 5 rest ⌝ }
+fn all_rested(d: &[u64; 40], t: u32) -> u32
+    ensures { λ r. ⌜ r ≡ orElse (everyBank (λ i. leb (at (now (d .entry)) (is.REST + i)) t)) 5 0 ⌝ }
 {
     'banks: for i in 0..4 {
         if past(d[REST + i], t) {
@@ -62,11 +59,11 @@ fn all_rested(d: &[u64; 40], t: u32, rest: u32) -> u32
         }
         return 5;
     }
-    rest
+    0
 }
 
-fn others_apart(d: &[u64; 40], t: u32, b: usize, rest: u32) -> u32
-    ensures { λ r. ⌜ r ≡ orElse (everyBank (λ i. leb (at (now (d .entry)) (is.OTHER + i)) t || eqb i b)) 7 rest ⌝ }
+fn others_apart(d: &[u64; 40], t: u32, b: usize) -> u32
+    ensures { λ r. ⌜ r ≡ orElse (everyBank (λ i. leb (at (now (d .entry)) (is.OTHER + i)) t || eqb i b)) 7 0 ⌝ }
 {
     'banks: for i in 0..4 {
         if past(d[OTHER + i], t) {
@@ -77,11 +74,11 @@ fn others_apart(d: &[u64; 40], t: u32, b: usize, rest: u32) -> u32
         }
         return 7;
     }
-    rest
+    0
 }
 
-fn all_held(d: &[u64; 40], t: u32, rest: u32) -> u32
-    ensures { λ r. ⌜ r ≡ orElse (everyBank (λ i. leb (at (now (d .entry)) (is.CLOSE + i)) t || eqb (at (now (d .entry)) (is.OPEN + i)) 0)) 9 rest ⌝ }
+fn all_held(d: &[u64; 40], t: u32) -> u32
+    ensures { λ r. ⌜ r ≡ orElse (everyBank (λ i. leb (at (now (d .entry)) (is.CLOSE + i)) t || eqb (at (now (d .entry)) (is.OPEN + i)) 0)) 9 0 ⌝ }
 {
     'banks: for i in 0..4 {
         if past(d[CLOSE + i], t) {
@@ -92,11 +89,11 @@ fn all_held(d: &[u64; 40], t: u32, rest: u32) -> u32
         }
         return 9;
     }
-    rest
+    0
 }
 
-fn all_written(d: &[u64; 40], t: u32, rest: u32) -> u32
-    ensures { λ r. ⌜ r ≡ orElse (everyBank (λ i. leb (at (now (d .entry)) (is.WRITTEN + i)) t || eqb (at (now (d .entry)) (is.OPEN + i)) 0)) 10 rest ⌝ }
+fn all_written(d: &[u64; 40], t: u32) -> u32
+    ensures { λ r. ⌜ r ≡ orElse (everyBank (λ i. leb (at (now (d .entry)) (is.WRITTEN + i)) t || eqb (at (now (d .entry)) (is.OPEN + i)) 0)) 10 0 ⌝ }
 {
     'banks: for i in 0..4 {
         if past(d[WRITTEN + i], t) {
@@ -107,7 +104,7 @@ fn all_written(d: &[u64; 40], t: u32, rest: u32) -> u32
         }
         return 10;
     }
-    rest
+    0
 }
 
 // The lowest rule that a command breaks, 0 for none. Each reads the deadlines of the banks and the part that it concerns.
@@ -131,7 +128,10 @@ pub fn active_breaks(s: &[u32; 14], d: &[u64; 40], t: u32, b: usize, row: u32) -
     if (t as u64) < d[AGAIN + b] {
         return 6;
     }
-    others_apart(d, t, b, due_breaks(d, t))
+    if others_apart(d, t, b) != 0 {
+        return 7;
+    }
+    due_breaks(d, t)
 }
 
 pub fn read_breaks(d: &[u64; 40], t: u32, b: usize) -> u32
@@ -181,47 +181,68 @@ pub fn write_breaks(d: &[u64; 40], t: u32, b: usize) -> u32
 pub fn terminate_breaks(s: &[u32; 14], d: &[u64; 40], t: u32) -> u32
     ensures { λ r. ⌜ r ≡ is.terminateBreaks (settingsOf (now (s .entry))) (now (d .entry)) t ⌝ }
 {
-    let due = due_breaks(d, t);
-    let writing = or_else(d[END] <= after(t, s[T_WTR]), 13, due);
-    let held = or_else(past(d[READS], t), 13, writing);
-    or_else(past(d[BUSY], t), 4, held)
-}
-
-fn may_close(d: &[u64; 40], t: u32, from: u64, b: usize, rule: u32, rest: u32) -> u32
-    requires { ⌜ b < 4 ⌝ }
-    ensures { λ r. ⌜ r ≡ orElse (leb from t || eqb (at (now (d .entry)) (is.OPEN + b)) 0) rule rest ⌝ }
-{
-    let idle = or_else(d[OPEN + b] == 0, rule, rest);
-    or_else(past(from, t), idle, rest)
+    if (t as u64) < d[BUSY] {
+        return 4;
+    }
+    if (t as u64) < d[READS] {
+        return 13;
+    }
+    if after(t, s[T_WTR]) < d[END] {
+        return 13;
+    }
+    due_breaks(d, t)
 }
 
 pub fn close_breaks(d: &[u64; 40], t: u32, b: usize) -> u32
     requires { ⌜ b < 4 ⌝ }
     ensures { λ r. ⌜ r ≡ is.closeBreaks (now (d .entry)) t b ⌝ }
 {
-    let due = due_breaks(d, t);
-    let written = may_close(d, t, d[WRITTEN + b], b, 10, due);
-    let held = may_close(d, t, d[CLOSE + b], b, 9, written);
-    or_else(past(d[BUSY], t), 4, held)
+    if (t as u64) < d[BUSY] {
+        return 4;
+    }
+    if d[OPEN + b] == 0 {
+        return due_breaks(d, t);
+    }
+    if (t as u64) < d[CLOSE + b] {
+        return 9;
+    }
+    if (t as u64) < d[WRITTEN + b] {
+        return 10;
+    }
+    due_breaks(d, t)
 }
 
 pub fn close_all_breaks(d: &[u64; 40], t: u32) -> u32
     ensures { λ r. ⌜ r ≡ is.closeAllBreaks (now (d .entry)) t ⌝ }
 {
-    let due = due_breaks(d, t);
-    let written = all_written(d, t, due);
-    let held = all_held(d, t, written);
-    or_else(past(d[BUSY], t), 4, held)
+    if (t as u64) < d[BUSY] {
+        return 4;
+    }
+    if all_held(d, t) != 0 {
+        return 9;
+    }
+    if all_written(d, t) != 0 {
+        return 10;
+    }
+    due_breaks(d, t)
 }
 
 pub fn refresh_breaks(d: &[u64; 40], t: u32) -> u32
     ensures { λ r. ⌜ r ≡ is.refreshBreaks (now (d .entry)) t ⌝ }
 {
-    let due = due_breaks(d, t);
-    let data = or_else(past(d[DATA], t), 12, due);
-    let rested = all_rested(d, t, data);
-    let busy = or_else(past(d[BUSY], t), 4, rested);
-    all_idle(d, busy)
+    if all_idle(d) != 0 {
+        return 3;
+    }
+    if (t as u64) < d[BUSY] {
+        return 4;
+    }
+    if all_rested(d, t) != 0 {
+        return 5;
+    }
+    if (t as u64) < d[DATA] {
+        return 12;
+    }
+    due_breaks(d, t)
 }
 
 fn register_fits(b: usize, word: u32) -> bool
@@ -236,5 +257,8 @@ fn register_fits(b: usize, word: u32) -> bool
 pub fn mode_breaks(d: &[u64; 40], t: u32, b: usize, word: u32) -> u32
     ensures { λ r. ⌜ r ≡ is.modeBreaks (now (d .entry)) t b word ⌝ }
 {
-    or_else(register_fits(b, word), 2, refresh_breaks(d, t))
+    if !register_fits(b, word) {
+        return 2;
+    }
+    refresh_breaks(d, t)
 }

@@ -1,5 +1,10 @@
+use Prim.Native.Nat.{_+_}
+use mathlib.Core.Bool.{_||_}
+use lib.Dec.{leb, eqb}
 use borrow.Author.Tests.{le-leb, lt-leb, lt-ltb, le-ltb, eq-eqb, ne-eqb}
-use Rattle.deadlines.specs.Deadlines.{activeBreaks}
+use Rattle.reading.specs.Rules.{everyBank}
+use Rattle.deadlines.specs.Deadlines.{OTHER, at, activeBreaks}
+use Rattle.rules.proofs.Banks.{told-broken, told-kept}
 use borrow.Author.Needs.{needs}
 use Rattle.rules.proofs.active_breaks.Statement.{statement}
 use Rattle.rules.proofs.active_breaks.Tie as tie
@@ -60,15 +65,19 @@ returns-5 : tie.Need-returns-5
 unfolding activeBreaks
 returns-5 c = rw (← c .before .before .before .before .before .before .before .before .before .rows .ensures, lt-ltb _ _ (c .before .before .before .before .before .before .before .before .if1 .left), eq-eqb _ _ (c .before .before .before .before .before .before .if2 .left), le-leb _ _ (c .before .before .before .before .if3 .left), le-leb _ _ (c .before .before .if4 .left), lt-leb _ _ (c .if5 .taken))
 
-due-breaks-requires : tie.Need-due-breaks-requires
-due-breaks-requires c κs = search needs
-
 others-apart-requires : tie.Need-others-apart-requires
 others-apart-requires c κs = search needs
 
 returns-6 : tie.Need-returns-6
 unfolding activeBreaks
-returns-6 c = rw (← c .before .before .before .before .before .before .before .before .before .before .before .rows .ensures, lt-ltb _ _ (c .before .before .before .before .before .before .before .before .before .before .if1 .left), eq-eqb _ _ (c .before .before .before .before .before .before .before .before .if2 .left), le-leb _ _ (c .before .before .before .before .before .before .if3 .left), le-leb _ _ (c .before .before .before .before .if4 .left), le-leb _ _ (c .before .before .if5 .left), c .others-apart .ensures, c .before .due-breaks .ensures)
+returns-6 c = rw (← c .before .before .before .before .before .before .before .before .before .before .before .rows .ensures, lt-ltb _ _ (c .before .before .before .before .before .before .before .before .before .before .if1 .left), eq-eqb _ _ (c .before .before .before .before .before .before .before .before .if2 .left), le-leb _ _ (c .before .before .before .before .before .before .if3 .left), le-leb _ _ (c .before .before .before .before .if4 .left), le-leb _ _ (c .before .before .if5 .left), told-broken (everyBank (λ i. leb (at (c .before .before .before .before .before .before .before .before .before .before .before .before .before .args .d .now) (OTHER + i)) (c .before .before .before .before .before .before .before .before .before .before .before .before .before .args .t) || eqb i (c .before .before .before .before .before .before .before .before .before .before .before .before .before .args .b))) 7 (c .before .others-apart .ensures) (c .if6 .taken))
+
+due-breaks-requires : tie.Need-due-breaks-requires
+due-breaks-requires c κs = search needs
+
+returns-7 : tie.Need-returns-7
+unfolding activeBreaks
+returns-7 c = rw (← c .before .before .before .before .before .before .before .before .before .before .before .before .rows .ensures, lt-ltb _ _ (c .before .before .before .before .before .before .before .before .before .before .before .if1 .left), eq-eqb _ _ (c .before .before .before .before .before .before .before .before .before .if2 .left), le-leb _ _ (c .before .before .before .before .before .before .before .if3 .left), le-leb _ _ (c .before .before .before .before .before .if4 .left), le-leb _ _ (c .before .before .before .if5 .left), told-kept (everyBank (λ i. leb (at (c .before .before .before .before .before .before .before .before .before .before .before .before .before .before .args .d .now) (OTHER + i)) (c .before .before .before .before .before .before .before .before .before .before .before .before .before .before .args .t) || eqb i (c .before .before .before .before .before .before .before .before .before .before .before .before .before .before .args .b))) 6 (c .before .before .others-apart .ensures) (c .before .if6 .left), c .due-breaks .ensures)
 
 pub active-breaks-spec : {M : Type 1} → statement M
 active-breaks-spec =
@@ -91,6 +100,7 @@ active-breaks-spec =
     mul-if5
     element-copy-out-if5
     returns-5
-    due-breaks-requires
     others-apart-requires
-    returns-6)
+    returns-6
+    due-breaks-requires
+    returns-7)

@@ -10,10 +10,10 @@ use Rattle.rules.proofs.all_idle.Statement.{statement}
 use Rattle.rules.proofs.all_idle.Tie as tie
 
 abbrev Inv-banks : tie.InvT-banks
-Inv-banks d rest i₀ i = Passed (λ j. eqb (at d (OPEN + j)) 0) i
+Inv-banks d i₀ i = Passed (λ j. eqb (at d (OPEN + j)) 0) i
 
 abbrev μ-banks : tie.MeasureT-banks
-μ-banks d rest i₀ i = 4 - i
+μ-banks d i₀ i = 4 - i
 
 banks-holds : tie.Need-banks-holds Inv-banks μ-banks
 banks-holds c = none

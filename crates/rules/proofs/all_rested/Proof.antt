@@ -10,10 +10,10 @@ use Rattle.rules.proofs.all_rested.Statement.{statement}
 use Rattle.rules.proofs.all_rested.Tie as tie
 
 abbrev Inv-banks : tie.InvT-banks
-Inv-banks d t rest i₀ i = Passed (λ j. leb (at d (REST + j)) t) i
+Inv-banks d t i₀ i = Passed (λ j. leb (at d (REST + j)) t) i
 
 abbrev μ-banks : tie.MeasureT-banks
-μ-banks d t rest i₀ i = 4 - i
+μ-banks d t i₀ i = 4 - i
 
 banks-holds : tie.Need-banks-holds Inv-banks μ-banks
 banks-holds c = none

@@ -11,10 +11,10 @@ use Rattle.rules.proofs.all_written.Statement.{statement}
 use Rattle.rules.proofs.all_written.Tie as tie
 
 abbrev Inv-banks : tie.InvT-banks
-Inv-banks d t rest i₀ i = Passed (λ j. leb (at d (WRITTEN + j)) t || eqb (at d (OPEN + j)) 0) i
+Inv-banks d t i₀ i = Passed (λ j. leb (at d (WRITTEN + j)) t || eqb (at d (OPEN + j)) 0) i
 
 abbrev μ-banks : tie.MeasureT-banks
-μ-banks d t rest i₀ i = 4 - i
+μ-banks d t i₀ i = 4 - i
 
 banks-holds : tie.Need-banks-holds Inv-banks μ-banks
 banks-holds c = none

@@ -1,62 +1,84 @@
+use mathlib.Core.Bool.{or-true}
+use borrow.Author.Tests.{le-leb, lt-leb, eq-eqb, ne-eqb}
 use Rattle.deadlines.specs.Deadlines.{closeBreaks}
 use borrow.Author.Needs.{needs}
 use Rattle.rules.proofs.close_breaks.Statement.{statement}
 use Rattle.rules.proofs.close_breaks.Tie as tie
 
-due-breaks-requires : tie.Need-due-breaks-requires
-due-breaks-requires c κs = search needs
-
-add-may-close : tie.Need-add-may-close
-add-may-close c = search needs
-
-mul-may-close : tie.Need-mul-may-close
-mul-may-close c = search needs
-
-element-copy-out-may-close : tie.Need-element-copy-out-may-close
-element-copy-out-may-close c = search needs
-
-may-close-requires : tie.Need-may-close-requires
-may-close-requires c κs = search needs
-
-add-may-close-2 : tie.Need-add-may-close-2
-add-may-close-2 c = search needs
-
-mul-may-close-2 : tie.Need-mul-may-close-2
-mul-may-close-2 c = search needs
-
-element-copy-out-may-close-2 : tie.Need-element-copy-out-may-close-2
-element-copy-out-may-close-2 c = search needs
-
-may-close-requires-2 : tie.Need-may-close-requires-2
-may-close-requires-2 c κs = search needs
-
-element-copy-out-past : tie.Need-element-copy-out-past
-element-copy-out-past c = search needs
-
-past-requires : tie.Need-past-requires
-past-requires c κs = search needs
-
-or-else-requires : tie.Need-or-else-requires
-or-else-requires c κs = search needs
+element-copy-out-if1 : tie.Need-element-copy-out-if1
+element-copy-out-if1 c = search needs
 
 returns : tie.Need-returns
 unfolding closeBreaks
-returns c = rw (c .or-else .ensures, c .before .past .ensures, c .before .before .before .may-close2 .ensures, c .before .before .before .before .before .may-close .ensures, c .before .before .before .before .before .before .before .due-breaks .ensures)
+returns c = rw (lt-leb _ _ (c .if1 .taken))
+
+add-if2 : tie.Need-add-if2
+add-if2 c = search needs
+
+mul-if2 : tie.Need-mul-if2
+mul-if2 c = search needs
+
+element-copy-out-if2 : tie.Need-element-copy-out-if2
+element-copy-out-if2 c = search needs
+
+due-breaks-requires : tie.Need-due-breaks-requires
+due-breaks-requires c κs = search needs
+
+returns-2 : tie.Need-returns-2
+unfolding closeBreaks
+returns-2 c = rw (le-leb _ _ (c .before .before .before .if1 .left), eq-eqb _ _ (c .before .if2 .taken), or-true _, or-true _, c .due-breaks .ensures)
+
+add-if3 : tie.Need-add-if3
+add-if3 c = search needs
+
+mul-if3 : tie.Need-mul-if3
+mul-if3 c = search needs
+
+element-copy-out-if3 : tie.Need-element-copy-out-if3
+element-copy-out-if3 c = search needs
+
+returns-3 : tie.Need-returns-3
+unfolding closeBreaks
+returns-3 c = rw (le-leb _ _ (c .before .before .before .before .if1 .left), ne-eqb _ _ (c .before .before .if2 .left), lt-leb _ _ (c .if3 .taken))
+
+add-if4 : tie.Need-add-if4
+add-if4 c = search needs
+
+mul-if4 : tie.Need-mul-if4
+mul-if4 c = search needs
+
+element-copy-out-if4 : tie.Need-element-copy-out-if4
+element-copy-out-if4 c = search needs
+
+returns-4 : tie.Need-returns-4
+unfolding closeBreaks
+returns-4 c = rw (le-leb _ _ (c .before .before .before .before .before .before .if1 .left), ne-eqb _ _ (c .before .before .before .before .if2 .left), le-leb _ _ (c .before .before .if3 .left), lt-leb _ _ (c .if4 .taken))
+
+due-breaks-requires-2 : tie.Need-due-breaks-requires-2
+due-breaks-requires-2 c κs = search needs
+
+returns-5 : tie.Need-returns-5
+unfolding closeBreaks
+returns-5 c = rw (le-leb _ _ (c .before .before .before .before .before .before .before .if1 .left), ne-eqb _ _ (c .before .before .before .before .before .if2 .left), le-leb _ _ (c .before .before .before .if3 .left), le-leb _ _ (c .before .if4 .left), c .due-breaks2 .ensures)
 
 pub close-breaks-spec : {M : Type 1} → statement M
 close-breaks-spec =
     tie.close
     (tie.spec
+    element-copy-out-if1
+    returns
+    add-if2
+    mul-if2
+    element-copy-out-if2
     due-breaks-requires
-    add-may-close
-    mul-may-close
-    element-copy-out-may-close
-    may-close-requires
-    add-may-close-2
-    mul-may-close-2
-    element-copy-out-may-close-2
-    may-close-requires-2
-    element-copy-out-past
-    past-requires
-    or-else-requires
-    returns)
+    returns-2
+    add-if3
+    mul-if3
+    element-copy-out-if3
+    returns-3
+    add-if4
+    mul-if4
+    element-copy-out-if4
+    returns-4
+    due-breaks-requires-2
+    returns-5)

@@ -11,10 +11,10 @@ use Rattle.rules.proofs.others_apart.Statement.{statement}
 use Rattle.rules.proofs.others_apart.Tie as tie
 
 abbrev Inv-banks : tie.InvT-banks
-Inv-banks d t b rest i₀ i = Passed (λ j. leb (at d (OTHER + j)) t || eqb j b) i
+Inv-banks d t b i₀ i = Passed (λ j. leb (at d (OTHER + j)) t || eqb j b) i
 
 abbrev μ-banks : tie.MeasureT-banks
-μ-banks d t b rest i₀ i = 4 - i
+μ-banks d t b i₀ i = 4 - i
 
 banks-holds : tie.Need-banks-holds Inv-banks μ-banks
 banks-holds c = none

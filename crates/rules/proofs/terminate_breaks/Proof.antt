@@ -1,13 +1,22 @@
+use borrow.Author.Tests.{le-leb, lt-leb}
 use Rattle.deadlines.specs.Deadlines.{terminateBreaks}
 use borrow.Author.Needs.{needs}
 use Rattle.rules.proofs.terminate_breaks.Statement.{statement}
 use Rattle.rules.proofs.terminate_breaks.Tie as tie
 
-due-breaks-requires : tie.Need-due-breaks-requires
-due-breaks-requires c κs = search needs
+element-copy-out-if1 : tie.Need-element-copy-out-if1
+element-copy-out-if1 c = search needs
 
-element-copy-out-or-else : tie.Need-element-copy-out-or-else
-element-copy-out-or-else c = search needs
+returns : tie.Need-returns
+unfolding terminateBreaks
+returns c = rw (lt-leb _ _ (c .if1 .taken))
+
+element-copy-out-if2 : tie.Need-element-copy-out-if2
+element-copy-out-if2 c = search needs
+
+returns-2 : tie.Need-returns-2
+unfolding terminateBreaks
+returns-2 c = rw (le-leb _ _ (c .before .before .if1 .left), lt-leb _ _ (c .if2 .taken))
 
 element-copy-out-after : tie.Need-element-copy-out-after
 element-copy-out-after c = search needs
@@ -15,44 +24,31 @@ element-copy-out-after c = search needs
 after-requires : tie.Need-after-requires
 after-requires c κs = search needs
 
-or-else-requires : tie.Need-or-else-requires
-or-else-requires c κs = search needs
+element-copy-out-if3 : tie.Need-element-copy-out-if3
+element-copy-out-if3 c = search needs
 
-element-copy-out-past : tie.Need-element-copy-out-past
-element-copy-out-past c = search needs
-
-past-requires : tie.Need-past-requires
-past-requires c κs = search needs
-
-or-else-requires-2 : tie.Need-or-else-requires-2
-or-else-requires-2 c κs = search needs
-
-element-copy-out-past-2 : tie.Need-element-copy-out-past-2
-element-copy-out-past-2 c = search needs
-
-past-requires-2 : tie.Need-past-requires-2
-past-requires-2 c κs = search needs
-
-or-else-requires-3 : tie.Need-or-else-requires-3
-or-else-requires-3 c κs = search needs
-
-returns : tie.Need-returns
+returns-3 : tie.Need-returns-3
 unfolding terminateBreaks
-returns c = rw (c .or-else3 .ensures, c .before .past2 .ensures, c .before .before .before .or-else2 .ensures, c .before .before .before .before .past .ensures, c .before .before .before .before .before .before .or-else .ensures, c .before .before .before .before .before .before .before .after .ensures, c .before .before .before .before .before .before .before .before .before .before .due-breaks .ensures)
+returns-3 c = rw (le-leb _ _ (c .before .before .before .before .before .before .if1 .left), le-leb _ _ (c .before .before .before .before .if2 .left), ← c .before .before .after .ensures, lt-leb _ _ (c .if3 .taken))
+
+due-breaks-requires : tie.Need-due-breaks-requires
+due-breaks-requires c κs = search needs
+
+returns-4 : tie.Need-returns-4
+unfolding terminateBreaks
+returns-4 c = rw (le-leb _ _ (c .before .before .before .before .before .before .before .if1 .left), le-leb _ _ (c .before .before .before .before .before .if2 .left), ← c .before .before .before .after .ensures, le-leb _ _ (c .before .if3 .left), c .due-breaks .ensures)
 
 pub terminate-breaks-spec : {M : Type 1} → statement M
 terminate-breaks-spec =
     tie.close
     (tie.spec
-    due-breaks-requires
-    element-copy-out-or-else
+    element-copy-out-if1
+    returns
+    element-copy-out-if2
+    returns-2
     element-copy-out-after
     after-requires
-    or-else-requires
-    element-copy-out-past
-    past-requires
-    or-else-requires-2
-    element-copy-out-past-2
-    past-requires-2
-    or-else-requires-3
-    returns)
+    element-copy-out-if3
+    returns-3
+    due-breaks-requires
+    returns-4)
