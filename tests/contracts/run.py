@@ -1,6 +1,7 @@
 #!/usr/bin/env python3
 """Every public function of every library crate has its law in crates/demands/proofs/Settled.antt, and the law speaks of
-its result and of every buffer lent to it. The exceptions are those that docs/PROMISES.md names."""
+its result and of every buffer lent to it. The exceptions are those that docs/PROMISES.md names; a crate that reads and
+writes (`io` in crates.txt) answers about the world and has none."""
 import os
 import re
 import sys
@@ -14,9 +15,17 @@ UNSETTLED = {("judge", "walk"): ["d", "pace"]}
 FUNCTION = re.compile(r"^pub (?:extern \"C\" )?fn (\w+)\(([^)]*)\)( ->)?", re.M)
 
 
+def crates():
+    with open(os.path.join(ROOT, "crates.txt"), encoding="utf-8") as file:
+        for line in file:
+            crate, needs = line.split(":")
+            if "io" not in needs.split():
+                yield crate
+
+
 def functions():
     """(crate, name, parameters, whether it answers)"""
-    for crate in sorted(os.listdir(os.path.join(ROOT, "crates"))):
+    for crate in crates():
         folder = os.path.join(ROOT, "crates", crate, "src")
         if not os.path.exists(os.path.join(folder, "lib.rt")):
             continue

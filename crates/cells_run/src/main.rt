@@ -1,9 +1,9 @@
 // Cells of small captures: case k of document 01 ("01" below), refusals 8 and 7, and every row of the published burst
 // tables, written as the tables have it: length, starting column, type, order of the columns.
 use cells::Listed;
+use console::print;
+use console::say;
 ghost use Prim.Native.Nat.{_≤_};
-
-const STDOUT: i32 = 1;
 
 // The settings of 01's cases; the mode word is setting 3, at byte 36.
 const SETTINGS: [u32; 14] = [1, 13, 10, 0x32, 3, 3, 7, 10, 2, 3, 1, 12, 2, 1000];
@@ -62,14 +62,6 @@ fn store_capture(capture: &mut [u8], total: u32, n: u32, mode: u32, cycle: u32, 
 }
 
 // ---- lines
-
-fn say(text: &[u8]) {
-    io::write_all(STDOUT, text);
-}
-
-fn print(n: u32) {
-    io::print_decimal(STDOUT, n as u64);
-}
 
 // The first n elements of a list, or all that it has, with a space between any two.
 fn print_list(list: &[u32], n: u32) {

@@ -2,10 +2,11 @@
 // table of refusals gives it, or 0 and 0 where it is accepted. A line is written for each: what was tried and what was
 // answered, and "WRONG" where 01 says otherwise.
 use capture::Opened;
+use console::print;
+use console::say;
+use libc::STDOUT_FILENO;
 use settings::Checked;
 ghost use Prim.Native.Nat.{_<_};
-
-const STDOUT: i32 = 1;
 
 // Where words of a capture stand.
 const TOTAL: u32 = 0;
@@ -132,42 +133,38 @@ fn opened(size: u32, at: u32, word: u32, other: u32, second: u32) -> Answer {
 
 // ---- lines
 
-fn print(n: u32) {
-    io::print_decimal(STDOUT, n as u64);
-}
-
 fn print_change(at: u32, word: u32) {
     if at == NOWHERE {
         return;
     }
-    io::write_all(STDOUT, b", byte ");
+    say(b", byte ");
     print(at);
-    io::write_all(STDOUT, b" word ");
+    say(b" word ");
     print(word);
 }
 
 fn print_answer(got: Answer, number: u32, place: u32) {
     if got.0 == 0 {
-        io::write_all(STDOUT, b"accepted");
+        say(b"accepted");
     } else {
-        io::write_all(STDOUT, b"refused ");
+        say(b"refused ");
         print(got.0);
-        io::write_all(STDOUT, b" place ");
+        say(b" place ");
         print(got.1);
     }
     if got.0 != number || got.1 != place {
-        io::write_all(STDOUT, b" WRONG");
+        say(b" WRONG");
     }
 }
 
 fn twice_changed(size: u32, at: u32, word: u32, other: u32, second: u32, number: u32, place: u32) {
     print(size);
-    io::write_all(STDOUT, b" bytes");
+    say(b" bytes");
     print_change(at, word);
     print_change(other, second);
-    io::write_all(STDOUT, b": ");
+    say(b": ");
     print_answer(opened(size, at, word, other, second), number, place);
-    io::write_all(STDOUT, b"\n");
+    say(b"\n");
 }
 
 fn changed(size: u32, at: u32, word: u32, number: u32, place: u32) {
@@ -299,15 +296,15 @@ fn checked(i: u32, word: u32) -> Answer
 fn setting(i: u32, word: u32, number: u32, place: u32)
     requires { ⌜ i < 14 ⌝ }
 {
-    io::write_all(STDOUT, b"setting ");
+    say(b"setting ");
     print(i);
-    io::write_all(STDOUT, b" is ");
+    say(b" is ");
     print(word);
-    io::write_all(STDOUT, b": list ");
+    say(b": list ");
     print_answer(checked(i, word), number, place);
-    io::write_all(STDOUT, b", capture ");
+    say(b", capture ");
     print_answer(opened(104, LANE + 4 * i, word, NOWHERE, 0), number, place);
-    io::write_all(STDOUT, b"\n");
+    say(b"\n");
 }
 
 // At the limits of a row and on either side of them.
@@ -371,11 +368,11 @@ fn mode_range() {
 // ---- refusal 2 of a list: "a settings list not of 14 words", before refusal 3
 
 fn list(words: &[u32], number: u32, place: u32) {
-    io::write_all(STDOUT, b"list of ");
-    io::print_decimal(STDOUT, words.len() as u64);
-    io::write_all(STDOUT, b" zeros: ");
+    say(b"list of ");
+    io::print_decimal(STDOUT_FILENO, words.len() as u64);
+    say(b" zeros: ");
     print_answer(of_checked(settings::check(words)), number, place);
-    io::write_all(STDOUT, b"\n");
+    say(b"\n");
 }
 
 fn lists() {

@@ -1,6 +1,6 @@
 // What a broken rule asks, in a sentence with the settings that it looks at.
-use crate::text::say;
-use crate::text::say_number;
+use console::say;
+use console::say_number;
 
 fn ask(before: &[u8], setting: u32, after: &[u8]) {
     say_number(before, setting);

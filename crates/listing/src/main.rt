@@ -2,14 +2,14 @@
 // around the broken one. docs/LISTING.md has every line.
 mod asked;
 mod events;
-mod text;
 mod values;
 
+use console::at_end;
+use console::say;
+use console::say_number;
 use judge::Verdict;
 use libc::STDERR_FILENO;
 use libc::STDIN_FILENO;
-use text::say;
-use text::say_number;
 
 // One byte more than the longest capture, so that a longer input is seen to be too long and nothing is judged in part.
 const ROOM: usize = 64_081;
@@ -63,13 +63,6 @@ fn list(capture: &[u8]) {
             asked::print_rule(&settings, rule);
         }
     }
-}
-
-// A read that fails is no end of the input. `read_full` stops at either; a further read tells them apart, and what it
-// still finds was not judged with the rest.
-fn at_end() -> bool {
-    let mut byte = [0u8; 1];
-    libc::read(STDIN_FILENO, &mut byte) == 0
 }
 
 fn main() {

@@ -1,7 +1,7 @@
 // The lines of the settings.
-use crate::text::say;
-use crate::text::say_number;
-use crate::text::say_word;
+use console::say;
+use console::say_number;
+use console::say_word;
 ghost use mathlib.Core.Path.{_≡_};
 ghost use Rattle.reading.specs.Mode.{BL, interleaved as isInterleaved, CL};
 

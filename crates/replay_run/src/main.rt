@@ -11,9 +11,8 @@
 // Lane code 1, two lanes, every cell ccdd at first: the low halves, where bits 0 and 1 of the mask decide. So cell 1 becomes
 // cc54, cell 2 becomes 6314, cell 3 becomes 7374, and cell 0 stays cc34.
 use cells::Listed;
+use console::say;
 use schedule::Scheduled;
-
-const STDOUT: i32 = 1;
 
 const REQUESTS: [u32; 4] = [0x8000_0002, 1, 0x8000_0001, 0];
 
@@ -41,18 +40,14 @@ const MASKS: [u32; 8] = [
 
 // ---- lines
 
-fn say(text: &[u8]) {
-    io::write_all(STDOUT, text);
-}
-
 // With two digits a lane.
 fn print_word(lane_code: u32, word: u32) {
     say(b" ");
     if lane_code == 1 {
-        io::print_hex(STDOUT, word as u64, 4);
+        console::print_word(word, 4);
         return;
     }
-    io::print_hex(STDOUT, word as u64, 8);
+    console::print_word(word, 8);
 }
 
 // ---- the part

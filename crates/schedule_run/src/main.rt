@@ -1,9 +1,9 @@
 // Schedules of small and of the longest lists, each judged by the judge: case m of document 01 ("01" below), and lists
 // whose schedules are worked out beside them, for 01's settings: tRCD 3, tRP 3, tRAS 7, tRC 10, tRFC 12, bursts of 2 pairs.
+use console::print;
+use console::say;
 use judge::Verdict;
 use schedule::Scheduled;
-
-const STDOUT: i32 = 1;
 
 // A request to write, to which the cell is added.
 const WRITE: u32 = 0x8000_0000;
@@ -28,14 +28,6 @@ fn load(capture: &[u8], at: u32) -> u32 {
 }
 
 // ---- lines
-
-fn say(text: &[u8]) {
-    io::write_all(STDOUT, text);
-}
-
-fn print(n: u32) {
-    io::print_decimal(STDOUT, n as u64);
-}
 
 // CS#, RAS#, CAS#, WE#, CS# the lowest.
 fn print_command(pins: u32) {
