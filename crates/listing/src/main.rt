@@ -1,8 +1,6 @@
 // The listing: a capture on standard input; on standard output its settings, what document 01 says of it, and the events
 // around the broken one. docs/LISTING.md has every line.
-mod asked;
 mod events;
-mod values;
 
 use console::at_end;
 use console::say;
@@ -10,6 +8,8 @@ use console::say_number;
 use judge::Verdict;
 use libc::STDERR_FILENO;
 use libc::STDIN_FILENO;
+use wording::asked;
+use wording::values;
 
 // One byte more than the longest capture, so that a longer input is seen to be too long and nothing is judged in part.
 const ROOM: usize = 64_081;

@@ -1,7 +1,7 @@
 use Prim.Native.Nat.{_≤_, _-_}
 use native.Mathlib.Omega.{arith}
-use Rattle.listing.proofs.values.print_settings.Statement.{statement}
-use Rattle.listing.proofs.values.print_settings.Tie as tie
+use Rattle.wording.proofs.values.print_settings.Statement.{statement}
+use Rattle.wording.proofs.values.print_settings.Tie as tie
 
 abbrev Inv-loop : tie.InvT-loop
 Inv-loop settings i₀ i = i ≤ 14

@@ -2,8 +2,8 @@ use Prim.Native.Nat.{_%_}
 use native.Mathlib.Omega.{arith}
 use Rattle.deadlines.proofs.Shifts.{one-shifted}
 use borrow.Author.Needs.{needs}
-use Rattle.listing.proofs.values.burst_length.Statement.{statement}
-use Rattle.listing.proofs.values.burst_length.Tie as tie
+use Rattle.wording.proofs.values.burst_length.Statement.{statement}
+use Rattle.wording.proofs.values.burst_length.Tie as tie
 
 shl-result : tie.Need-shl-result
 shl-result c = search needs

@@ -1,0 +1,3 @@
+// The listing's words for settings and rules (docs/LISTING.md).
+pub mod asked;
+pub mod values;
