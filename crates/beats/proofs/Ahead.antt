@@ -11,12 +11,12 @@ use Rattle.reading.specs.Commands.{commandOf}
 use Rattle.reading.specs.Bursts.{Burst, keep, columnOf, cutBy, beatCell, burstCells}
 use Rattle.reading.specs.Part.{Part, start, burstGiven, burstsAfter, step, run}
 use Rattle.reading.specs.Cells.{burstsOf, cellsOf}
-use Rattle.capture.proofs.Accepted.{cycle-rises}
 use Rattle.part.specs.Steps.{bankOf, addressOf}
 use Rattle.beats.specs.Kept.{Fit, eventsFrom, gives, keptOf}
 use Rattle.beats.specs.Rows.{firstCell, beatCells}
 use Rattle.beats.proofs.Commands.{gives-is}
-use Rattle.beats.proofs.Cut.{Rises, cutByAll, kept-in-the-end}
+use Rattle.beats.proofs.Events.{Rises}
+use Rattle.beats.proofs.Cut.{cutByAll, kept-in-the-end}
 use Rattle.beats.proofs.Storing.{no-cells}
 
 -- the cells of the burst that an event gives; the events behind it are es
@@ -81,17 +81,3 @@ module _ (s : Settings) where
   pub cells-ahead : (es : List Event) → Rises 0 es → cellsOf s (burstsOf s es) ≡ cellsFrom s (start s) es
   unfolding burstsOf cellsOf
   cells-ahead es r = ahead (start s) 0 es r
-
--- ---- the cycles of events that fit
-
-rising : (part : List ℕ) (n : ℕ) → ((i : ℕ) → i < n → eventFits part i ≡ true) → (left i from : ℕ) → i + left ≤ n →
-    (i < n → from ≤ eventAt part i .cycle) → Rises from (map (eventAt part) (count i left))
-rising part n f zero i from l above = tt
-rising part n f (suc left) i from l above = (
-  above (omega arith),
-  rising part n f left (suc i) (suc (eventAt part i .cycle)) (omega arith) (λ m.
-      let e : suc i - 1 ≡ i = omega arith in rw e at (cycle-rises part (suc i) (f (suc i) m) (omega arith))),
-)
-
-pub events-rise : (part : List ℕ) (n : ℕ) → Fit part n → Rises 0 (eventsFrom part n 0)
-events-rise part n z = rising part n (z .events) (n - 0) 0 0 (omega arith) (λ l. zero-le)

@@ -4,7 +4,7 @@ use mathlib.Core.Bool.{Bool, true, false, cond, not, _&&_}
 use mathlib.Core.List.{List, [], _∷_}
 use mathlib.Core.Path.{_≡_, refl, ap, _∙_}
 use native.Mathlib.Omega.{arith}
-use borrow.Author.Tests.{ltb-false, le-ltb}
+use borrow.Author.Tests.{ltb-false, le-ltb, le-leb}
 use lib.Dec.{ltb, eqb}
 use Rattle.reading.specs.Search.{lesser}
 use Rattle.reading.specs.Mode.{h}
@@ -16,12 +16,8 @@ use Rattle.reading.specs.Part.{Part, burstGiven}
 use Rattle.reading.proofs.Cuts.{auto-uncut}
 use Rattle.part.specs.Steps.{codeOf, bankOf, tenOf}
 use Rattle.beats.specs.Kept.{gives, cutsBurst, keptBy, keptAhead, keptOf}
+use Rattle.beats.proofs.Events.{Rises}
 use Rattle.beats.proofs.Commands.{write-is, cuts-is}
-
--- events whose cycles rise, none before `from`
-abbrev pub Rises : ℕ → List Event → Type 0
-Rises from [] = Unit {0}
-Rises from (e ∷ es) = (from ≤ e .cycle) × Rises (suc (e .cycle)) es
 
 -- a burst as the events behind it cut it
 abbrev pub cutByAll : List Event → Burst → Burst
@@ -35,6 +31,22 @@ past-end : (b k end pairs from : ℕ) (es : List Event) → end ≤ from → Ris
 unfolding keptAhead
 past-end b k end pairs from [] l r = refl
 past-end b k end pairs from (e ∷ es) l r = rw (le-ltb (e .cycle) end (omega (arith, r .0)))
+
+-- nor after a cut: it left as many pairs as there were cycles since k
+pub cut-once : (b k end pairs from : ℕ) (es : List Event) → pairs + k ≤ from → Rises from es → keptAhead b k end pairs es ≡ pairs
+unfolding keptAhead
+cut-once b k end pairs from [] l r = refl
+cut-once b k end pairs from (e ∷ es) l r =
+    ap (λ (m : ℕ). cond (ltb (e .cycle) end) (keptAhead b k end m es) pairs) (same (cutsBurst b (e .pins)))
+    ∙ go (ltb (e .cycle) end) (cut-once b k end pairs (suc (e .cycle)) es (omega (arith, r .0)) (r .1))
+  where
+    same : (v : Bool) → cond v (lesser pairs (e .cycle - k)) pairs ≡ pairs
+    same true = rw (le-leb pairs (e .cycle - k) (omega (arith, r .0)))
+    same false = refl
+
+    go : (v : Bool) → keptAhead b k end pairs es ≡ pairs → cond v (keptAhead b k end pairs es) pairs ≡ pairs
+    go true ih = ih
+    go false ih = refl
 
 -- the pins b gave it
 module _ (b : ℕ) (x : Burst) (w : x .writes ≡ eqb (codeOf b) 2) (f : x .bank ≡ bankOf b) (a : x .auto ≡ false) where

@@ -2,7 +2,7 @@
 pub mod Columns
 pub mod Storing
 pub mod Events
-pub mod Looking
 pub mod Commands
 pub mod Cut
+pub mod Looking
 pub mod Ahead

@@ -1,53 +1,67 @@
--- A turn of the look ahead: the pairs in the end are those that the events from j on leave of the pairs so far.
-use Prim.Native.Nat.{ℕ, _+_, _-_, _≤_, _<_}
+-- A turn of the look ahead: as long as nothing cut the burst, the events from j on decide what it keeps.
+use Prim.Native.Nat.{ℕ, suc, _+_, _-_, _≤_, _<_}
 use mathlib.Core.Bool.{Bool, true, false, cond}
 use mathlib.Core.List.{List, [], _∷_}
 use mathlib.Core.Path.{_≡_, refl, sym, ap, _∙_}
 use native.Mathlib.Omega.{arith}
-use borrow.Author.Tests.{lt-ltb, le-ltb, leb-false}
+use borrow.Author.Tests.{lt-ltb, le-ltb, lt-leb, leb-false}
 use lib.Dec.{leb, ltb}
 use Rattle.reading.specs.Search.{lesser}
 use Rattle.reading.specs.Mode.{h}
 use Rattle.reading.specs.Capture.{Event, eventAt}
 use Rattle.part.specs.Steps.{tenOf}
-use Rattle.beats.specs.Kept.{eventsFrom, gives, cutsBurst, keptBy, keptAhead, cutAhead, keptOf}
+use Rattle.beats.specs.Kept.{Fit, eventsFrom, gives, cutsBurst, keptBy, keptAhead, cutAhead, keptOf}
 use Rattle.beats.proofs.Columns.{half-le}
-use Rattle.beats.proofs.Events.{next-event, no-event}
+use Rattle.beats.proofs.Events.{next-event, no-event, rise-behind}
+use Rattle.beats.proofs.Cut.{cut-once}
 
 module _ (part : List ℕ) (n i mode : ℕ) where
   abbrev burst : Event
   burst = eventAt part i
 
-  abbrev left : ℕ → ℕ → ℕ
-  left pairs j = keptAhead (burst .pins) (burst .cycle) (burst .cycle + h mode) pairs (eventsFrom part n j)
+  abbrev kept : ℕ
+  kept = cutAhead mode burst (eventsFrom part n (i + 1))
 
-  pub record Looking (pairs j : ℕ) : Type 0 where
+  abbrev left : ℕ → ℕ
+  left j = keptAhead (burst .pins) (burst .cycle) (burst .cycle + h mode) (h mode) (eventsFrom part n j)
+
+  pub record Looking (j : ℕ) : Type 0 where
     pub behind : i < j
     pub within : j ≤ n
-    pub same : cutAhead mode burst (eventsFrom part n (i + 1)) ≡ left pairs j
+    pub same : kept ≡ left j
 
-  pub begins : {half : ℕ} → i < n → half ≡ h mode → Looking half (i + 1)
-  begins l e = record { behind = omega arith; within = omega arith; same = rw e }
+  pub begins : i < n → Looking (i + 1)
+  begins l = record { behind = omega arith; within = omega arith; same = refl }
 
   -- by what was read of the burst and of the event behind it
-  module _ {pairs j b k half : ℕ} (z : Looking pairs j) (eb : b ≡ burst .pins) (ek : k ≡ burst .cycle) (eh : half ≡ h mode) where
-    pub goes-on : {t pins next : ℕ} → j < n → t ≡ eventAt part j .cycle → pins ≡ eventAt part j .pins → t < k + half →
-        next ≡ cond (cutsBurst b pins) (lesser pairs (t - k)) pairs → Looking next (j + 1)
+  module _ {j b k half : ℕ} (z : Looking j) (eb : b ≡ burst .pins) (ek : k ≡ burst .cycle) (eh : half ≡ h mode)
+      {t : ℕ} (l : j < n) (et : t ≡ eventAt part j .cycle) where
+    pub stops : k + half ≤ t → half ≡ kept
     unfolding keptAhead
-    goes-on {t} {pins} {next} l et ep m e =
-        record {
-          behind = omega (arith, z .behind);
-          within = omega arith;
-          same = z .same ∙ rw (next-event part n j l, ← et, ← ep, ← eb, ← ek, ← eh, lt-ltb t (k + half) m, e);
-        }
+    stops m = sym (z .same ∙ rw (next-event part n j l, ← et, ← ek, ← eh, le-ltb t (k + half) m))
 
-    pub stops : {t : ℕ} → j < n → t ≡ eventAt part j .cycle → k + half ≤ t → pairs ≡ cutAhead mode burst (eventsFrom part n (i + 1))
-    unfolding keptAhead
-    stops {t} l et m = sym (z .same ∙ rw (next-event part n j l, ← et, ← ek, ← eh, le-ltb t (k + half) m))
+    module _ {pins : ℕ} (ep : pins ≡ eventAt part j .pins) (m : t < k + half) where
+      turn : left j ≡ keptAhead b k (k + half) (cond (cutsBurst b pins) (lesser half (t - k)) half) (eventsFrom part n (j + 1))
+      unfolding keptAhead
+      turn = rw (next-event part n j l, ← et, ← ep, ← eb, ← ek, ← eh, lt-ltb t (k + half) m)
 
-  pub ends : {pairs j : ℕ} → Looking pairs j → n ≤ j → pairs ≡ cutAhead mode burst (eventsFrom part n (i + 1))
+      pub goes-on : false ≡ cutsBurst b pins → Looking (j + 1)
+      goes-on f =
+          record {
+            behind = omega (arith, z .behind);
+            within = omega arith;
+            same = z .same ∙ turn ∙ rw (← f, eb, ek, eh);
+          }
+
+      pub cut-short : Fit part n → k ≤ t → true ≡ cutsBurst b pins → t - k ≡ kept
+      cut-short f g y =
+          sym
+          (z .same ∙ turn ∙ rw (← y, lt-leb half (t - k) (omega arith))
+          (cut-once b k (k + half) (t - k) (suc (eventAt part j .cycle)) (eventsFrom part n (j + 1)) (omega (arith, et)) (rise-behind part n f j l)))
+
+  pub ends : {j half : ℕ} → Looking j → half ≡ h mode → n ≤ j → half ≡ kept
   unfolding keptAhead
-  ends {pairs} {j} z l = sym (z .same ∙ rw (no-event part n j l))
+  ends {j} z eh l = eh ∙ sym (z .same ∙ rw (no-event part n j l))
 
 -- no more are kept than there were
 lesser-le : (a b : ℕ) → lesser a b ≤ a
@@ -73,14 +87,17 @@ ahead-le b k end pairs (e ∷ es) = go (ltb (e .cycle) end) (ahead-le b k end (k
     go true ih = omega (arith, ih, by-le b k pairs e)
     go false ih = omega arith
 
-pub kept-le : (mode : ℕ) (e : Event) (es : List Event) → keptOf mode e es ≤ 64
+pub kept-half : (mode : ℕ) (e : Event) (es : List Event) → keptOf mode e es ≤ h mode
 unfolding keptOf
-kept-le mode e es = go (gives (e .pins)) (tenOf (e .pins))
+kept-half mode e es = go (gives (e .pins)) (tenOf (e .pins))
   where
-    go : (v a : Bool) → cond v (cond a (h mode) (cutAhead mode e es)) 0 ≤ 64
-    go true true = half-le mode
-    go true false = omega (arith, half-le mode, ahead-le (e .pins) (e .cycle) (e .cycle + h mode) (h mode) es)
+    go : (v a : Bool) → cond v (cond a (h mode) (cutAhead mode e es)) 0 ≤ h mode
+    go true true = omega arith
+    go true false = ahead-le (e .pins) (e .cycle) (e .cycle + h mode) (h mode) es
     go false a = omega arith
+
+pub kept-le : (mode : ℕ) (e : Event) (es : List Event) → keptOf mode e es ≤ 64
+kept-le mode e es = omega (arith, half-le mode, kept-half mode e es)
 
 -- the pairs of an event, by what was read of its pins
 module _ (mode : ℕ) (e : Event) (es : List Event) {pins : ℕ} (p : pins ≡ e .pins) {given : Bool} (g : given ≡ gives pins) where

@@ -12,7 +12,7 @@ use Rattle.reading.specs.Bursts.{beatColumn}
 use Rattle.words.proofs.Runs.{sets-append}
 use Rattle.beats.specs.Rows.{beatCells}
 
-length-count : (from n : ℕ) → length (count from n) ≡ n
+pub length-count : (from n : ℕ) → length (count from n) ≡ n
 length-count from zero = refl
 length-count from (suc n) = ap suc (length-count (suc from) n)
 

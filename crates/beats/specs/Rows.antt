@@ -1,13 +1,14 @@
--- The cells of a burst in its row, and the row of a bank.
+-- The cells of a burst in its row, and the first cells of the banks' rows.
 use Prim.Native.Nat.{ℕ, _+_, _*_, _%_, _^_, _≤_, _<_}
 use mathlib.Core.Bool.{Bool, cond}
-use mathlib.Core.List.{List, map}
+use mathlib.Core.List.{List, [], _∷_, map}
 use lib.Dec.{eqb}
+use lib.ListN.{set}
 use lib.Bits.{bitXor}
 use Rattle.reading.specs.Search.{count}
 use Rattle.reading.specs.Settings.{Settings}
 use Rattle.reading.specs.Bursts.{beatColumn}
-use Rattle.part.specs.Steps.{codeOf, addressOf}
+use Rattle.part.specs.Steps.{codeOf, bankOf, addressOf}
 
 -- the bits that a part of this kind may have
 pub record Sized (s : Settings) : Type 0 where
@@ -32,6 +33,10 @@ firstCell s bank row = (bank * 2 ^ s .rowBits + row) * 2 ^ s .columnBits
 unfoldable pub beatCells : ℕ → ℕ → ℕ → ℕ → List ℕ
 beatCells first mode column beats = map (λ j. first + beatColumn mode column j) (count 0 beats)
 
--- the row of the pins' bank: ACTIVE opens it on its row
-abbrev pub rowAfter : ℕ → ℕ → ℕ
-rowAfter row w = cond (eqb (codeOf w) 12) (addressOf w) row
+-- those of the four banks, by their rows
+abbrev pub firstCells : Settings → ℕ → ℕ → ℕ → ℕ → List ℕ
+firstCells s a b c d = firstCell s 0 a ∷ firstCell s 1 b ∷ firstCell s 2 c ∷ firstCell s 3 d ∷ []
+
+-- the same after the pins' command: ACTIVE opens its bank on its row
+abbrev pub cellsOpened : Settings → List ℕ → ℕ → List ℕ
+cellsOpened s firsts w = cond (eqb (codeOf w) 12) (set firsts (bankOf w) (firstCell s (bankOf w) (addressOf w))) firsts

@@ -1,17 +1,15 @@
 // Bursts by arithmetic: the columns and cells of their beats, and the pairs that they keep, found by looking ahead.
 ghost use mathlib.Core.Path.{_≡_};
-ghost use mathlib.Core.Bool.{cond};
-ghost use Prim.Native.Nat.{_+_, _*_, _-_, _^_, _%_, _≤_, _<_};
+ghost use Prim.Native.Nat.{_+_, _*_, _^_, _%_, _≤_, _<_};
 ghost use lib.ListN.{length};
 ghost use lib.Seq.{sets};
-ghost use Rattle.reading.specs.Search.{lesser};
-ghost use Rattle.reading.specs.Mode.{BL, h, interleaved};
+ghost use Rattle.reading.specs.Mode.{BL};
 ghost use Rattle.reading.specs.Settings.{settingsOf};
 ghost use Rattle.reading.specs.Capture.{eventAt};
 ghost use Rattle.reading.specs.Bursts.{columnOf, beatColumn};
 ghost use Rattle.part.specs.Steps.{codeOf, bankOf, addressOf, tenOf, modeAfter};
 ghost use Rattle.beats.specs.Kept.{Fit, gives, cutsBurst, eventsFrom, cutAhead, keptOf};
-ghost use Rattle.beats.specs.Rows.{Sized, InRow, placeIn, firstCell, beatCells, rowAfter};
+ghost use Rattle.beats.specs.Rows.{Sized, InRow, placeIn, firstCell, firstCells, cellsOpened, beatCells};
 
 // ---- what the pins of an event ask for
 
@@ -41,7 +39,7 @@ fn ten(pins: u32) -> bool
     pins / 1024 % 2 == 1
 }
 
-fn gives_burst(pins: u32) -> bool
+pub fn gives_burst(pins: u32) -> bool
     ensures { λ r. ⌜ r ≡ gives pins ⌝ }
 {
     let asked = code(pins);
@@ -86,16 +84,6 @@ pub fn mode_after(mode: u32, pins: u32) -> u32
     address(pins)
 }
 
-// ACTIVE opens its bank on its row.
-pub fn row_after(row: u32, pins: u32) -> u32
-    ensures { λ r. ⌜ r ≡ rowAfter row pins ⌝ }
-{
-    if code(pins) == 12 {
-        return address(pins);
-    }
-    row
-}
-
 // ---- columns and cells
 
 // BL of a mode word.
@@ -131,6 +119,31 @@ pub fn first_cell(s: &[u32; 14], bank: u32, row: u32) -> u32
     ensures { λ r. ⌜ r ≡ firstCell (settingsOf (now (s .entry))) bank row ⌝ }
 {
     (bank * power(s[1]) + row) * power(s[2])
+}
+
+// The first cell of each bank's row, before any ACTIVE.
+pub fn first_cells(s: &[u32; 14]) -> [u32; 4]
+    requires { ⌜ Sized (settingsOf (now s)) ⌝ }
+    ensures { λ r. ⌜ r ≡ firstCells (settingsOf (now (s .entry))) 0 0 0 0 ⌝ }
+{
+    let zeroth = first_cell(s, 0, 0);
+    let first = first_cell(s, 1, 0);
+    let second = first_cell(s, 2, 0);
+    let third = first_cell(s, 3, 0);
+    [zeroth, first, second, third]
+}
+
+// ACTIVE opens its bank on its row.
+pub fn open_row(s: &[u32; 14], firsts: &mut [u32; 4], pins: u32)
+    requires { ⌜ Sized (settingsOf (now s)) ⌝ }
+    ensures { λ _. ⌜ now (firsts .exit) ≡ cellsOpened (settingsOf (now (s .entry))) (now (firsts .entry)) pins ⌝ }
+{
+    if code(pins) != 12 {
+        return;
+    }
+    let bank = bank(pins);
+    let row = address(pins);
+    firsts[bank as usize] = first_cell(s, bank, row);
 }
 
 // The place of a beat in its block.
@@ -171,24 +184,8 @@ pub fn write_burst(out: &mut [u32], at: usize, first: u32, mode: u32, column: u3
 
 // ---- kept pairs
 
-fn lesser_of(a: u32, b: u32) -> u32
-    ensures { λ r. ⌜ r ≡ lesser a b ⌝ }
-{
-    if a <= b { a } else { b }
-}
-
-// The pairs that an event at t leaves to a burst given at k.
-fn kept_by(burst: u32, k: u32, pairs: u32, t: u32, pins: u32) -> u32
-    requires { ⌜ k ≤ t ⌝ }
-    ensures { λ r. ⌜ r ≡ cond (cutsBurst burst pins) (lesser pairs (t - k)) pairs ⌝ }
-{
-    if cuts_burst(burst, pins) {
-        return lesser_of(pairs, t - k);
-    }
-    pairs
-}
-
-// The pairs of the burst at event i, after all later events that can cut it: those before k + h.
+// The pairs of the burst at event i, by the events that can cut it: those before k + h. Cycles rise, so the first event
+// that cuts it leaves it the fewest pairs.
 fn look_ahead(part: &[u8], n: u32, i: u32, mode: u32) -> u32
     requires { ⌜ Fit (now part) n × (i < n) ⌝ }
     ensures { λ r. ⌜ r ≡ cutAhead mode (eventAt (now (part .entry)) i) (eventsFrom (now (part .entry)) n (i + 1)) ⌝ }
@@ -196,20 +193,22 @@ fn look_ahead(part: &[u8], n: u32, i: u32, mode: u32) -> u32
     let at = i as usize;
     let burst = capture::pins_at(part, at);
     let k = capture::cycle_at(part, at);
-    let mut pairs = length_of(mode) / 2;
-    let end = k + pairs;
+    let half = length_of(mode) / 2;
+    let end = k + half;
     let mut j = i + 1;
     'later: while j < n {
         let behind = j as usize;
         let t = capture::cycle_at(part, behind);
         if end <= t {
-            return pairs;
+            return half;
         }
         let pins = capture::pins_at(part, behind);
-        pairs = kept_by(burst, k, pairs, t, pins);
+        if cuts_burst(burst, pins) {
+            return t - k;
+        }
         j += 1;
     }
-    pairs
+    half
 }
 
 // The pairs that the burst of event i keeps in the end; none if the event gives no burst.

@@ -13,11 +13,11 @@ use Rattle.reading.specs.Part.{Part, start, step}
 use Rattle.part.specs.Steps.{modeAfter}
 use Rattle.beats.specs.Kept as kept
 use Rattle.beats.specs.Kept.{eventsFrom, keptOf}
-use Rattle.beats.proofs.Events.{next-event, no-event}
+use Rattle.beats.proofs.Events.{next-event, no-event, events-rise}
 use Rattle.beats.proofs.Looking.{kept-le}
 use Rattle.beats.proofs.Commands.{mode-is}
 use Rattle.beats.proofs.Storing.{length-cells}
-use Rattle.beats.proofs.Ahead.{eventCells, cellsFrom, cells-ahead, events-rise}
+use Rattle.beats.proofs.Ahead.{eventCells, cellsFrom, cells-ahead}
 use Rattle.cells.specs.Meaning.{Listable, cellsOn}
 
 module _ (settings part : List ℕ) (n : ℕ) where

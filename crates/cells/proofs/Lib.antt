@@ -1,6 +1,7 @@
 -- Laws of the burst list: its walks over the events, and the way from a capture's bytes to them.
 pub mod Clean
 pub mod Counting
+pub mod Room
 pub mod Rows
 pub mod Writing
 pub mod Listing

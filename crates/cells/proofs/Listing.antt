@@ -1,11 +1,13 @@
 -- From a capture's bytes to the answer and the buffer.
 use Prim.Native.Nat.{ℕ, _+_, _≤_, _<_}
+use mathlib.Core.Bool.{Bool, true, false, cond}
 use mathlib.Core.List.{List, _++_}
-use mathlib.Core.Option.{Option}
+use mathlib.Core.Option.{Option, none, some}
 use mathlib.Core.Path.{_≡_, refl, sym, ap, _∙_}
 use native.Mathlib.Nat.{zero-add}
 use native.Mathlib.Omega.{arith}
-use borrow.Author.Tests.{lt-ltb, le-ltb}
+use borrow.Author.Tests.{ltb-false}
+use lib.Dec.{ltb}
 use lib.ListN.{length, getD, drop}
 use lib.Seq.{sets, sets-eq}
 use Rattle.reading.specs.Settings.{Settings, settingsOf}
@@ -15,14 +17,14 @@ use Rattle.reading.specs.Answers.{Answer, refused, answered, unless, accepted, 
 use Rattle.words.specs.declared.Found.{Found}
 use Rattle.words.specs.declared.Found.the-variants.{Nothing, At}
 use Rattle.words.specs.Found.{placeOf}
-use Rattle.settings.proofs.Fitting.{at-most}
+use Rattle.settings.proofs.Fitting.{at-most, mode-valid}
 use Rattle.capture.specs.declared.Opened.{Opened}
 use Rattle.capture.specs.declared.Opened.the-variants.{Accepted, Length, Header, Setting, Event}
 use Rattle.capture.specs.Meaning as capture
 use Rattle.capture.proofs.Accepted.{Sound, accepted-sound, accepted-rest, refused-rest}
 use Rattle.judge.specs.Meaning.{eventsIn}
 use Rattle.judge.proofs.Judging as judging
-use Rattle.cells.specs.Meaning.{means, refusing, Listable, cellsOn, listing}
+use Rattle.cells.specs.Meaning.{means, refusing, Listable, cellsOn, lackingIn, listing}
 
 -- an answer and what stands in the buffer are those of an outcome
 abbrev pub Meets : Answer ℕ → List ℕ → Outcome → Type 0
@@ -41,20 +43,36 @@ module _ (s : Settings) (part : List ℕ) (n : ℕ) (buffer : List ℕ) (found :
   pub not-clean : {i : ℕ} → found ≡ At i → Meets (refused 8 i) buffer (listing s part n buffer)
   not-clean e = meets (judged (ap placeOf e))
 
-  module _ (e : found ≡ Nothing) {cells : ℕ} (c : cells ≡ length (cellsOn s part n)) where
-    pub too-short : length buffer < cells → Meets (refused 7 cells) buffer (listing s part n buffer)
-    too-short l = meets (judged (ap placeOf e) ∙ rw (← c, lt-ltb (length buffer) cells l))
+  module _ (e : found ≡ Nothing) where
+    pub none-broken : notClean (verdictOf s (eventsIn part n)) ≡ none
+    none-broken = sym f ∙ ap placeOf e
 
-    pub listed : {out : List ℕ} → cells ≤ length buffer → out ≡ sets buffer 0 (cellsOn s part n) → Meets (answered cells) out (listing s part n buffer)
-    listed {out} l w =
-        meets
-        (judged (ap placeOf e) ∙ rw (le-ltb (length buffer) (length (cellsOn s part n)) (omega (arith, c)), ← c)
-        (ap (λ (xs : List ℕ). record { answer = answered cells; buffer = xs }) (sym (w ∙ whole))))
-      where
-        whole : sets buffer 0 (cellsOn s part n) ≡ cellsOn s part n ++ drop cells buffer
-        whole =
-            sets-eq (cellsOn s part n) buffer 0 (omega (arith, c))
-            ∙ ap (λ (k : ℕ). cellsOn s part n ++ drop k buffer) (zero-add (length (cellsOn s part n)) ∙ sym c)
+    abbrev total : ℕ
+    total = length (cellsOn s part n)
+
+    module _ (short : Found) (l : placeOf short ≡ lackingIn (length buffer) total) where
+      room-told : {o : Option ℕ} → placeOf short ≡ o → listing s part n buffer ≡ leaves (unless 7 o (answered (cellsOn s part n))) buffer
+      room-told g = judged (ap placeOf e) ∙ ap (λ (o : Option ℕ). leaves (unless 7 o (answered (cellsOn s part n))) buffer) (sym l ∙ g)
+
+      pub too-short : {cells : ℕ} → short ≡ At cells → Meets (refused 7 cells) buffer (listing s part n buffer)
+      too-short g = meets (room-told (ap placeOf g))
+
+      pub fits : short ≡ Nothing → total ≤ length buffer
+      fits g = go (ltb (length buffer) total) refl (sym (ap placeOf g) ∙ l)
+        where
+          go : (v : Bool) → ltb (length buffer) total ≡ v → none ≡ cond v (some total) none → total ≤ length buffer
+          go true k m = let z : _≡_ {A = ℕ} 0 1 = cc in absurd (omega arith)
+          go false k m = ltb-false (length buffer) total k
+
+      pub listed : {cells : ℕ} {out : List ℕ} → short ≡ Nothing → cells ≡ total → out ≡ sets buffer 0 (cellsOn s part n) →
+          Meets (answered cells) out (listing s part n buffer)
+      listed {cells} {out} g c w =
+          meets (room-told (ap placeOf g) ∙ rw (← c) (ap (λ (xs : List ℕ). record { answer = answered cells; buffer = xs }) (sym (w ∙ whole))))
+        where
+          whole : sets buffer 0 (cellsOn s part n) ≡ cellsOn s part n ++ drop cells buffer
+          whole =
+              sets-eq (cellsOn s part n) buffer 0 (omega (arith, fits g))
+              ∙ ap (λ (k : ℕ). cellsOn s part n ++ drop k buffer) (zero-add total ∙ sym c)
 
 -- ---- the capture
 
@@ -100,6 +118,7 @@ module _ (c : List ℕ) (buffer : List ℕ) (o : Opened) (opened : capture.means
                 rows = at-most 1 (getD (settingWords c) 1 0) (sound .settings 1 (omega arith));
                 columns = at-most 2 (getD (settingWords c) 2 0) (sound .settings 2 (omega arith));
               });
+          moded = rw e (mode-valid (getD (settingWords c) 3 0) (sound .settings 3 (omega arith)));
         }
 
     pub listed-so : {a : Answer ℕ} {out : List ℕ} → Meets a out (listing (settingsOf settings) part n buffer) → Meets a out (cellsOutcome c buffer)

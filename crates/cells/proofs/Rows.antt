@@ -1,27 +1,45 @@
--- The rows of the four banks, kept in a list.
+-- The first cells of the four banks' rows, kept in a list.
 use Prim.Native.Nat.{ℕ, zero, suc, _<_}
-use mathlib.Core.Bool.{Bool, true, false, cond, _&&_}
+use mathlib.Core.Bool.{Bool, true, false, cond, _&&_, _||_}
 use mathlib.Core.List.{List, [], _∷_}
 use mathlib.Core.Path.{_≡_, refl, sym, ap, _∙_}
 use native.Mathlib.Omega.{arith}
+use borrow.Author.Tests.{eqb-true}
 use lib.Dec.{eqb}
 use lib.ListN.{getD, set}
 use Rattle.reading.specs.Settings.{Settings}
 use Rattle.reading.specs.Capture.{Event}
 use Rattle.reading.specs.Part.{Part, step}
-use Rattle.part.specs.Steps.{codeOf, bankOf, addressOf}
-use Rattle.beats.specs.Rows.{rowAfter}
+use Rattle.part.specs.Steps.{codeOf, bankOf, addressOf, modeAfter}
+use Rattle.beats.specs.Kept.{gives}
+use Rattle.beats.specs.Rows.{firstCell, firstCells, cellsOpened}
 use Rattle.beats.proofs.Commands.{row-is}
 
-abbrev pub rowsOf : Part → List ℕ
-rowsOf p = p .banks 0 .row ∷ p .banks 1 .row ∷ p .banks 2 .row ∷ p .banks 3 .row ∷ []
+abbrev pub firstsOf : Settings → Part → List ℕ
+firstsOf s p = firstCells s (p .banks 0 .row) (p .banks 1 .row) (p .banks 2 .row) (p .banks 3 .row)
 
-pub row-at : (p : Part) (b : ℕ) → b < 4 → getD (rowsOf p) b 0 ≡ p .banks b .row
-row-at p zero l = refl
-row-at p (suc zero) l = refl
-row-at p (suc (suc zero)) l = refl
-row-at p (suc (suc (suc zero))) l = refl
-row-at p (suc (suc (suc (suc b)))) l = absurd (omega arith)
+pub first-at : (s : Settings) (p : Part) (b : ℕ) → b < 4 → getD (firstsOf s p) b 0 ≡ firstCell s b (p .banks b .row)
+first-at s p zero l = refl
+first-at s p (suc zero) l = refl
+first-at s p (suc (suc zero)) l = refl
+first-at s p (suc (suc (suc zero))) l = refl
+first-at s p (suc (suc (suc (suc b)))) l = absurd (omega arith)
+
+-- READ and WRITE are neither ACTIVE nor MODE REGISTER SET
+module _ (w : ℕ) (g : gives w ≡ true) where
+  other-code : (eqb (codeOf w) 12 ≡ false) × (eqb (codeOf w) 0 ≡ false)
+  other-code = go (codeOf w) (eqb (codeOf w) 10) refl g
+    where
+      go : (q : ℕ) (v : Bool) → eqb q 10 ≡ v → (v || eqb q 2) ≡ true → (eqb q 12 ≡ false) × (eqb q 0 ≡ false)
+      go q true e f = let z = eqb-true q 10 e in (rw z, rw z)
+      go q false e f = let z = eqb-true q 2 f in (rw z, rw z)
+
+  pub none-opened : (s : Settings) (firsts : List ℕ) → firsts ≡ cellsOpened s firsts w
+  none-opened s firsts = rw (other-code .0)
+
+  pub mode-stays : (mode : ℕ) → mode ≡ modeAfter mode w
+  unfolding modeAfter
+  mode-stays mode = rw (other-code .1)
 
 module _ (s : Settings) (p : Part) (e : Event) where
   abbrev opens : Bool
@@ -30,37 +48,31 @@ module _ (s : Settings) (p : Part) (e : Event) where
   abbrev next : Part
   next = step s p e
 
-  -- its own bank, and another
-  own : (b : ℕ) → eqb b (bankOf (e .pins)) ≡ true → next .banks b .row ≡ rowAfter (p .banks b .row) (e .pins)
-  own b f = row-is s p e b ∙ ap (λ (v : Bool). cond (opens && v) (addressOf (e .pins)) (p .banks b .row)) f ∙ go opens
-    where
-      go : (v : Bool) → cond (v && true) (addressOf (e .pins)) (p .banks b .row) ≡ cond v (addressOf (e .pins)) (p .banks b .row)
-      go true = refl
-      go false = refl
+  row-by : (v u : Bool) (b : ℕ) → opens ≡ v → eqb b (bankOf (e .pins)) ≡ u → next .banks b .row ≡ cond (v && u) (addressOf (e .pins)) (p .banks b .row)
+  row-by v u b f g = row-is s p e b ∙ rw (f, g)
 
-  other : (b : ℕ) → eqb b (bankOf (e .pins)) ≡ false → next .banks b .row ≡ p .banks b .row
-  other b f = row-is s p e b ∙ ap (λ (v : Bool). cond (opens && v) (addressOf (e .pins)) (p .banks b .row)) f ∙ go opens
+  pub firsts-after : cellsOpened s (firstsOf s p) (e .pins) ≡ firstsOf s next
+  firsts-after = go opens refl
     where
-      go : (v : Bool) → cond (v && false) (addressOf (e .pins)) (p .banks b .row) ≡ p .banks b .row
-      go true = refl
-      go false = refl
+      stays : opens ≡ false → (b : ℕ) → next .banks b .row ≡ p .banks b .row
+      stays f b = row-by false (eqb b (bankOf (e .pins))) b f refl
 
-  pub rows-after : set (rowsOf p) (bankOf (e .pins)) (rowAfter (p .banks (bankOf (e .pins)) .row) (e .pins)) ≡ rowsOf next
-  rows-after = go (bankOf (e .pins)) refl (omega arith)
-    where
-      test : (b k : ℕ) → bankOf (e .pins) ≡ b → (v : Bool) → eqb k b ≡ v → eqb k (bankOf (e .pins)) ≡ v
-      test b k f v g = ap (eqb k) f ∙ g
+      own : opens ≡ true → (b : ℕ) → bankOf (e .pins) ≡ b → (k : ℕ) → eqb k b ≡ true → next .banks k .row ≡ addressOf (e .pins)
+      own f b g k h = row-by true true k f (ap (eqb k) g ∙ h)
 
-      go : (b : ℕ) → bankOf (e .pins) ≡ b → b < 4 → set (rowsOf p) b (rowAfter (p .banks b .row) (e .pins)) ≡ rowsOf next
-      go zero f l =
-          sym (λ i. own 0 (test 0 0 f true refl) i ∷ other 1 (test 0 1 f false refl) i ∷ other 2 (test 0 2 f false refl) i ∷ other 3 (test 0 3 f false refl) i ∷ [])
-      go (suc zero) f l =
-          sym (λ i. other 0 (test 1 0 f false refl) i ∷ own 1 (test 1 1 f true refl) i ∷ other 2 (test 1 2 f false refl) i ∷ other 3 (test 1 3 f false refl) i ∷ [])
-      go (suc (suc zero)) f l =
-          sym (λ i. other 0 (test 2 0 f false refl) i ∷ other 1 (test 2 1 f false refl) i ∷ own 2 (test 2 2 f true refl) i ∷ other 3 (test 2 3 f false refl) i ∷ [])
-      go (suc (suc (suc zero))) f l =
-          sym (λ i. other 0 (test 3 0 f false refl) i ∷ other 1 (test 3 1 f false refl) i ∷ other 2 (test 3 2 f false refl) i ∷ own 3 (test 3 3 f true refl) i ∷ [])
-      go (suc (suc (suc (suc b)))) f l = absurd (omega arith)
+      other : opens ≡ true → (b : ℕ) → bankOf (e .pins) ≡ b → (k : ℕ) → eqb k b ≡ false → next .banks k .row ≡ p .banks k .row
+      other f b g k h = row-by true false k f (ap (eqb k) g ∙ h)
+
+      opened : opens ≡ true → (b : ℕ) → bankOf (e .pins) ≡ b → b < 4 → set (firstsOf s p) b (firstCell s b (addressOf (e .pins))) ≡ firstsOf s next
+      opened f zero g l = sym (λ i. firstCells s (own f 0 g 0 refl i) (other f 0 g 1 refl i) (other f 0 g 2 refl i) (other f 0 g 3 refl i))
+      opened f (suc zero) g l = sym (λ i. firstCells s (other f 1 g 0 refl i) (own f 1 g 1 refl i) (other f 1 g 2 refl i) (other f 1 g 3 refl i))
+      opened f (suc (suc zero)) g l = sym (λ i. firstCells s (other f 2 g 0 refl i) (other f 2 g 1 refl i) (own f 2 g 2 refl i) (other f 2 g 3 refl i))
+      opened f (suc (suc (suc zero))) g l = sym (λ i. firstCells s (other f 3 g 0 refl i) (other f 3 g 1 refl i) (other f 3 g 2 refl i) (own f 3 g 3 refl i))
+      opened f (suc (suc (suc (suc b)))) g l = absurd (omega arith)
+
+      go : (v : Bool) → opens ≡ v → cond v (set (firstsOf s p) (bankOf (e .pins)) (firstCell s (bankOf (e .pins)) (addressOf (e .pins)))) (firstsOf s p) ≡ firstsOf s next
+      go true f = opened f (bankOf (e .pins)) refl (omega arith)
+      go false f = sym (λ i. firstCells s (stays f 0 i) (stays f 1 i) (stays f 2 i) (stays f 3 i))
 
   -- a row is what fourteen pins can say
   pub low-after : ((b : ℕ) → p .banks b .row < 16384) → (b : ℕ) → next .banks b .row < 16384

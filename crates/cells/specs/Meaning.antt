@@ -1,6 +1,12 @@
 -- What this crate's answers mean in document 01, and what is known of the captures whose cells are listed.
 use Prim.Native.Nat.{ℕ}
+use mathlib.Core.Bool.{true}
 use mathlib.Core.List.{List}
+use mathlib.Core.Option.{Option}
+use mathlib.Core.Path.{_≡_}
+use lib.Dec.{ltb}
+use Rattle.reading.specs.Search.{given}
+use Rattle.reading.specs.Mode.{modeWord}
 use Rattle.reading.specs.Settings.{Settings, settingsOf}
 use Rattle.reading.specs.Verdict.{verdictOf}
 use Rattle.reading.specs.Cells.{burstsOf, cellsOf}
@@ -29,10 +35,15 @@ refusing (Event i) = Refused 4 i
 pub record Listable (settings part : List ℕ) (n : ℕ) : Type 0 where
   pub fit : Fit settings part n
   pub sized : Sized (settingsOf settings)
+  pub moded : modeWord (settingsOf settings .mode) ≡ true
 
 -- the cells of the first n events' bursts
 unfoldable pub cellsOn : Settings → List ℕ → ℕ → List ℕ
 cellsOn s part n = cellsOf s (burstsOf s (eventsIn part n))
+
+-- the cells that are needed, where there is room for fewer
+abbrev pub lackingIn : ℕ → ℕ → Option ℕ
+lackingIn room cells = given cells (ltb room cells)
 
 -- refusals 8 and 7, and what is left in the buffer
 unfoldable pub listing : Settings → List ℕ → ℕ → List ℕ → Outcome

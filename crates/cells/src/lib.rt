@@ -5,6 +5,7 @@ use deadlines::sums;
 use judge::Verdict;
 use words::Found;
 ghost use mathlib.Core.Path.{_≡_};
+ghost use mathlib.Core.Option.{none};
 ghost use Prim.Native.Nat.{_≤_};
 ghost use lib.ListN.{length};
 ghost use lib.Seq.{sets};
@@ -13,7 +14,7 @@ ghost use Rattle.reading.specs.Settings.{settingsOf};
 ghost use Rattle.reading.specs.Verdict.{verdictOf};
 ghost use Rattle.reading.specs.Answers.{cellsOutcome, notClean};
 ghost use Rattle.judge.specs.Meaning.{eventsIn};
-ghost use Rattle.cells.specs.Meaning.{means, refusing, Listable, cellsOn, listing};
+ghost use Rattle.cells.specs.Meaning.{means, refusing, Listable, cellsOn, lackingIn, listing};
 
 // What is said of a capture whose cells are asked for.
 pub enum Listed {
@@ -65,7 +66,7 @@ fn needed(s: &[u32; 14], part: &[u8], n: u32) -> u32
     requires { ⌜ Listable (now s) (now part) n ⌝ }
     ensures { λ r. ⌜ r ≡ length (cellsOn (settingsOf (now (s .entry))) (now (part .entry)) n) ⌝ }
 {
-    let mut mode = s[3];
+    let mut mode = s[MODE];
     let mut cells: u32 = 0;
     let mut i: u32 = 0;
     'events: while i < n {
@@ -76,30 +77,48 @@ fn needed(s: &[u32; 14], part: &[u8], n: u32) -> u32
     cells
 }
 
-// Writes the cells from out[0] on.
-fn write(s: &[u32; 14], part: &[u8], n: u32, out: &mut [u32])
+// The cells that are needed, where the buffer has room for fewer. Sixteen a command are enough for a clean capture, and
+// then nothing is counted.
+fn lacking(s: &[u32; 14], part: &[u8], n: u32, room: usize) -> Found
+    requires { ⌜ Listable (now s) (now part) n ⌝ }
+    requires { ⌜ notClean (verdictOf (settingsOf (now s)) (eventsIn (now part) n)) ≡ none ⌝ }
+    ensures { λ r. ⌜ placeOf r ≡ lackingIn room (length (cellsOn (settingsOf (now (s .entry))) (now (part .entry)) n)) ⌝ }
+{
+    if (16 * n) as usize <= room {
+        return Found::Nothing;
+    }
+    let cells = needed(s, part, n);
+    if room < cells as usize {
+        return Found::At(cells);
+    }
+    Found::Nothing
+}
+
+// Writes the cells from out[0] on, and says how many.
+fn write(s: &[u32; 14], part: &[u8], n: u32, out: &mut [u32]) -> u32
     requires { ⌜ Listable (now s) (now part) n ⌝ }
     requires { ⌜ length (cellsOn (settingsOf (now s)) (now part) n) ≤ length (now out) ⌝ }
+    ensures { λ r. ⌜ r ≡ length (cellsOn (settingsOf (now (s .entry))) (now (part .entry)) n) ⌝ }
     ensures { λ _. ⌜ now (out .exit) ≡ sets (now (out .entry)) 0 (cellsOn (settingsOf (now (s .entry))) (now (part .entry)) n) ⌝ }
 {
-    let mut rows = [0u32; 4];
-    let mut mode = s[3];
+    let mut firsts = beats::first_cells(s);
+    let mut mode = s[MODE];
     let mut next: usize = 0;
-    let mut i: u32 = 0;
-    'events: while i < n {
+    'events: for i in 0..n {
         let pins = capture::pins_at(part, i as usize);
+        if !beats::gives_burst(pins) {
+            beats::open_row(s, &mut firsts, pins);
+            mode = beats::mode_after(mode, pins);
+            continue 'events;
+        }
         let pairs = beats::kept(part, n, i, mode);
         let bank = beats::bank(pins);
-        let at = bank as usize;
-        let row = rows[at];
-        let first = beats::first_cell(s, bank, row);
+        let first = firsts[bank as usize];
         let column = beats::column(s, pins);
         beats::write_burst(out, next, first, mode, column, pairs);
         next += 2 * (pairs as usize);
-        rows[at] = beats::row_after(row, pins);
-        mode = beats::mode_after(mode, pins);
-        i += 1;
     }
+    next as u32
 }
 
 // Refusals 8 and 7, in this order; else the cells.
@@ -115,14 +134,14 @@ fn list(s: &[u32; 14], part: &[u8], n: u32, out: &mut [u32]) -> Listed
             place: i,
         };
     }
-    let cells = needed(s, part, n);
-    if out.len() < cells as usize {
+    let short = lacking(s, part, n, out.len());
+    if let Found::At(cells) = short {
         return Listed::Refused {
             number: 7,
             place: cells,
         };
     }
-    write(s, part, n, out);
+    let cells = write(s, part, n, out);
     Listed::Written { cells }
 }
 

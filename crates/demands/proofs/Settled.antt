@@ -56,10 +56,12 @@ use Rattle.part.proofs.lowest.Reads as part-lowest
 use Rattle.judge.proofs.walk.Reads as judge-walk
 use Rattle.judge.proofs.judge.Reads as judge-judge
 use Rattle.beats.proofs.bank.Reads as beats-bank
+use Rattle.beats.proofs.gives_burst.Reads as beats-gives-burst
 use Rattle.beats.proofs.mode_after.Reads as beats-mode-after
-use Rattle.beats.proofs.row_after.Reads as beats-row-after
 use Rattle.beats.proofs.column.Reads as beats-column
 use Rattle.beats.proofs.first_cell.Reads as beats-first-cell
+use Rattle.beats.proofs.first_cells.Reads as beats-first-cells
+use Rattle.beats.proofs.open_row.Reads as beats-open-row
 use Rattle.beats.proofs.write_burst.Reads as beats-write-burst
 use Rattle.beats.proofs.kept.Reads as beats-kept
 use Rattle.cells.proofs.burst_cells.Reads as cells-burst-cells
@@ -236,17 +238,23 @@ judge-judge-settles κs a z z′ e e′ p q = judging.one-answer (now (a .0)) z 
 pub beats-bank-settles : (κs : _) (a : _) (z z′ : _) (e e′ : _) → beats-bank.Post κs a z e → beats-bank.Post κs a z′ e′ → z ≡ z′
 beats-bank-settles κs a z z′ e e′ p q = p .0 ∙ sym (q .0)
 
+pub beats-gives-burst-settles : (κs : _) (a : _) (z z′ : _) (e e′ : _) → beats-gives-burst.Post κs a z e → beats-gives-burst.Post κs a z′ e′ → z ≡ z′
+beats-gives-burst-settles κs a z z′ e e′ p q = p ∙ sym q
+
 pub beats-mode-after-settles : (κs : _) (a : _) (z z′ : _) (e e′ : _) → beats-mode-after.Post κs a z e → beats-mode-after.Post κs a z′ e′ → z ≡ z′
 beats-mode-after-settles κs a z z′ e e′ p q = p ∙ sym q
-
-pub beats-row-after-settles : (κs : _) (a : _) (z z′ : _) (e e′ : _) → beats-row-after.Post κs a z e → beats-row-after.Post κs a z′ e′ → z ≡ z′
-beats-row-after-settles κs a z z′ e e′ p q = p ∙ sym q
 
 pub beats-column-settles : (κs : _) (a : _) (z z′ : _) (e e′ : _) → beats-column.Post κs a z e → beats-column.Post κs a z′ e′ → z ≡ z′
 beats-column-settles κs a z z′ e e′ p q = p ∙ sym q
 
 pub beats-first-cell-settles : (κs : _) (a : _) (z z′ : _) (e e′ : _) → beats-first-cell.Post κs a z e → beats-first-cell.Post κs a z′ e′ → z ≡ z′
 beats-first-cell-settles κs a z z′ e e′ p q = p ∙ sym q
+
+pub beats-first-cells-settles : (κs : _) (a : _) (z z′ : _) (e e′ : _) → beats-first-cells.Post κs a z e → beats-first-cells.Post κs a z′ e′ → z ≡ z′
+beats-first-cells-settles κs a z z′ e e′ p q = p ∙ sym q
+
+pub beats-open-row-settles : (κs : _) (a : _) (z z′ : _) (e e′ : _) → beats-open-row.Post κs a z e → beats-open-row.Post κs a z′ e′ → now (e .1 .0) ≡ now (e′ .1 .0)
+beats-open-row-settles κs a z z′ e e′ p q = p ∙ sym q
 
 pub beats-write-burst-settles : (κs : _) (a : _) (z z′ : _) (e e′ : _) → beats-write-burst.Post κs a z e → beats-write-burst.Post κs a z′ e′ → now (e .0) ≡ now (e′ .0)
 beats-write-burst-settles κs a z z′ e e′ p q = p ∙ sym q

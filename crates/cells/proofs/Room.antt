@@ -1,0 +1,112 @@
+-- Room for sixteen cells a command is enough for a clean capture: its mode words are valid, so a burst keeps at most
+-- eight pairs.
+use Prim.Native.Nat.{ℕ, suc, _+_, _*_, _-_, _%_, _≤_}
+use mathlib.Core.Bool.{Bool, true, false, cond, _&&_, _||_}
+use mathlib.Core.List.{List, [], _∷_, List·Memᴰ, map}
+use mathlib.Core.Option.{Option, none, some}
+use mathlib.Core.Path.{_≡_, refl, sym, ap, _∙_}
+use native.Mathlib.Nat.{sub-zero}
+use native.Mathlib.Omega.{arith}
+use borrow.Author.Tests.{leb-true, eqb-true, le-ltb}
+use lib.Dec.{leb, eqb}
+use lib.ListN.{length, length-append, length-map}
+use lib.Pow.{pow-mono}
+use Rattle.reading.specs.Search.{count, implies}
+use Rattle.reading.specs.Mode.{BL, h, CL, modeWord}
+use Rattle.reading.specs.Settings.{Settings, settingsOf}
+use Rattle.reading.specs.Capture.{Event, eventAt}
+use Rattle.reading.specs.Commands.{MODE-REGISTER-SET, Command, commandOf, is}
+use Rattle.reading.specs.Part.{Part, start, step}
+use Rattle.reading.specs.Rules.{brokenBy}
+use Rattle.reading.specs.Verdict.{Verdict, clean, broken, onward, judgeFrom, verdictOf}
+use Rattle.reading.specs.Answers.{notClean}
+use Rattle.reading.proofs.Meaning.{none-broken}
+use Rattle.judge.specs.Meaning.{eventsIn}
+use Rattle.beats.specs.Kept.{eventsFrom, keptOf}
+use Rattle.beats.proofs.Looking.{kept-half}
+use Rattle.beats.proofs.Storing.{length-count, length-cells}
+use Rattle.beats.proofs.Ahead.{eventCells, cellsFrom}
+use Rattle.cells.specs.Meaning.{Listable, cellsOn, lackingIn}
+use Rattle.cells.proofs.Counting.{all-ahead}
+
+both : (a b : Bool) → (a && b) ≡ true → (a ≡ true) × (b ≡ true)
+both true b e = (refl, e)
+both false b e = let z : _≡_ {A = ℕ} 0 1 = cc in absurd (omega arith)
+
+-- ---- mode words
+
+few-pairs : (m : ℕ) → modeWord m ≡ true → h m ≤ 8
+few-pairs m v =
+    let length-and-latency = both _ _ (both _ _ v .0) in
+    let most = both (leb 1 (m % 8)) (leb (m % 8) 4) (length-and-latency .0) .1 in
+    omega (arith, pow-mono {i = m % 8} {j = 4} (leb-true (m % 8) 4 most))
+
+module _ (s : Settings) (p : Part) (e : Event) (v : modeWord (p .mode) ≡ true) where
+  abbrev c : Command
+  c = commandOf (e .pins)
+
+  -- rule 2
+  mode-valid : brokenBy s p e ≡ none → modeWord (step s p e .mode) ≡ true
+  mode-valid n =
+      go (is MODE-REGISTER-SET c) (eqb (c .bank) 0) refl (none-broken s p e .0 n 2 (List·Memᴰ.List·Memᴰ·tail (List·Memᴰ.List·Memᴰ·head refl)))
+    where
+      go : (x y : Bool) → eqb (c .bank) 0 ≡ y → implies x ((y && modeWord (c .address)) || eqb (c .bank) 2) ≡ true →
+          modeWord (cond (x && y) (c .address) (p .mode)) ≡ true
+      go false y g k = v
+      go true false g k = v
+      go true true g k = valid (modeWord (c .address)) refl
+        where
+          other : eqb (c .bank) 2 ≡ false
+          other = let z = eqb-true (c .bank) 0 g in rw z
+
+          valid : (z : Bool) → modeWord (c .address) ≡ z → modeWord (c .address) ≡ true
+          valid true f = f
+          valid false f = f ∙ sym (ap (λ (z : Bool). z || eqb (c .bank) 2) f ∙ other) ∙ k
+
+-- ---- a clean capture
+
+clean-rest : (o : Option ℕ) (i t : ℕ) (x : Verdict) → onward o i t x ≡ clean → (o ≡ none) × (x ≡ clean)
+clean-rest none i t x e = (refl, e)
+clean-rest (some r) i t x e = let z : _≡_ {A = ℕ} 0 1 = cc in absurd (omega arith)
+
+module _ (s : Settings) where
+  given-cells : (p : Part) (e : Event) (es : List Event) → length (eventCells s p e es) ≡ 2 * keptOf (p .mode) e es
+  given-cells p e es = length-cells _ _ _ _
+
+  few-cells : (p : Part) (i : ℕ) (es : List Event) → modeWord (p .mode) ≡ true → judgeFrom s p i es ≡ clean → length (cellsFrom s p es) ≤ 16 * length es
+  unfolding judgeFrom
+  few-cells p i [] v k = omega arith
+  few-cells p i (e ∷ es) v k =
+      let next = clean-rest (brokenBy s p e) i (e .cycle) (judgeFrom s (step s p e) (suc i) es) k in
+      omega (
+        arith,
+        length-append (eventCells s p e es) (cellsFrom s (step s p e) es),
+        given-cells p e es,
+        kept-half (p .mode) e es,
+        few-pairs (p .mode) v,
+        few-cells (step s p e) (suc i) es (mode-valid s p e v (next .0)) (next .1),
+      )
+
+is-clean : (x : Verdict) → notClean x ≡ none → x ≡ clean
+is-clean clean e = refl
+is-clean (broken r i t) e = let z : _≡_ {A = ℕ} 0 1 = cc in absurd (omega arith)
+
+module _ (settings part : List ℕ) (n : ℕ) (z : Listable settings part n) where
+  sixteen-each : notClean (verdictOf (settingsOf settings) (eventsIn part n)) ≡ none → length (cellsOn (settingsOf settings) part n) ≤ 16 * n
+  unfolding verdictOf
+  sixteen-each k =
+      omega (
+        arith,
+        ap length (all-ahead settings part n z),
+        few-cells (settingsOf settings) (start (settingsOf settings)) 0 (eventsFrom part n 0) (z .moded) judged,
+        length-map (count 0 (n - 0)) (eventAt part) ∙ length-count 0 (n - 0),
+      )
+    where
+      judged : judgeFrom (settingsOf settings) (start (settingsOf settings)) 0 (eventsFrom part n 0) ≡ clean
+      judged =
+          ap (λ (m : ℕ). judgeFrom (settingsOf settings) (start (settingsOf settings)) 0 (map (eventAt part) (count 0 m))) (sub-zero n)
+          ∙ is-clean _ k
+
+  pub enough : {room : ℕ} → notClean (verdictOf (settingsOf settings) (eventsIn part n)) ≡ none → 16 * n ≤ room →
+      none ≡ lackingIn room (length (cellsOn (settingsOf settings) part n))
+  enough {room} k l = sym (rw (le-ltb room (length (cellsOn (settingsOf settings) part n)) (omega (arith, sixteen-each k))))
