@@ -1,18 +1,16 @@
 -- The cells of a capture's bursts, event by event: each burst as the events behind it leave it.
-use Prim.Native.Nat.{ℕ, zero, suc, _+_, _-_, _*_, _≤_, _<_, zero-le}
+use Prim.Native.Nat.{ℕ, suc, _+_, _*_}
 use mathlib.Core.Bool.{Bool, true, false, cond}
 use mathlib.Core.List.{List, [], _∷_, _++_, map, reverse, append-nil, append-assoc, map-map, map-id, reverse-cons}
 use mathlib.Core.Path.{_≡_, refl, sym, ap, _∙_}
-use native.Mathlib.Omega.{arith}
-use Rattle.reading.specs.Search.{count}
 use Rattle.reading.specs.Settings.{Settings}
-use Rattle.reading.specs.Capture.{Event, eventAt, eventFits}
+use Rattle.reading.specs.Capture.{Event}
 use Rattle.reading.specs.Commands.{commandOf}
 use Rattle.reading.specs.Bursts.{Burst, keep, columnOf, cutBy, beatCell, burstCells}
 use Rattle.reading.specs.Part.{Part, start, burstGiven, burstsAfter, step, run}
 use Rattle.reading.specs.Cells.{burstsOf, cellsOf}
 use Rattle.part.specs.Steps.{bankOf, addressOf}
-use Rattle.beats.specs.Kept.{Fit, eventsFrom, gives, keptOf}
+use Rattle.beats.specs.Kept.{gives, keptOf}
 use Rattle.beats.specs.Rows.{firstCell, beatCells}
 use Rattle.beats.proofs.Commands.{gives-is}
 use Rattle.beats.proofs.Events.{Rises}

@@ -1,16 +1,17 @@
 -- Columns and cells are small enough, for every mode word and every part.
-use Prim.Native.Nat.{ℕ, _+_, _*_, _/_, _%_, _^_, _≤_, _<_}
+use Prim.Native.Nat.{ℕ, zero, suc, _+_, _*_, _/_, _%_, _^_, _≤_, _<_}
 use mathlib.Core.Bool.{Bool, true, false, cond}
+use mathlib.Core.Path.{_≡_}
 use native.Mathlib.Nat.{mod-lt, mod-le, div-add-mod', mul-le-mul}
 use native.Mathlib.Omega.{arith}
 use lib.Bits.{xor-lt}
 use lib.Dec.{eqb}
 use lib.Pow.{pow-pos, pow-mono}
 use Rattle.reading.specs.Words.{bit}
-use Rattle.reading.specs.Mode.{BL, h, interleaved}
+use Rattle.reading.specs.Mode.{BL, h}
 use Rattle.reading.specs.Settings.{Settings}
-use Rattle.reading.specs.Bursts.{columnOf, place, beatColumn}
-use Rattle.beats.specs.Rows.{Sized, placeIn, firstCell}
+use Rattle.reading.specs.Bursts.{columnOf}
+use Rattle.beats.specs.Rows.{Sized, InRow, InBlock, placeIn, firstCell}
 
 -- ---- lengths
 
@@ -28,17 +29,35 @@ half-le m = omega (arith, length-le m)
 pub block-le : (n c : ℕ) → c / n * n ≤ c
 block-le n c = omega (arith, div-add-mod' c n)
 
-place-small : (b : Bool) (n c j : ℕ) → 0 < n → n ≤ 128 → j < 128 → placeIn b n c j < 128
-place-small false n c j p l k = omega (arith, mod-lt (c + j) p)
-place-small true n c j p l k = xor-lt 7 (c % n) j (omega (arith, mod-lt c p)) k
+pub place-lt : (b : Bool) (n c j : ℕ) → 0 < n → n ≤ 128 → j < 128 → placeIn b n c j < 128
+place-lt false n c j p l k = omega (arith, mod-lt (c + j) p)
+place-lt true n c j p l k = xor-lt 7 (c % n) j (omega (arith, mod-lt c p)) k
 
-module _ (m c j : ℕ) (k : j < 128) where
-  pub place-lt : placeIn (interleaved m) (BL m) c j < 128
-  place-lt = place-small (interleaved m) (BL m) c j (length-pos m) (length-le m) k
+pub block-fits : (first mode column pairs : ℕ) {size : ℕ} → InRow first column pairs → size ≡ BL mode → InBlock (first + column / size * size) size column pairs
+block-fits first mode column pairs {size} z e =
+    record {
+      cell = omega (arith, z .cell, z .low, block-le size column);
+      some = rw e (length-pos mode);
+      most = rw e (length-le mode);
+      low = z .low;
+      short = z .short;
+    }
 
-  pub beat-lt : c < 2048 → beatColumn m c j < 2176
-  unfolding beatColumn place
-  beat-lt l = omega (arith, block-le (BL m) c, place-lt)
+-- A11 is column bit 10 where there is one
+pub column-is : (bits a : ℕ) → bits ≤ 11 → (a % 1024 + 1024 * (a / 2048 % 2)) % 2 ^ bits ≡ a % 1024 % 2 ^ bits + cond (eqb bits 11) (1024 * bit 11 a) 0
+column-is zero a l = omega arith
+column-is (suc zero) a l = omega arith
+column-is (suc (suc zero)) a l = omega arith
+column-is (suc (suc (suc zero))) a l = omega arith
+column-is (suc (suc (suc (suc zero)))) a l = omega arith
+column-is (suc (suc (suc (suc (suc zero))))) a l = omega arith
+column-is (suc (suc (suc (suc (suc (suc zero)))))) a l = omega arith
+column-is (suc (suc (suc (suc (suc (suc (suc zero))))))) a l = omega arith
+column-is (suc (suc (suc (suc (suc (suc (suc (suc zero)))))))) a l = omega arith
+column-is (suc (suc (suc (suc (suc (suc (suc (suc (suc zero))))))))) a l = omega arith
+column-is (suc (suc (suc (suc (suc (suc (suc (suc (suc (suc zero)))))))))) a l = omega arith
+column-is (suc (suc (suc (suc (suc (suc (suc (suc (suc (suc (suc zero))))))))))) a l = omega arith
+column-is (suc (suc (suc (suc (suc (suc (suc (suc (suc (suc (suc (suc more)))))))))))) a l = absurd (omega arith)
 
 pub column-lt : (s : Settings) (a : ℕ) → columnOf s a < 2048
 column-lt s a = go (eqb (s .columnBits) 11)

@@ -1,16 +1,18 @@
 -- The cells of a burst, stored one behind the other.
-use Prim.Native.Nat.{ℕ, zero, suc, _+_, _*_, _≤_, _<_}
+use Prim.Native.Nat.{ℕ, zero, suc, _+_, _*_, _/_, _≤_, _<_}
+use mathlib.Core.Bool.{Bool}
 use mathlib.Core.List.{List, [], _∷_, _++_, map, map-append}
-use mathlib.Core.Path.{_≡_, refl, sym, ap, _∙_}
-use native.Mathlib.Nat.{add-zero, zero-add, add-suc, suc-add}
+use mathlib.Core.Path.{_≡_, refl, sym, ap, _∙_, fun-ext}
+use native.Mathlib.Nat.{add-zero, zero-add, add-suc, suc-add, add-assoc}
 use native.Mathlib.Numerals.{add-one}
 use native.Mathlib.Omega.{arith}
 use lib.ListN.{length, set, length-map}
 use lib.Seq.{sets, length-sets}
 use Rattle.reading.specs.Search.{count}
-use Rattle.reading.specs.Bursts.{beatColumn}
+use Rattle.reading.specs.Mode.{BL, interleaved}
+use Rattle.reading.specs.Bursts.{place, beatColumn}
 use Rattle.words.proofs.Runs.{sets-append}
-use Rattle.beats.specs.Rows.{beatCells}
+use Rattle.beats.specs.Rows.{placeIn, blockCells, beatCells}
 
 pub length-count : (from n : ℕ) → length (count from n) ≡ n
 length-count from zero = refl
@@ -31,41 +33,64 @@ module _ (first mode column : ℕ) where
   unfolding beatCells
   no-cells = refl
 
-  more-cells : (j : ℕ) → beatCells first mode column (j + 1) ≡ beatCells first mode column j ++ ((first + beatColumn mode column j) ∷ [])
-  unfolding beatCells
+  -- by the block that holds the column
+  pub in-block : (v : Bool) (beats : ℕ) {size : ℕ} → interleaved mode ≡ v → size ≡ BL mode →
+      blockCells v (first + column / size * size) size column beats ≡ beatCells first mode column beats
+  unfolding beatCells beatColumn place
+  in-block v beats e f =
+      rw f
+      (ap (λ (g : ℕ → ℕ). map g (count 0 beats))
+      (fun-ext (λ j. add-assoc first (column / BL mode * BL mode) (placeIn v (BL mode) column j) ∙ rw e)))
+
+-- ---- one cell behind the other, by beat
+
+module _ (cell : ℕ → ℕ) where
+  more-cells : (j : ℕ) → map cell (count 0 (j + 1)) ≡ map cell (count 0 j) ++ (cell j ∷ [])
   more-cells j =
-      ap (λ (k : ℕ). map (λ i. first + beatColumn mode column i) (count 0 k)) (add-one j)
-      ∙ ap (map (λ i. first + beatColumn mode column i)) (count-more 0 j)
-      ∙ map-append (λ i. first + beatColumn mode column i) (count 0 j) ((0 + j) ∷ [])
-      ∙ ap (λ (k : ℕ). map (λ i. first + beatColumn mode column i) (count 0 j) ++ ((first + beatColumn mode column k) ∷ [])) (zero-add j)
+      ap (λ (k : ℕ). map cell (count 0 k)) (add-one j)
+      ∙ ap (map cell) (count-more 0 j)
+      ∙ map-append cell (count 0 j) ((0 + j) ∷ [])
+      ∙ ap (λ (k : ℕ). map cell (count 0 j) ++ (cell k ∷ [])) (zero-add j)
 
-  -- the first j cells stand in the list from `at` on
-  pub record Stored (old : List ℕ) (at pairs : ℕ) (out : List ℕ) (j next : ℕ) : Type 0 where
+  -- the first j cells, of `most`, stand in the list from `at` on
+  pub record Stored (old : List ℕ) (at most : ℕ) (out : List ℕ) (j next : ℕ) : Type 0 where
     pub place : next ≡ at + j
-    pub within : j ≤ 2 * pairs
+    pub within : j ≤ most
     pub size : length out ≡ length old
-    pub holds : out ≡ sets old at (beatCells first mode column j)
+    pub holds : out ≡ sets old at (map cell (count 0 j))
 
-  module _ (old : List ℕ) (at pairs : ℕ) where
-    pub begins : Stored old at pairs old 0 at
-    begins = record { place = sym (add-zero at); within = omega arith; size = refl; holds = ap (sets old at) (sym no-cells) }
+  module _ (old : List ℕ) (at most : ℕ) where
+    pub begins : Stored old at most old 0 at
+    begins = record { place = sym (add-zero at); within = omega arith; size = refl; holds = refl }
 
-    pub goes-on : {out : List ℕ} {j next cell : ℕ} → Stored old at pairs out j next → j < 2 * pairs → cell ≡ beatColumn mode column j →
-        Stored old at pairs (set out next (first + cell)) (j + 1) (next + 1)
-    goes-on {out} {j} {next} {cell} b l e =
+    pub goes-on : {out : List ℕ} {j next v : ℕ} → Stored old at most out j next → j < most → v ≡ cell j →
+        Stored old at most (set out next v) (j + 1) (next + 1)
+    goes-on {out} {j} {next} {v} b l e =
         record {
           place = omega (arith, b .place);
           within = omega arith;
-          size = ap length stored ∙ length-sets old at (beatCells first mode column (j + 1));
+          size = ap length stored ∙ length-sets old at (map cell (count 0 (j + 1)));
           holds = stored;
         }
       where
-        stored : set out next (first + cell) ≡ sets old at (beatCells first mode column (j + 1))
+        many : length (map cell (count 0 j)) ≡ j
+        many = length-map (count 0 j) cell ∙ length-count 0 j
+
+        stored : set out next v ≡ sets old at (map cell (count 0 (j + 1)))
         stored =
             rw (e, b .place, b .holds)
-            (ap (λ (k : ℕ). set (sets old at (beatCells first mode column j)) (at + k) (first + beatColumn mode column j)) (sym (length-cells j))
-            ∙ sets-append old at (beatCells first mode column j) ((first + beatColumn mode column j) ∷ [])
+            (ap (λ (k : ℕ). set (sets old at (map cell (count 0 j))) (at + k) (cell j)) (sym many)
+            ∙ sets-append old at (map cell (count 0 j)) (cell j ∷ [])
             ∙ ap (sets old at) (sym (more-cells j)))
 
-    pub ends : {out : List ℕ} {j next : ℕ} → Stored old at pairs out j next → 2 * pairs ≤ j → out ≡ sets old at (beatCells first mode column (2 * pairs))
-    ends {out} {j} b l = let e : j ≡ 2 * pairs = omega (arith, b .within) in b .holds ∙ ap (λ (k : ℕ). sets old at (beatCells first mode column k)) e
+    -- the two cells of a pair
+    pub pair-on : (pair : ℕ) {out : List ℕ} {next v w : ℕ} → Stored old at most out (2 * pair) next → 2 * pair + 1 < most →
+        v ≡ cell (2 * pair) → w ≡ cell (2 * pair + 1) → Stored old at most (set (set out next v) (next + 1) w) (2 * (pair + 1)) (next + 2)
+    pair-on pair {out} {next} {v} {w} b l e f =
+        let both = goes-on (goes-on b (omega arith) e) l f in
+        let beats : 2 * pair + 1 + 1 ≡ 2 * (pair + 1) = omega arith in
+        let behind : next + 1 + 1 ≡ next + 2 = omega arith in
+        rw (beats, behind) at both
+
+    pub ends : {out : List ℕ} {j next : ℕ} → Stored old at most out j next → most ≤ j → out ≡ sets old at (map cell (count 0 most))
+    ends {out} {j} b l = let e : j ≡ most = omega (arith, b .within) in b .holds ∙ ap (λ (k : ℕ). sets old at (map cell (count 0 k))) e

@@ -21,6 +21,14 @@ pub record InRow (first column pairs : ℕ) : Type 0 where
   pub low : column < 2048
   pub short : pairs ≤ 64
 
+-- a burst in a block of such a row, whose first cell is `block`
+pub record InBlock (block length column pairs : ℕ) : Type 0 where
+  pub cell : block < 2 ^ 28
+  pub some : 0 < length
+  pub most : length ≤ 128
+  pub low : column < 2048
+  pub short : pairs ≤ 64
+
 -- the place of a beat in a block of some length
 abbrev pub placeIn : Bool → ℕ → ℕ → ℕ → ℕ
 placeIn interleaved length column beat = cond interleaved (bitXor (column % length) beat) ((column + beat) % length)
@@ -29,7 +37,11 @@ placeIn interleaved length column beat = cond interleaved (bitXor (column % leng
 abbrev pub firstCell : Settings → ℕ → ℕ → ℕ
 firstCell s bank row = (bank * 2 ^ s .rowBits + row) * 2 ^ s .columnBits
 
--- the cells of the first beats of a burst, in the row that begins with cell `first`
+-- the cells of the first beats of a burst, in the block that begins with cell `block`
+abbrev pub blockCells : Bool → ℕ → ℕ → ℕ → ℕ → List ℕ
+blockCells interleaved block length column beats = map (λ j. block + placeIn interleaved length column j) (count 0 beats)
+
+-- the same, in the row that begins with cell `first`
 unfoldable pub beatCells : ℕ → ℕ → ℕ → ℕ → List ℕ
 beatCells first mode column beats = map (λ j. first + beatColumn mode column j) (count 0 beats)
 

@@ -1,15 +1,16 @@
 // Bursts by arithmetic: the columns and cells of their beats, and the pairs that they keep, found by looking ahead.
 ghost use mathlib.Core.Path.{_≡_};
+ghost use mathlib.Core.Bool.{true, false};
 ghost use Prim.Native.Nat.{_+_, _*_, _^_, _%_, _≤_, _<_};
 ghost use lib.ListN.{length};
 ghost use lib.Seq.{sets};
 ghost use Rattle.reading.specs.Mode.{BL};
 ghost use Rattle.reading.specs.Settings.{settingsOf};
 ghost use Rattle.reading.specs.Capture.{eventAt};
-ghost use Rattle.reading.specs.Bursts.{columnOf, beatColumn};
+ghost use Rattle.reading.specs.Bursts.{columnOf};
 ghost use Rattle.part.specs.Steps.{codeOf, bankOf, addressOf, tenOf, modeAfter};
 ghost use Rattle.beats.specs.Kept.{Fit, gives, cutsBurst, eventsFrom, cutAhead, keptOf};
-ghost use Rattle.beats.specs.Rows.{Sized, InRow, placeIn, firstCell, firstCells, cellsOpened, beatCells};
+ghost use Rattle.beats.specs.Rows.{Sized, InRow, InBlock, firstCell, firstCells, cellsOpened, blockCells, beatCells};
 
 // ---- what the pins of an event ask for
 
@@ -106,11 +107,7 @@ pub fn column(s: &[u32; 14], pins: u32) -> u32
     ensures { λ r. ⌜ r ≡ columnOf (settingsOf (now (s .entry))) (addressOf pins) ⌝ }
 {
     let a = address(pins);
-    let low = a % 1024 % power(s[2]);
-    if s[2] == 11 {
-        return low + 1024 * (a / 2048 % 2);
-    }
-    low
+    (a % 1024 + 1024 * (a / 2048 % 2)) % power(s[2])
 }
 
 // The number of a row's first cell.
@@ -146,24 +143,33 @@ pub fn open_row(s: &[u32; 14], firsts: &mut [u32; 4], pins: u32)
     firsts[bank as usize] = first_cell(s, bank, row);
 }
 
-// The place of a beat in its block.
-fn place(interleaved: bool, length: u32, column: u32, beat: u32) -> u32
-    requires { ⌜ (0 < length) × (column + beat < 2 ^ 32) ⌝ }
-    ensures { λ r. ⌜ r ≡ placeIn interleaved length column beat ⌝ }
+// Writes the cells of 2 x `pairs` beats in sequential order from out[at] on; `block` is the first cell of their block.
+fn write_sequential(out: &mut [u32], at: usize, block: u32, size: u32, column: u32, pairs: u32)
+    requires { ⌜ InBlock block size column pairs ⌝ }
+    requires { ⌜ at + 2 * pairs ≤ length (now out) ⌝ }
+    ensures { λ _. ⌜ now (out .exit) ≡ sets (now (out .entry)) at (blockCells false block size column (2 * pairs)) ⌝ }
 {
-    if interleaved {
-        return column % length ^ beat;
+    let mut beat = column;
+    let mut next = at;
+    for pair in 0..pairs {
+        out[next] = block + beat % size;
+        out[next + 1] = block + (beat + 1) % size;
+        beat += 2;
+        next += 2;
     }
-    (column + beat) % length
 }
 
-// The column of a beat, in the aligned block of BL columns that holds `column`.
-fn beat_column(mode: u32, column: u32, beat: u32) -> u32
-    requires { ⌜ (column < 2048) × (beat < 128) ⌝ }
-    ensures { λ r. ⌜ r ≡ beatColumn mode column beat ⌝ }
+// The same in interleaved order.
+fn write_interleaved(out: &mut [u32], at: usize, block: u32, size: u32, column: u32, pairs: u32)
+    requires { ⌜ InBlock block size column pairs ⌝ }
+    requires { ⌜ at + 2 * pairs ≤ length (now out) ⌝ }
+    ensures { λ _. ⌜ now (out .exit) ≡ sets (now (out .entry)) at (blockCells true block size column (2 * pairs)) ⌝ }
 {
-    let length = length_of(mode);
-    column / length * length + place(mode / 8 % 2 == 1, length, column, beat)
+    let mut next = at;
+    for beat in 0..2 * pairs {
+        out[next] = block + (column % size ^ beat);
+        next += 1;
+    }
 }
 
 // Writes the cells of the first 2 x `pairs` beats from out[at] on, in the row whose first cell is `first`.
@@ -172,14 +178,13 @@ pub fn write_burst(out: &mut [u32], at: usize, first: u32, mode: u32, column: u3
     requires { ⌜ at + 2 * pairs ≤ length (now out) ⌝ }
     ensures { λ _. ⌜ now (out .exit) ≡ sets (now (out .entry)) at (beatCells first mode column (2 * pairs)) ⌝ }
 {
-    let beats = 2 * pairs;
-    let mut j: u32 = 0;
-    let mut next = at;
-    while j < beats {
-        out[next] = first + beat_column(mode, column, j);
-        j += 1;
-        next += 1;
+    let length = length_of(mode);
+    let block = first + column / length * length;
+    if mode / 8 % 2 == 1 {
+        write_interleaved(out, at, block, length, column, pairs);
+        return;
     }
+    write_sequential(out, at, block, length, column, pairs);
 }
 
 // ---- kept pairs

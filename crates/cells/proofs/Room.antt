@@ -1,6 +1,6 @@
 -- Room for sixteen cells a command is enough for a clean capture: its mode words are valid, so a burst keeps at most
 -- eight pairs.
-use Prim.Native.Nat.{ℕ, suc, _+_, _*_, _-_, _%_, _≤_}
+use Prim.Native.Nat.{ℕ, suc, _*_, _-_, _%_, _≤_}
 use mathlib.Core.Bool.{Bool, true, false, cond, _&&_, _||_}
 use mathlib.Core.List.{List, [], _∷_, List·Memᴰ, map}
 use mathlib.Core.Option.{Option, none, some}
@@ -12,7 +12,7 @@ use lib.Dec.{leb, eqb}
 use lib.ListN.{length, length-append, length-map}
 use lib.Pow.{pow-mono}
 use Rattle.reading.specs.Search.{count, implies}
-use Rattle.reading.specs.Mode.{BL, h, CL, modeWord}
+use Rattle.reading.specs.Mode.{h, modeWord}
 use Rattle.reading.specs.Settings.{Settings, settingsOf}
 use Rattle.reading.specs.Capture.{Event, eventAt}
 use Rattle.reading.specs.Commands.{MODE-REGISTER-SET, Command, commandOf, is}

@@ -1,68 +1,56 @@
--- The invariant: the list as it was, with the first j cells stored from `at` on (Storing).
+use Prim.Native.Nat.{_*_}
+use mathlib.Core.Bool.{true, false}
+use mathlib.Core.Path.{ap, _∙_}
 use native.Mathlib.Omega.{arith}
-use Prim.Native.Nat.{_*_, _-_}
-use Rattle.beats.proofs.Columns.{beat-lt}
-use Rattle.beats.proofs.Storing.{Stored, begins, goes-on, ends}
+use borrow.Author.Tests.{eq-eqb, ne-eqb}
+use lib.Seq.{sets}
+use Rattle.beats.proofs.Columns.{length-pos, block-le, block-fits}
+use Rattle.beats.proofs.Storing.{in-block}
+use borrow.Author.Needs.{needs}
 use Rattle.beats.proofs.write_burst.Statement.{statement}
 use Rattle.beats.proofs.write_burst.Tie as tie
 
-abbrev Inv-loop : tie.InvT-loop
-Inv-loop out₀ at first mode column pairs beats j₀ next₀ out j next = Stored first mode column out₀ at pairs out j next
+length-of-requires : tie.Need-length-of-requires
+length-of-requires c κs = search needs
 
-abbrev μ-loop : tie.MeasureT-loop
-μ-loop out₀ at first mode column pairs beats j₀ next₀ out j next = 2 * pairs - j
+div-block : tie.Need-div-block
+div-block c = rw (c .length-of .ensures) (length-pos (c .before .before .args .mode))
 
-mul-beats : tie.Need-mul-beats Inv-loop μ-loop
-mul-beats c = omega (arith, c .before .pre .0 .short)
+mul-block : tie.Need-mul-block
+mul-block c = omega (arith, block-le (c .length-of .result) (c .before .before .args .column))
 
-loop-holds : tie.Need-loop-holds Inv-loop μ-loop
-loop-holds c = begins (c .before .args .first) (c .before .args .mode) (c .before .args .column) (c .before .args .out .now) (c .before .args .at) (c .before .args .pairs)
+add-block : tie.Need-add-block
+add-block c = omega (arith, block-le (c .length-of .result) (c .before .before .args .column), c .before .before .pre .0 .cell, c .before .before .pre .0 .low)
 
-beat-column-requires : tie.Need-beat-column-requires Inv-loop μ-loop
-beat-column-requires c κs = (omega (arith, c .before .before .before .pre .0 .low), omega (arith, c .before .before .before .pre .0 .short))
+write-interleaved-requires : tie.Need-write-interleaved-requires
+write-interleaved-requires c κs = (block-fits (c .before .before .before .before .args .first) (c .before .before .before .before .args .mode) (c .before .before .before .before .args .column) (c .before .before .before .before .args .pairs) (c .before .before .before .before .pre .0) (c .before .before .length-of .ensures), c .before .before .before .before .pre .1)
 
-add-out : tie.Need-add-out Inv-loop μ-loop
-add-out c = rw (c .beat-column .ensures) (omega (arith, c .before .before .before .before .pre .0 .cell, beat-lt (c .before .before .before .before .args .mode) (c .before .before .before .before .args .column) (c .before .before .loop .j) (omega (arith, c .before .before .before .before .pre .0 .short)) (c .before .before .before .before .pre .0 .low)))
+same-length : tie.Need-same-length
+same-length c = search needs
 
-mul-out : tie.Need-mul-out Inv-loop μ-loop
-mul-out c = omega arith
+returns : tie.Need-returns
+returns c = c .before .before .write-interleaved .ensures ∙ ap (sets (c .before .before .before .before .before .before .before .args .out .now) (c .before .before .before .before .before .before .before .args .at)) (in-block (c .before .before .before .before .before .before .before .args .first) (c .before .before .before .before .before .before .before .args .mode) (c .before .before .before .before .before .before .before .args .column) true (2 * c .before .before .before .before .before .before .before .args .pairs) (eq-eqb _ 1 (c .before .before .before .before .if1 .taken)) (c .before .before .before .before .before .length-of .ensures))
 
-slice-write-out : tie.Need-slice-write-out Inv-loop μ-loop
-slice-write-out c = omega (arith, c .before .before .loop .inv .place, c .before .before .loop .inv .size, c .before .before .before .before .pre .1)
+write-sequential-requires : tie.Need-write-sequential-requires
+write-sequential-requires c κs = (block-fits (c .before .before .before .before .args .first) (c .before .before .before .before .args .mode) (c .before .before .before .before .args .column) (c .before .before .before .before .args .pairs) (c .before .before .before .before .pre .0) (c .before .before .length-of .ensures), c .before .before .before .before .pre .1)
 
-add-j : tie.Need-add-j Inv-loop μ-loop
-add-j c = omega (arith, c .before .before .before .before .pre .0 .short)
+same-length-2 : tie.Need-same-length-2
+same-length-2 c = search needs
 
-add-next : tie.Need-add-next Inv-loop μ-loop
-add-next c = omega (arith, c .before .before .loop .inv .place, c .before .before .before .before .pre .1)
-
-loop-less : tie.Need-loop-less Inv-loop μ-loop
-loop-less c = omega arith
-
-loop-again : tie.Need-loop-again Inv-loop μ-loop
-loop-again c = goes-on (c .before .before .before .before .args .first) (c .before .before .before .before .args .mode) (c .before .before .before .before .args .column) (c .before .before .before .before .args .out .now) (c .before .before .before .before .args .at) (c .before .before .before .before .args .pairs) (c .before .before .loop .inv) (omega arith) (c .beat-column .ensures)
-
-same-length : tie.Need-same-length Inv-loop μ-loop
-same-length c = c .before .loop .inv .size
-
-returns : tie.Need-returns Inv-loop μ-loop
-returns c = ends (c .before .before .before .args .first) (c .before .before .before .args .mode) (c .before .before .before .args .column) (c .before .before .before .args .out .now) (c .before .before .before .args .at) (c .before .before .before .args .pairs) (c .before .loop .inv) (omega arith)
+returns-2 : tie.Need-returns-2
+returns-2 c = c .before .before .write-sequential .ensures ∙ ap (sets (c .before .before .before .before .before .before .before .args .out .now) (c .before .before .before .before .before .before .before .args .at)) (in-block (c .before .before .before .before .before .before .before .args .first) (c .before .before .before .before .before .before .before .args .mode) (c .before .before .before .before .before .before .before .args .column) false (2 * c .before .before .before .before .before .before .before .args .pairs) (ne-eqb _ 1 (c .before .before .before .before .if1 .left)) (c .before .before .before .before .before .length-of .ensures))
 
 pub write-burst-spec : {M : Type 1} → statement M
 write-burst-spec =
     tie.close
     (tie.spec
-    Inv-loop
-    μ-loop
-    mul-beats
-    loop-holds
-    beat-column-requires
-    add-out
-    mul-out
-    slice-write-out
-    add-j
-    add-next
-    loop-less
-    loop-again
+    length-of-requires
+    div-block
+    mul-block
+    add-block
+    write-interleaved-requires
     same-length
-    returns)
+    returns
+    write-sequential-requires
+    same-length-2
+    returns-2)
