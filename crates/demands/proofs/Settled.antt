@@ -65,14 +65,12 @@ use Rattle.beats.proofs.open_row.Reads as beats-open-row
 use Rattle.beats.proofs.write_burst.Reads as beats-write-burst
 use Rattle.beats.proofs.kept.Reads as beats-kept
 use Rattle.cells.proofs.burst_cells.Reads as cells-burst-cells
-use Rattle.soonest.proofs.active_soonest.Reads as soonest-active-soonest
-use Rattle.soonest.proofs.burst_soonest.Reads as soonest-burst-soonest
-use Rattle.soonest.proofs.refresh_soonest.Reads as soonest-refresh-soonest
 use Rattle.requests.proofs.asks_write.Reads as requests-asks-write
 use Rattle.requests.proofs.bank.Reads as requests-bank
 use Rattle.requests.proofs.active_pins.Reads as requests-active-pins
 use Rattle.requests.proofs.burst_pins.Reads as requests-burst-pins
 use Rattle.requests.proofs.lowest_bad.Reads as requests-lowest-bad
+use Rattle.turns.proofs.start.Reads as turns-start
 use Rattle.turns.proofs.serve.Reads as turns-serve
 use Rattle.schedule.proofs.schedule.Reads as schedule-schedule
 use Rattle.morgazell.proofs.morgazell_judge.Reads as morgazell-morgazell-judge
@@ -267,17 +265,6 @@ beats-kept-settles κs a z z′ e e′ p q = p ∙ sym q
 pub cells-burst-cells-settles : (κs : _) (a : _) (z z′ : _) (e e′ : _) → cells-burst-cells.Post κs a z e → cells-burst-cells.Post κs a z′ e′ → (z ≡ z′) × (now (e .1 .0) ≡ now (e′ .1 .0))
 cells-burst-cells-settles κs a z z′ e e′ p q = (cells.one-answer z z′ (p .0 ∙ sym (q .0)), p .1 ∙ sym (q .1))
 
--- ---- soonest
-
-pub soonest-active-soonest-settles : (κs : _) (a : _) (z z′ : _) (e e′ : _) → soonest-active-soonest.Post κs a z e → soonest-active-soonest.Post κs a z′ e′ → z ≡ z′
-soonest-active-soonest-settles κs a z z′ e e′ p q = p ∙ sym q
-
-pub soonest-burst-soonest-settles : (κs : _) (a : _) (z z′ : _) (e e′ : _) → soonest-burst-soonest.Post κs a z e → soonest-burst-soonest.Post κs a z′ e′ → z ≡ z′
-soonest-burst-soonest-settles κs a z z′ e e′ p q = p ∙ sym q
-
-pub soonest-refresh-soonest-settles : (κs : _) (a : _) (z z′ : _) (e e′ : _) → soonest-refresh-soonest.Post κs a z e → soonest-refresh-soonest.Post κs a z′ e′ → z ≡ z′
-soonest-refresh-soonest-settles κs a z z′ e e′ p q = p ∙ sym q
-
 -- ---- requests
 
 pub requests-asks-write-settles : (κs : _) (a : _) (z z′ : _) (e e′ : _) → requests-asks-write.Post κs a z e → requests-asks-write.Post κs a z′ e′ → z ≡ z′
@@ -296,6 +283,9 @@ pub requests-lowest-bad-settles : (κs : _) (a : _) (z z′ : _) (e e′ : _) �
 requests-lowest-bad-settles κs a z z′ e e′ p q = found-one z z′ (p ∙ sym q)
 
 -- ---- turns
+
+pub turns-start-settles : (κs : _) (a : _) (z z′ : _) (e e′ : _) → turns-start.Post κs a z e → turns-start.Post κs a z′ e′ → z ≡ z′
+turns-start-settles κs a z z′ e e′ p q = p ∙ sym q
 
 pub turns-serve-settles : (κs : _) (a : _) (z z′ : _) (e e′ : _) → turns-serve.Post κs a z e → turns-serve.Post κs a z′ e′ → (z ≡ z′) × (now (e .1 .0) ≡ now (e′ .1 .0))
 turns-serve-settles κs a z z′ e e′ p q = (p .0 ∙ sym (q .0), p .1 ∙ sym (q .1))

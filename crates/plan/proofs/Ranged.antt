@@ -6,7 +6,7 @@ use mathlib.Core.Path.{_≡_}
 use native.Mathlib.Omega.{arith}
 use lib.ListN.{getD}
 use Rattle.reading.specs.Settings.{Settings, settingsOf, settingFits}
-use Rattle.settings.proofs.Fitting.{rowAt, at-most, mode-valid}
+use Rattle.settings.proofs.Fitting.{rowAt, at-least, at-most, mode-valid}
 use Rattle.memory.specs.Serving.{Sized}
 
 pub record Ranged (s : Settings) : Type 0 where
@@ -19,10 +19,16 @@ pub record Ranged (s : Settings) : Type 0 where
   pub tWR : s .tWR ≤ 10000
   pub tWTR : s .tWTR ≤ 10000
   pub tRFC : s .tRFC ≤ 10000
+  pub least-tRCD : 1 ≤ s .tRCD
+  pub least-tRP : 1 ≤ s .tRP
+  pub least-tRFC : 1 ≤ s .tRFC
 
 module _ (ws : List ℕ) (fits : (i : ℕ) → i < 14 → settingFits i (getD ws i 0) ≡ true) where
   most : (i : ℕ) (l : i < 14) → getD ws i 0 ≤ rowAt i .most
   most i l = at-most i (getD ws i 0) (fits i l)
+
+  least : (i : ℕ) (l : i < 14) → rowAt i .least ≤ getD ws i 0
+  least i l = at-least i (getD ws i 0) (fits i l)
 
   pub ranged : Ranged (settingsOf ws)
   ranged =
@@ -36,4 +42,7 @@ module _ (ws : List ℕ) (fits : (i : ℕ) → i < 14 → settingFits i (getD ws
         tWR = most 9 (omega arith);
         tWTR = most 10 (omega arith);
         tRFC = most 11 (omega arith);
+        least-tRCD = least 4 (omega arith);
+        least-tRP = least 5 (omega arith);
+        least-tRFC = least 11 (omega arith);
       }

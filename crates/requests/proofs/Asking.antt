@@ -1,22 +1,23 @@
 -- A request's tests, one at a time; and the walk over the requests.
-use Prim.Native.Nat.{ℕ, _+_, _/_, _%_, _^_, _≤_, _<_}
+use Prim.Native.Nat.{ℕ, zero, suc, _+_, _*_, _/_, _%_, _^_, _≤_, _<_}
 use mathlib.Core.Bool.{Bool, true, false, not, and-eq-true-iff}
 use mathlib.Core.List.{List}
 use mathlib.Core.Option.{none, some}
-use mathlib.Core.Path.{_≡_, sym, ap, _∙_}
+use mathlib.Core.Path.{_≡_, refl, sym, ap, _∙_}
 use native.Mathlib.Nat.{mod-eq-of-lt}
 use native.Mathlib.Omega.{arith}
 use lib.Dec.{ltb, eqb}
 use lib.ListN.{length, getD}
-use lib.Pow.{pow-pos, pow-mono}
-use borrow.Author.Tests.{ltb-true, lt-ltb, le-ltb, eq-eqb, ne-eqb}
+use lib.Pow.{pow-pos, pow-mono, pow-add, shr-lt, shl-shr, shr-shr, shr-mono, field}
+use borrow.Author.Tests.{ltb-true, ltb-false, lt-ltb, le-ltb, eq-eqb, ne-eqb}
 use Rattle.reading.specs.Settings.{Settings}
 use Rattle.reading.specs.Schedule.{firstCell, cellBank, requestFits, badRequest}
+use Rattle.memory.specs.Serving.{Sized}
 use Rattle.words.proofs.Search as search
 use Rattle.words.proofs.Search.{foundFrom}
-use Rattle.requests.specs.Asked.{Asked}
+use Rattle.requests.specs.Asked.{Asked, cellsOf, below}
 
-pub all-bits : (bits : ℕ) → bits ≤ 14 → 2 ^ (bits % 32) ≡ 2 ^ bits
+pub all-bits : (bits : ℕ) → bits ≤ 27 → 2 ^ (bits % 32) ≡ 2 ^ bits
 all-bits bits l = let e : bits % 32 ≡ bits = mod-eq-of-lt (omega arith) in rw e
 
 pub some-numbers : (bits : ℕ) → 0 < 2 ^ bits
@@ -28,17 +29,58 @@ few-numbers bits l = pow-mono l
 -- ---- one request
 
 module _ (s : Settings) (q : ℕ) where
-  pub bits-set : (q / 2 ^ 27 % 2 ^ 4 ≡ 0 → ⊥) → requestFits s q ≡ false
+  bits-set : (q / 2 ^ 27 % 2 ^ 4 ≡ 0 → ⊥) → requestFits s q ≡ false
   unfolding requestFits
   bits-set h = rw (ne-eqb (q / 2 ^ 27 % 2 ^ 4) 0 h)
 
-  pub bits-clear : q / 2 ^ 27 % 2 ^ 4 ≡ 0 → requestFits s q ≡ ltb (cellBank s (firstCell q)) 4
+  bits-clear : q / 2 ^ 27 % 2 ^ 4 ≡ 0 → requestFits s q ≡ ltb (cellBank s (firstCell q)) 4
   unfolding requestFits
   bits-clear h = rw (eq-eqb (q / 2 ^ 27 % 2 ^ 4) 0 h)
 
   pub bank-low : Asked s q → cellBank s (firstCell q) < 4
   unfolding requestFits
   bank-low a = ltb-true _ 4 (and-eq-true-iff (eqb (q / 2 ^ 27 % 2 ^ 4) 0) (ltb (cellBank s (firstCell q)) 4) .0 (a .fits) .1)
+
+-- the two tests are one
+module _ (s : Settings) (q : ℕ) (z : Sized s) where
+  abbrev bits : ℕ
+  bits = s .columnBits + s .rowBits
+
+  abbrev cell : ℕ
+  cell = firstCell q
+
+  cells-are : cellsOf s ≡ 2 ^ (2 + bits)
+  cells-are = ap (λ (n : ℕ). 2 ^ n) (omega arith)
+
+  few-cells : 2 ^ (2 + bits) ≤ 2 ^ 27
+  few-cells = let l : 2 + bits ≤ 27 = omega (arith, z .columns, z .rows) in pow-mono l
+
+  bank-is : cellBank s cell ≡ cell / 2 ^ bits
+  bank-is = shr-shr cell (s .columnBits) (s .rowBits)
+
+  one-fits : q % 2 ^ 31 < 2 ^ (2 + bits) → requestFits s q ≡ true
+  one-fits l =
+      let same : cell ≡ q % 2 ^ 31 = omega (arith, few-cells) in
+      bits-clear s q (omega (arith, few-cells, field q 4 27)) ∙ lt-ltb (cellBank s cell) 4 (omega (arith, bank-is, shr-lt {n = cell} 2 bits (omega (arith, same))))
+
+  none-fits : 2 ^ (2 + bits) ≤ q % 2 ^ 31 → requestFits s q ≡ false
+  none-fits l = go (q / 2 ^ 27 % 2 ^ 4) refl
+    where
+      go : (n : ℕ) → q / 2 ^ 27 % 2 ^ 4 ≡ n → requestFits s q ≡ false
+      go zero e =
+          let high : 2 ^ 2 * 2 ^ bits ≤ cell = omega (arith, pow-add 2 2 bits) in
+          bits-clear s q e ∙ le-ltb (cellBank s cell) 4 (omega (arith, bank-is, shr-mono bits high, shl-shr (2 ^ 2) bits))
+      go (suc n) e = bits-set s q (λ k. omega arith)
+
+  fits-is : below (cellsOf s) q ≡ requestFits s q
+  fits-is = ap (ltb (q % 2 ^ 31)) cells-are ∙ go (ltb (q % 2 ^ 31) (2 ^ (2 + bits))) refl
+    where
+      go : (v : Bool) → ltb (q % 2 ^ 31) (2 ^ (2 + bits)) ≡ v → v ≡ requestFits s q
+      go true e = sym (one-fits (ltb-true _ _ e))
+      go false e = sym (none-fits (ltb-false _ _ e))
+
+  fits-as : {n : ℕ} → n ≡ cellsOf s → {v : Bool} → below n q ≡ v → requestFits s q ≡ v
+  fits-as e k = sym fits-is ∙ ap (λ (n : ℕ). below n q) (sym e) ∙ k
 
 -- ---- the walk: what is found from request i on is what is found at all
 
@@ -59,11 +101,11 @@ module _ (s : Settings) (qs : List ℕ) where
   begins l = record { within = omega arith; same = rw (le-ltb 2000 (length qs) l) (search.begins (bad s qs) (length qs)) }
 
 module _ {s : Settings} {qs : List ℕ} {i : ℕ} (x : Sought s qs i) where
-  pub goes-on : i < length qs → requestFits s (getD qs i 0) ≡ true → Sought s qs (i + 1)
-  goes-on l e = record { within = omega arith; same = sym (search.goes-on (bad s qs) (length qs) i l (ap not e)) ∙ x .same }
+  pub goes-on : i < length qs → Sized s → {n : ℕ} → n ≡ cellsOf s → below n (getD qs i 0) ≡ true → Sought s qs (i + 1)
+  goes-on l z e k = record { within = omega arith; same = sym (search.goes-on (bad s qs) (length qs) i l (ap not (fits-as s (getD qs i 0) z e k))) ∙ x .same }
 
-  pub stops : i < length qs → requestFits s (getD qs i 0) ≡ false → some i ≡ badRequest s qs
-  stops l e = sym (search.stops (bad s qs) (length qs) i l (ap not e)) ∙ x .same
+  pub stops : i < length qs → Sized s → {n : ℕ} → n ≡ cellsOf s → below n (getD qs i 0) ≡ false → some i ≡ badRequest s qs
+  stops l z e k = sym (search.stops (bad s qs) (length qs) i l (ap not (fits-as s (getD qs i 0) z e k))) ∙ x .same
 
   pub ends : length qs ≤ i → none ≡ badRequest s qs
   ends l = sym (search.ends (bad s qs) (length qs) i l) ∙ x .same

@@ -4,9 +4,9 @@ ghost use mathlib.Core.Path.{_≡_};
 ghost use Prim.Native.Nat.{_^_, _≤_, _<_};
 ghost use Rattle.words.specs.Found.{placeOf};
 ghost use Rattle.reading.specs.Settings.{settingsOf};
-ghost use Rattle.reading.specs.Schedule.{asksWrite, firstCell, cellBank, cellRow, cellColumn, requestFits, badRequest, activePins, columnPins, burstPins};
+ghost use Rattle.reading.specs.Schedule.{asksWrite, firstCell, cellBank, cellRow, cellColumn, badRequest, activePins, columnPins, burstPins};
 ghost use Rattle.memory.specs.Serving.{Sized};
-ghost use Rattle.requests.specs.Asked.{Asked, burstCode};
+ghost use Rattle.requests.specs.Asked.{Asked, burstCode, cellsOf, below};
 
 const COLUMN_BITS: usize = 2;
 
@@ -88,15 +88,19 @@ pub fn burst_pins(s: &[u32; 14], q: u32) -> u32
     column_pins(column(s, q)) + 16_384 * bank(s, q) + code
 }
 
-// Bits 27-30 are zero and the part, of four banks, has the cell.
-fn fits(s: &[u32; 14], q: u32) -> bool
+// The cells of the part, which has four banks.
+fn cells(s: &[u32; 14]) -> u32
     requires { ⌜ Sized (settingsOf (now s)) ⌝ }
-    ensures { λ r. ⌜ r ≡ requestFits (settingsOf (now (s .entry))) q ⌝ }
+    ensures { λ r. ⌜ r ≡ cellsOf (settingsOf (now (s .entry))) ⌝ }
 {
-    if q / 134_217_728 % 16 != 0 {
-        return false;
-    }
-    bank(s, q) < 4
+    deadlines::sums::rows(2 + s[COLUMN_BITS] + s[deadlines::places::ROW_BITS])
+}
+
+// Bits 27-30 are zero and the part has the cell: without the highest bit, which asks for a write, it is a cell's number.
+fn fits(cells: u32, q: u32) -> bool
+    ensures { λ r. ⌜ r ≡ below cells q ⌝ }
+{
+    q % 2_147_483_648 < cells
 }
 
 // Refusal 5: over 2,000 requests, else the lowest that does not fit.
@@ -108,8 +112,9 @@ pub fn lowest_bad(s: &[u32; 14], requests: &[u32]) -> Found
     if 2000 < n {
         return Found::At(2000);
     }
+    let cells = cells(s);
     'requests: for i in 0..n {
-        if fits(s, requests[i]) {
+        if fits(cells, requests[i]) {
             continue 'requests;
         }
         return Found::At(i as u32);

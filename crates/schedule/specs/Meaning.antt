@@ -42,9 +42,9 @@ plannedAs (late i) = Late i
 pub record Noted (x : Schedule) (before now : List ℕ) : Type 0 where
   pub words : (es : List Event) → x ≡ planned es → now ≡ sets before 0 (eventWords es)
 
--- there is room for one turn more, of a request that fits
-pub record Notable (s : reading.Settings) (words : List ℕ) (n q : ℕ) : Type 0 where
-  pub room : 2 * n + 6 ≤ length words
+-- there is room for some events more, of a request that fits
+pub record Notable (s : reading.Settings) (words : List ℕ) (n events q : ℕ) : Type 0 where
+  pub room : 2 * (n + events) ≤ length words
   pub asked : Asked s q
 
 -- nothing is refused, and there is room for the events

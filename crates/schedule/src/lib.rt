@@ -14,7 +14,7 @@ ghost use Rattle.reading.specs.Words.{bytesOf};
 ghost use Rattle.reading.specs.Settings.{settingsOf};
 ghost use Rattle.reading.specs.Schedule.{scheduleOf, eventWords};
 ghost use Rattle.reading.specs.Answers.{scheduleOutcome};
-ghost use Rattle.turns.specs.Events.{turnEvents};
+ghost use Rattle.turns.specs.Events.{requestEvents, turnEvents};
 ghost use Rattle.schedule.specs.Meaning.{means, refusing, plannedAs, Noted, Plannable, Notable, Writable, written, writing};
 
 // What is said of settings, requests and a buffer.
@@ -69,22 +69,27 @@ fn put_event(words: &mut [u32], i: usize, cycle: u32, pins: u32)
     words[2 * i + 1] = pins;
 }
 
+// ACTIVE, then READ or WRITE, noted behind n events.
+fn note_request(s: &[u32; 14], words: &mut [u32], n: usize, active: u32, burst: u32, q: u32)
+    requires { ⌜ Notable (settingsOf (now s)) (now words) n 2 q ⌝ }
+    ensures { λ r. ⌜ now (words .exit) ≡ sets (now (words .entry)) (2 * n) (eventWords (requestEvents (settingsOf (now (s .entry))) active burst q)) ⌝ }
+{
+    put_event(words, n, active, requests::active_pins(s, q));
+    put_event(words, n + 1, burst, requests::burst_pins(s, q));
+}
+
 // The events of a turn, noted behind n events; how many there are then.
 fn note(s: &[u32; 14], words: &mut [u32], n: usize, turn: Turn, q: u32) -> usize
-    requires { ⌜ Notable (settingsOf (now s)) (now words) n q ⌝ }
+    requires { ⌜ Notable (settingsOf (now s)) (now words) n 3 q ⌝ }
     ensures { λ r. ⌜ r ≡ n + length (turnEvents (settingsOf (now (s .entry))) turn q) ⌝ }
     ensures { λ r. ⌜ now (words .exit) ≡ sets (now (words .entry)) (2 * n) (eventWords (turnEvents (settingsOf (now (s .entry))) turn q)) ⌝ }
 {
-    let active = requests::active_pins(s, q);
-    let burst = requests::burst_pins(s, q);
     if turn.lead {
         put_event(words, n, turn.refresh, REFRESH_PINS);
-        put_event(words, n + 1, turn.active, active);
-        put_event(words, n + 2, turn.burst, burst);
+        note_request(s, words, n + 1, turn.active, turn.burst, q);
         return n + 3;
     }
-    put_event(words, n, turn.active, active);
-    put_event(words, n + 1, turn.burst, burst);
+    note_request(s, words, n, turn.active, turn.burst, q);
     n + 2
 }
 
@@ -94,13 +99,13 @@ fn plan(s: &[u32; 14], requests: &[u32], words: &mut [u32]) -> Planned
     ensures { λ r. ⌜ r ≡ plannedAs (scheduleOf (settingsOf (now (s .entry))) (now (requests .entry))) ⌝ }
     ensures { λ r. ⌜ Noted (scheduleOf (settingsOf (now (s .entry))) (now (requests .entry))) (now (words .entry)) (now (words .exit)) ⌝ }
 {
-    let mut d = effects::start(s);
+    let mut k = turns::start(s);
     let pace = sums::pace(s[MODE]);
     let mut free: u64 = 0;
     let mut n: usize = 0;
     'requests: for i in 0..requests.len() {
         let q = requests[i];
-        let turn = turns::serve(s, &mut d, &pace, free, q);
+        let turn = turns::serve(s, &mut k, &pace, free, q);
         if !turn.kept {
             return Planned::Late(i as u32);
         }
@@ -157,7 +162,8 @@ pub fn schedule(settings: &[u32], requests: &[u32], out: &mut [u8]) -> Scheduled
             place: i,
         };
     }
-    let mut list = [0u32; WORDS];
+    // Any word would do: none is read before it is noted. Zeros would be stored by a call of the C library.
+    let mut list = [1u32; WORDS];
     let planned = plan(&s, requests, &mut list);
     match planned {
         Planned::Late(i) => Scheduled::Refused {

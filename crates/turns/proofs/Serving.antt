@@ -3,42 +3,50 @@ use Prim.Native.Nat.{ℕ, _+_}
 use mathlib.Core.Bool.{Bool, true, false}
 use mathlib.Core.List.{List}
 use mathlib.Core.Path.{_≡_, sym, ap, _∙_}
+use lib.ListN.{set}
 use Rattle.reading.specs.Settings.{Settings}
-use Rattle.deadlines.specs.Deadlines.{refreshAfter}
-use Rattle.plan.specs.Soonest.{refreshSoonest}
+use Rattle.reading.specs.Schedule.{asksWrite, firstCell, cellBank}
+use Rattle.deadlines.specs.Deadlines.{paceOf}
 use Rattle.turns.specs.declared.Tried.{Tried}
-use Rattle.turns.specs.Turning.{cycleFor, triedKept, trying, triedAfter, refreshAt, refreshed, turning, turnedAfter}
+use Rattle.turns.specs.Turning.{cycleFor}
+use Rattle.turns.specs.Between.{DUE, refreshSoonest, trying, taking, refreshAt, refreshed, alone, behind, serving, servedAfter}
 
-module _ (s : Settings) (d : List ℕ) (free q : ℕ) {r : Tried} (tried : r ≡ trying s d free q) where
-  kept-as : {v : Bool} → r .kept ≡ v → triedKept s d free q ≡ v
-  kept-as k = sym (ap (λ (x : Tried). x .kept) tried) ∙ k
+module _ (s : Settings) (k : List ℕ) (free q : ℕ) {m : List ℕ} (mm : m ≡ paceOf (s .mode)) {w : Bool} (ww : w ≡ asksWrite q)
+    {b : ℕ} (bb : b ≡ cellBank s (firstCell q)) {r : Tried} (tried : r ≡ trying s m k free w b) where
+  r-is : r ≡ alone s k free q
+  r-is = tried ∙ (λ i. trying s (mm i) k free (ww i) (bb i))
 
-  pub served-alone : r .kept ≡ true → {d′ : List ℕ} → d′ ≡ triedAfter s d free q →
-      (record { kept = true; lead = false; refresh = 0; active = r .active; burst = r .burst } ≡ turning s d free q) × (d′ ≡ turnedAfter s d free q)
-  unfolding turning turnedAfter
-  served-alone k f =
-      rw (kept-as k) (λ u. record { kept = true; lead = false; refresh = 0; active = tried u .active; burst = tried u .burst }, f)
+  kept-as : {v : Bool} → r .kept ≡ v → alone s k free q .kept ≡ v
+  kept-as e = sym (ap (λ (x : Tried). x .kept) r-is) ∙ e
+
+  pub served-alone : r .kept ≡ true → {k′ : List ℕ} → k′ ≡ taking s m k w b r →
+      (record { kept = true; lead = false; refresh = 0; active = r .active; burst = r .burst } ≡ serving s k free q) × (k′ ≡ servedAfter s k free q)
+  unfolding serving servedAfter taking
+  served-alone e f =
+      rw (kept-as e) (
+        λ u. record { kept = true; lead = false; refresh = 0; active = r-is u .active; burst = r-is u .burst },
+        f ∙ (λ i. taking s (mm i) k (ww i) (bb i) (r-is i)),
+      )
 
   -- with an AUTO REFRESH before it
-  module _ (k : r .kept ≡ false) {refresh : ℕ} (at : refresh ≡ cycleFor free (refreshSoonest d)) {d₁ : List ℕ} (left : d₁ ≡ refreshAfter s d refresh)
-      {from : ℕ} (next : from ≡ refresh + 1) {b : Tried} (behind : b ≡ trying s d₁ from q) where
-    at-is : refresh ≡ refreshAt s d free
+  module _ (e : r .kept ≡ false) {refresh : ℕ} (at : refresh ≡ cycleFor free (refreshSoonest k)) {due : ℕ} (next : due ≡ refresh + s .GAP)
+      {from : ℕ} (on : from ≡ refresh + s .tRFC) {r₂ : Tried} (tried₂ : r₂ ≡ trying s m (set k DUE due) from w b) where
+    at-is : refresh ≡ refreshAt s k free q
     unfolding refreshAt
     at-is = at
 
-    d-is : d₁ ≡ refreshed s d free
+    k-is : set k DUE due ≡ refreshed s k free q
     unfolding refreshed
-    d-is = left ∙ ap (refreshAfter s d) at-is
+    k-is = ap (set k DUE) (next ∙ ap (λ (t : ℕ). t + s .GAP) at-is)
 
-    from-is : from ≡ refreshAt s d free + 1
-    from-is = next ∙ ap (λ (t : ℕ). t + 1) at-is
+    r₂-is : r₂ ≡ behind s k free q
+    r₂-is = tried₂ ∙ (λ i. trying s (mm i) (k-is i) ((on ∙ ap (λ (t : ℕ). t + s .tRFC) at-is) i) (ww i) (bb i))
 
-    b-is : b ≡ trying s (refreshed s d free) (refreshAt s d free + 1) q
-    b-is = behind ∙ (λ i. trying s (d-is i) (from-is i) q)
-
-    pub served-led : {d₂ : List ℕ} → d₂ ≡ triedAfter s d₁ from q →
-        (record { kept = b .kept; lead = true; refresh = refresh; active = b .active; burst = b .burst } ≡ turning s d free q) × (d₂ ≡ turnedAfter s d free q)
-    unfolding turning turnedAfter
+    pub served-led : {k₂ : List ℕ} → k₂ ≡ taking s m (set k DUE due) w b r₂ →
+        (record { kept = r₂ .kept; lead = true; refresh = refresh; active = r₂ .active; burst = r₂ .burst } ≡ serving s k free q) × (k₂ ≡ servedAfter s k free q)
+    unfolding serving servedAfter
     served-led f =
-        rw (kept-as k)
-        (λ u. record { kept = b-is u .kept; lead = true; refresh = at-is u; active = b-is u .active; burst = b-is u .burst }, f ∙ (λ i. triedAfter s (d-is i) (from-is i) q))
+        rw (kept-as e) (
+          λ u. record { kept = r₂-is u .kept; lead = true; refresh = at-is u; active = r₂-is u .active; burst = r₂-is u .burst },
+          f ∙ (λ i. taking s (mm i) (k-is i) (ww i) (bb i) (r₂-is i)),
+        )

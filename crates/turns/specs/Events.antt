@@ -7,7 +7,8 @@ use Rattle.reading.specs.Capture.{Event}
 use Rattle.reading.specs.Schedule.{activePins, burstPins, refreshPins}
 use Rattle.turns.specs.declared.Turn.{Turn}
 
+abbrev pub requestEvents : Settings → ℕ → ℕ → ℕ → List Event
+requestEvents s active burst q = record { cycle = active; pins = activePins s q } ∷ record { cycle = burst; pins = burstPins s q } ∷ []
+
 unfoldable pub turnEvents : Settings → Turn → ℕ → List Event
-turnEvents s t q =
-    cond (t .lead) (record { cycle = t .refresh; pins = refreshPins } ∷ []) []
-    ++ (record { cycle = t .active; pins = activePins s q } ∷ record { cycle = t .burst; pins = burstPins s q } ∷ [])
+turnEvents s t q = cond (t .lead) (record { cycle = t .refresh; pins = refreshPins } ∷ []) [] ++ requestEvents s (t .active) (t .burst) q

@@ -8,7 +8,6 @@ use Rattle.reading.specs.Settings.{Settings}
 use Rattle.reading.specs.Schedule.{asksWrite, firstCell, cellBank}
 use Rattle.deadlines.specs.Deadlines.{DUE, at, paceOf, activeAfter, readAfter, writeAfter, refreshAfter}
 use Rattle.plan.specs.Soonest.{activeSoonest, burstSoonest, refreshSoonest}
-use Rattle.turns.specs.declared.Tried.{Tried}
 use Rattle.turns.specs.declared.Turn.{Turn}
 
 -- a cycle is a word
@@ -42,9 +41,6 @@ module _ (s : Settings) (d : List ℕ) (free : ℕ) where
 
     unfoldable pub triedKept : Bool
     triedKept = inTime triedAfter (burstAt + 1)
-
-    abbrev pub trying : Tried
-    trying = record { active = activeAt; burst = burstAt; kept = triedKept }
 
   unfoldable pub refreshAt : ℕ
   refreshAt = cycleFor free (refreshSoonest d)

@@ -1,23 +1,55 @@
-// One request's turn in the schedule: when its commands go, by the deadlines that are kept of the part.
-use deadlines::places::DUE;
+// One request's turn in the schedule: when its commands go. Between two requests all banks are idle, and sixteen cycles
+// are enough of the deadlines that are kept of a part (specs/Between).
+use deadlines::places::GAP;
+use deadlines::places::LATENCY;
+use deadlines::places::PAIRS;
+use deadlines::places::T_RAS;
+use deadlines::places::T_RC;
+use deadlines::places::T_RCD;
+use deadlines::places::T_RFC;
+use deadlines::places::T_RP;
+use deadlines::places::T_RRD;
+use deadlines::places::T_WR;
+use deadlines::places::T_WTR;
 use deadlines::sums::after;
+use deadlines::sums::after2;
+use deadlines::sums::data_after;
+use deadlines::sums::data_after2;
 use deadlines::sums::latest;
 ghost use mathlib.Core.Path.{_≡_};
 ghost use Prim.Native.Nat.{_<_};
 ghost use Rattle.reading.specs.Settings.{settingsOf};
 ghost use Rattle.deadlines.specs.Deadlines.{paceOf};
 ghost use Rattle.requests.specs.Asked.{Asked};
-ghost use Rattle.turns.specs.Turning.{cycleFor, inTime, burstLeaves, trying, triedAfter, turning, turnedAfter};
+ghost use Rattle.turns.specs.Turning.{cycleFor};
+ghost use Rattle.turns.specs.Between as is;
 
-// A request's commands, placed one behind the other: their cycles, and whether an AUTO REFRESH placed next comes in time.
-// All other rules are kept where the deadlines are, and rule 14 where that AUTO REFRESH keeps it.
+// Of each bank: rules 5, 6 and 7.
+const REST: usize = 0;
+
+const AGAIN: usize = 4;
+
+const APART: usize = 8;
+
+// Rules 11 and 13 for READ, 12 and 13 for WRITE; rule 14; rule 12 for AUTO REFRESH.
+const READS: usize = 12;
+
+const WRITES: usize = 13;
+
+const DUE: usize = 14;
+
+const BUS: usize = 15;
+
+// A request's commands: their cycles, from when on their bank may be opened again, and whether an AUTO REFRESH placed
+// next comes in time. All other rules are kept where the deadlines are, and rule 14 where that AUTO REFRESH keeps it.
 struct Tried {
     active: u32,
     burst: u32,
+    rest: u64,
     kept: bool,
 }
 
-// The same, with an AUTO REFRESH before the request where `lead` says so.
+// The cycles of a request, with an AUTO REFRESH before it where `lead` says so.
 pub struct Turn {
     pub kept: bool,
     pub lead: bool,
@@ -33,58 +65,129 @@ fn cycle_for(free: u64, soonest: u64) -> u32
     (latest(free, soonest) % 4_294_967_296) as u32
 }
 
-// An AUTO REFRESH placed next comes at most GAP after the last one.
-fn in_time(d: &[u64; 40], free: u64) -> bool
-    ensures { λ r. ⌜ r ≡ inTime (now (d .entry)) free ⌝ }
+fn active_soonest(k: &[u64; 16], b: usize) -> u64
+    requires { ⌜ b < 4 ⌝ }
+    ensures { λ r. ⌜ r ≡ is.activeSoonest (now (k .entry)) b ⌝ }
 {
-    latest(free, soonest::refresh_soonest(d)) <= d[DUE]
+    latest(k[REST + b], latest(k[AGAIN + b], k[APART + b]))
 }
 
-// READ or WRITE with auto precharge.
-fn burst_after(write: bool, s: &[u32; 14], d: &mut [u64; 40], pace: &[u32; 2], t: u32, b: usize)
-    requires { ⌜ b < 4 ⌝ }
-    ensures { λ r. ⌜ now (d .exit) ≡ burstLeaves write (settingsOf (now (s .entry))) (now (d .entry)) (now (pace .entry)) t b ⌝ }
+// READ or WRITE.
+fn burst_soonest(write: bool, k: &[u64; 16]) -> u64
+    ensures { λ r. ⌜ r ≡ is.burstSoonest write (now (k .entry)) ⌝ }
 {
     if write {
-        effects::write_after(s, d, pace, t, b, true);
-        return;
+        return k[WRITES];
     }
-    effects::read_after(s, d, pace, t, b, true);
+    k[READS]
 }
 
-// ACTIVE, then READ or WRITE with auto precharge.
-fn request(s: &[u32; 14], d: &mut [u64; 40], pace: &[u32; 2], free: u64, q: u32) -> Tried
-    requires { ⌜ Asked (settingsOf (now s)) q ⌝ }
-    requires { ⌜ now pace ≡ paceOf (settingsOf (now s) .mode) ⌝ }
-    ensures { λ r. ⌜ r ≡ trying (settingsOf (now (s .entry))) (now (d .entry)) free q ⌝ }
-    ensures { λ r. ⌜ now (d .exit) ≡ triedAfter (settingsOf (now (s .entry))) (now (d .entry)) free q ⌝ }
+fn refresh_soonest(k: &[u64; 16]) -> u64
+    ensures { λ r. ⌜ r ≡ is.refreshSoonest (now (k .entry)) ⌝ }
 {
-    let b = requests::bank(s, q) as usize;
-    let write = requests::asks_write(q);
-    let active = cycle_for(free, soonest::active_soonest(&*d, b));
-    effects::active_after(s, d, active, b);
-    let bursts = soonest::burst_soonest(write, &*d, b);
-    let burst = cycle_for(after(active, 1), bursts);
-    burst_after(write, s, d, pace, burst, b);
-    let kept = in_time(&*d, after(burst, 1));
+    let rest = latest(k[REST + 2], latest(k[REST + 3], k[BUS]));
+    latest(k[REST], latest(k[REST + 1], rest))
+}
+
+// The bank of a burst with auto precharge is let open again.
+fn rest_after(write: bool, s: &[u32; 14], pace: &[u32; 2], active: u32, burst: u32) -> u64
+    ensures { λ r. ⌜ r ≡ is.restAfter write (settingsOf (now (s .entry))) (now (pace .entry)) active burst ⌝ }
+{
+    let locked = after2(active, s[T_RAS], s[T_RP]);
+    if write {
+        return latest(locked, data_after2(burst, pace[PAIRS], s[T_WR], s[T_RP]));
+    }
+    latest(locked, after2(burst, pace[PAIRS], s[T_RP]))
+}
+
+// A read's data leave the bus; what a write changes of that is 0.
+fn bus_after(write: bool, pace: &[u32; 2], burst: u32) -> u64
+    ensures { λ r. ⌜ r ≡ is.busAfter write (now (pace .entry)) burst ⌝ }
+{
+    if write {
+        return 0;
+    }
+    after2(burst, pace[LATENCY], pace[PAIRS])
+}
+
+// ACTIVE, then READ or WRITE with auto precharge. The AUTO REFRESH placed next has to wait for no bank but this one: the
+// others, and the bus, were found to be in time before.
+fn request(s: &[u32; 14], k: &[u64; 16], pace: &[u32; 2], free: u64, write: bool, b: usize) -> Tried
+    requires { ⌜ b < 4 ⌝ }
+    ensures { λ r. ⌜ r ≡ is.trying (settingsOf (now (s .entry))) (now (pace .entry)) (now (k .entry)) free write b ⌝ }
+{
+    let active = cycle_for(free, active_soonest(k, b));
+    let burst = cycle_for(after(active, s[T_RCD]), burst_soonest(write, k));
+    let rest = rest_after(write, s, pace, active, burst);
+    let last = latest(rest, bus_after(write, pace, burst));
+    let kept = last <= k[DUE];
     Tried {
         active,
         burst,
+        rest,
         kept,
     }
 }
 
-// The request alone, or else with an AUTO REFRESH before it. The deadlines are those after the turn.
-pub fn serve(s: &[u32; 14], d: &mut [u64; 40], pace: &[u32; 2], free: u64, q: u32) -> Turn
+// An ACTIVE keeps the other banks from one until the cycle `from`, which is later than those before.
+fn apart_after(k: &mut [u64; 16], from: u64, b: usize)
+    requires { ⌜ b < 4 ⌝ }
+    ensures { λ r. ⌜ now (k .exit) ≡ is.apartAfter (now (k .entry)) from b ⌝ }
+{
+    let own = k[APART + b];
+    k[APART] = from;
+    k[APART + 1] = from;
+    k[APART + 2] = from;
+    k[APART + 3] = from;
+    k[APART + b] = own;
+}
+
+fn burst_after(write: bool, s: &[u32; 14], k: &mut [u64; 16], pace: &[u32; 2], t: u32)
+    ensures { λ r. ⌜ now (k .exit) ≡ is.burstAfter write (settingsOf (now (s .entry))) (now (k .entry)) (now (pace .entry)) t ⌝ }
+{
+    let pairs = pace[PAIRS];
+    if write {
+        k[WRITES] = after(t, pairs);
+        k[READS] = data_after(t, pairs, s[T_WTR]);
+        return;
+    }
+    let bus = after2(t, pace[LATENCY], pairs);
+    k[READS] = after(t, pairs);
+    k[WRITES] = bus;
+    k[BUS] = bus;
+}
+
+fn take(s: &[u32; 14], k: &mut [u64; 16], pace: &[u32; 2], write: bool, b: usize, tried: Tried)
+    requires { ⌜ b < 4 ⌝ }
+    ensures { λ r. ⌜ now (k .exit) ≡ is.taking (settingsOf (now (s .entry))) (now (pace .entry)) (now (k .entry)) write b tried ⌝ }
+{
+    k[REST + b] = tried.rest;
+    k[AGAIN + b] = after(tried.active, s[T_RC]);
+    apart_after(k, after(tried.active, s[T_RRD]), b);
+    burst_after(write, s, k, pace, tried.burst);
+}
+
+// Before the first request: nothing has happened, and the first AUTO REFRESH is due after GAP.
+pub fn start(s: &[u32; 14]) -> [u64; 16]
+    ensures { λ r. ⌜ r ≡ is.startOf (settingsOf (now (s .entry))) ⌝ }
+{
+    let mut k = [0u64; 16];
+    k[DUE] = after(s[GAP], 0);
+    k
+}
+
+// The request alone, or else with an AUTO REFRESH before it.
+pub fn serve(s: &[u32; 14], k: &mut [u64; 16], pace: &[u32; 2], free: u64, q: u32) -> Turn
     requires { ⌜ Asked (settingsOf (now s)) q ⌝ }
     requires { ⌜ now pace ≡ paceOf (settingsOf (now s) .mode) ⌝ }
-    ensures { λ r. ⌜ r ≡ turning (settingsOf (now (s .entry))) (now (d .entry)) free q ⌝ }
-    ensures { λ r. ⌜ now (d .exit) ≡ turnedAfter (settingsOf (now (s .entry))) (now (d .entry)) free q ⌝ }
+    ensures { λ r. ⌜ r ≡ is.serving (settingsOf (now (s .entry))) (now (k .entry)) free q ⌝ }
+    ensures { λ r. ⌜ now (k .exit) ≡ is.servedAfter (settingsOf (now (s .entry))) (now (k .entry)) free q ⌝ }
 {
-    let mut trial = *d;
-    let alone = request(s, &mut trial, pace, free, q);
+    let b = requests::bank(s, q) as usize;
+    let write = requests::asks_write(q);
+    let alone = request(s, &*k, pace, free, write, b);
     if alone.kept {
-        *d = trial;
+        take(s, k, pace, write, b, alone);
         return Turn {
             kept: true,
             lead: false,
@@ -93,9 +196,10 @@ pub fn serve(s: &[u32; 14], d: &mut [u64; 40], pace: &[u32; 2], free: u64, q: u3
             burst: alone.burst,
         };
     }
-    let refresh = cycle_for(free, soonest::refresh_soonest(&*d));
-    effects::refresh_after(s, d, refresh);
-    let behind = request(s, d, pace, after(refresh, 1), q);
+    let refresh = cycle_for(free, refresh_soonest(&*k));
+    k[DUE] = after(refresh, s[GAP]);
+    let behind = request(s, &*k, pace, after(refresh, s[T_RFC]), write, b);
+    take(s, k, pace, write, b, behind);
     Turn {
         kept: behind.kept,
         lead: true,

@@ -1,6 +1,7 @@
+use mathlib.Core.Path.{sym, _∙_}
+use borrow.Author.Needs.{needs}
 use Rattle.requests.proofs.Asking.{Sought, too-many, begins, goes-on, stops, ends}
 use native.Mathlib.Omega.{arith}
-use mathlib.Core.Path.{sym, _∙_}
 use Rattle.reading.specs.Settings.{settingsOf}
 use Prim.Native.Nat.{_-_}
 use lib.ListN.{length}
@@ -8,16 +9,19 @@ use Rattle.requests.proofs.lowest_bad.Statement.{statement}
 use Rattle.requests.proofs.lowest_bad.Tie as tie
 
 abbrev Inv-requests : tie.InvT-requests
-Inv-requests s requests n i₀ i = Sought (settingsOf s) requests i
+Inv-requests s requests n cells i₀ i = Sought (settingsOf s) requests i
 
 abbrev μ-requests : tie.MeasureT-requests
-μ-requests s requests n i₀ i = length requests - i
+μ-requests s requests n cells i₀ i = length requests - i
 
 returns : tie.Need-returns Inv-requests μ-requests
 returns c = too-many (settingsOf (c .before .before .args .s .now)) (c .before .before .args .requests .now) (c .if1 .taken)
 
+cells-requires : tie.Need-cells-requires Inv-requests μ-requests
+cells-requires c κs = c .before .before .pre
+
 requests-holds : tie.Need-requests-holds Inv-requests μ-requests
-requests-holds c = begins (settingsOf (c .before .before .args .s .now)) (c .before .before .args .requests .now) (c .if1 .left)
+requests-holds c = begins (settingsOf (c .before .before .before .args .s .now)) (c .before .before .before .args .requests .now) (c .before .if1 .left)
 
 mul-fits : tie.Need-mul-fits Inv-requests μ-requests
 mul-fits c = omega arith
@@ -26,7 +30,7 @@ shared-slice-read-fits : tie.Need-shared-slice-read-fits Inv-requests μ-request
 shared-slice-read-fits c = omega arith
 
 fits-requires : tie.Need-fits-requires Inv-requests μ-requests
-fits-requires c κs = c .before .before .before .before .before .pre
+fits-requires c κs = search needs
 
 add-i : tie.Need-add-i Inv-requests μ-requests
 add-i c = omega arith
@@ -35,13 +39,13 @@ requests-less : tie.Need-requests-less Inv-requests μ-requests
 requests-less c = omega arith
 
 requests-again : tie.Need-requests-again Inv-requests μ-requests
-requests-again c = goes-on (c .before .before .before .before .requests .inv) (omega arith) (sym (c .before .fits2 .ensures) ∙ c .if2 .taken)
+requests-again c = goes-on (c .before .before .before .before .requests .inv) (omega arith) (c .before .before .before .before .before .before .before .before .pre) (c .before .before .before .before .before .cells .ensures) (sym (c .before .fits2 .ensures) ∙ c .if2 .taken)
 
-cast-t10 : tie.Need-cast-t10 Inv-requests μ-requests
-cast-t10 c = omega arith
+cast-t11 : tie.Need-cast-t11 Inv-requests μ-requests
+cast-t11 c = omega arith
 
 returns-2 : tie.Need-returns-2 Inv-requests μ-requests
-returns-2 c = stops (c .before .before .before .before .requests .inv) (omega arith) (sym (c .before .fits2 .ensures) ∙ c .if2 .left)
+returns-2 c = stops (c .before .before .before .before .requests .inv) (omega arith) (c .before .before .before .before .before .before .before .before .pre) (c .before .before .before .before .before .cells .ensures) (sym (c .before .fits2 .ensures) ∙ c .if2 .left)
 
 returns-3 : tie.Need-returns-3 Inv-requests μ-requests
 returns-3 c = ends (c .before .requests .inv) (omega arith)
@@ -53,6 +57,7 @@ lowest-bad-spec =
     Inv-requests
     μ-requests
     returns
+    cells-requires
     requests-holds
     mul-fits
     shared-slice-read-fits
@@ -60,6 +65,6 @@ lowest-bad-spec =
     add-i
     requests-less
     requests-again
-    cast-t10
+    cast-t11
     returns-2
     returns-3)

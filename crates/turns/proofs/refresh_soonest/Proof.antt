@@ -1,7 +1,7 @@
-use Rattle.plan.specs.Soonest.{latest, refreshSoonest}
+use Rattle.turns.specs.Between.{refreshSoonest}
 use borrow.Author.Needs.{needs}
-use Rattle.soonest.proofs.refresh_soonest.Statement.{statement}
-use Rattle.soonest.proofs.refresh_soonest.Tie as tie
+use Rattle.turns.proofs.refresh_soonest.Statement.{statement}
+use Rattle.turns.proofs.refresh_soonest.Tie as tie
 
 add-latest : tie.Need-add-latest
 add-latest c = search needs
@@ -33,17 +33,14 @@ latest-requires-2 c κs = search needs
 element-copy-out-latest-4 : tie.Need-element-copy-out-latest-4
 element-copy-out-latest-4 c = search needs
 
-element-copy-out-latest-5 : tie.Need-element-copy-out-latest-5
-element-copy-out-latest-5 c = search needs
-
 add-latest-3 : tie.Need-add-latest-3
 add-latest-3 c = search needs
 
 mul-latest-3 : tie.Need-mul-latest-3
 mul-latest-3 c = search needs
 
-element-copy-out-latest-6 : tie.Need-element-copy-out-latest-6
-element-copy-out-latest-6 c = search needs
+element-copy-out-latest-5 : tie.Need-element-copy-out-latest-5
+element-copy-out-latest-5 c = search needs
 
 latest-requires-3 : tie.Need-latest-requires-3
 latest-requires-3 c κs = search needs
@@ -51,12 +48,9 @@ latest-requires-3 c κs = search needs
 latest-requires-4 : tie.Need-latest-requires-4
 latest-requires-4 c κs = search needs
 
-latest-requires-5 : tie.Need-latest-requires-5
-latest-requires-5 c κs = search needs
-
 returns : tie.Need-returns
-unfolding refreshSoonest latest
-returns c = rw (c .latest5 .ensures, c .before .latest4 .ensures, c .before .before .latest3 .ensures, c .before .before .before .before .before .before .latest2 .ensures, c .before .before .before .before .before .before .before .latest .ensures)
+unfolding refreshSoonest
+returns c = rw (c .latest4 .ensures, c .before .latest3 .ensures, c .before .before .before .before .latest2 .ensures, c .before .before .before .before .before .latest .ensures)
 
 pub refresh-soonest-spec : {M : Type 1} → statement M
 refresh-soonest-spec =
@@ -72,11 +66,9 @@ refresh-soonest-spec =
     latest-requires
     latest-requires-2
     element-copy-out-latest-4
-    element-copy-out-latest-5
     add-latest-3
     mul-latest-3
-    element-copy-out-latest-6
+    element-copy-out-latest-5
     latest-requires-3
     latest-requires-4
-    latest-requires-5
     returns)

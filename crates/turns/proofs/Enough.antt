@@ -1,0 +1,353 @@
+-- A request's turn by the sixteen cycles is its turn by the forty deadlines, of which they are taken.
+use Prim.Native.Nat.{ℕ, zero, suc, _+_, _%_, _≤_, _<_}
+use mathlib.Core.Bool.{Bool, true, false, cond}
+use mathlib.Core.List.{List, [], _∷_}
+use mathlib.Core.Path.{_≡_, refl, sym, ap, _∙_}
+use native.Mathlib.Nat.{le-refl}
+use native.Mathlib.Omega.{arith}
+use lib.Dec.{leb, eqb}
+use lib.ListN.{set}
+use borrow.Author.Tests.{leb-true, leb-false, le-leb, lt-leb, eq-eqb, ne-eqb, eqb-true, eqb-false}
+use Rattle.reading.specs.Search.{later, lesser}
+use Rattle.reading.specs.Mode.{h, CL}
+use Rattle.reading.specs.Settings.{Settings}
+use Rattle.deadlines.specs.Deadlines.{OTHER, BUSY, DATA, WRITES, paceOf, at, autoAfter, readAfter, newWrite, writeAfter}
+use Rattle.deadlines.specs.Deadlines as all
+use Rattle.bridge.specs.Summary.{Held, laid}
+use Rattle.bridge.proofs.Laid.{put, activated, banked, readGiven, writeGiven, stands, active-laid, auto-laid, cut-laid, new-laid}
+use Rattle.plan.specs.Soonest.{latest, otherBank, readSoonest, writeSoonest}
+use Rattle.plan.specs.Soonest as plan
+use Rattle.plan.proofs.Ranged.{Ranged}
+use Rattle.plan.proofs.Near.{later-most}
+use Rattle.plan.proofs.Sending.{later-first, later-second}
+use Rattle.turns.specs.declared.Tried.{Tried}
+use Rattle.turns.specs.Turning.{inTime, burstLeaves}
+use Rattle.turns.specs.Between.{REST, AGAIN, APART, apart, betweenOf, activeSoonest, burstSoonest, refreshSoonest, restAfter, busAfter, apartAfter, burstAfter, taking}
+
+-- ---- the later of two
+
+pub later-low : (a b : ℕ) → a ≤ b → later a b ≡ b
+later-low a b l = omega (arith, later-second a b, later-most a b b l (le-refl b))
+
+pub later-high : (a b : ℕ) → b ≤ a → later a b ≡ a
+later-high a b l = omega (arith, later-first a b, later-most a b a (le-refl a) l)
+
+above : (a b : ℕ) → (a ≤ later a b) × (b ≤ later a b)
+above a b = (later-first a b, later-second a b)
+
+pub later-group : (a b c : ℕ) → later a (later b c) ≡ later (later a b) c
+later-group a b c =
+    let x : ℕ = later a (later b c) in
+    let y : ℕ = later (later a b) c in
+    let l : x ≤ y =
+    later-most a (later b c) y (omega (arith, above a b, above (later a b) c))
+    (later-most b c y (omega (arith, above a b, above (later a b) c)) (omega (arith, above (later a b) c))) in
+    let k : y ≤ x =
+    later-most (later a b) c x (later-most a b x (omega (arith, above a (later b c))) (omega (arith, above b c, above a (later b c))))
+    (omega (arith, above b c, above a (later b c))) in
+    omega (arith, l, k)
+
+leb-same : (a b c : ℕ) → (a ≤ c → b ≤ c) → (b ≤ c → a ≤ c) → leb a c ≡ leb b c
+leb-same a b c f g = go (leb a c) refl
+  where
+    go : (v : Bool) → leb a c ≡ v → v ≡ leb b c
+    go true e = sym (le-leb b c (f (leb-true a c e)))
+    go false e = by (leb b c) refl
+      where
+        by : (w : Bool) → leb b c ≡ w → false ≡ w
+        by true k = absurd (omega (arith, leb-false a c e, g (leb-true b c k)))
+        by false k = refl
+
+-- ---- bank b's entry replaced
+
+put-own : (f : ℕ → ℕ) (b v : ℕ) → put f b v b ≡ v
+put-own f b v = rw (eq-eqb b b refl)
+
+put-most : (f : ℕ → ℕ) (b v i m : ℕ) → f i ≤ m → v ≤ m → put f b v i ≤ m
+put-most f b v i m l k = go (eqb i b)
+  where
+    go : (w : Bool) → cond w v (f i) ≤ m
+    go true = k
+    go false = l
+
+-- the latest of four and one more
+abbrev over : (ℕ → ℕ) → ℕ → ℕ
+over f z = later (f 0) (later (f 1) (later (f 2) (later (f 3) z)))
+
+over-own : (f : ℕ → ℕ) (z b : ℕ) → b < 4 → f b ≤ over f z
+over-own f z b l =
+    let z₃ : ℕ = later (f 3) z in
+    let z₂ : ℕ = later (f 2) z₃ in
+    let z₁ : ℕ = later (f 1) z₂ in
+    by (above (f 0) z₁) (above (f 1) z₂) (above (f 2) z₃) (above (f 3) z) b l
+  where
+    by : {a b c d : ℕ} → (f 0 ≤ a) × (b ≤ a) → (f 1 ≤ b) × (c ≤ b) → (f 2 ≤ c) × (d ≤ c) → (f 3 ≤ d) × (z ≤ d) → (i : ℕ) → i < 4 → f i ≤ a
+    by p q r t zero l = p .0
+    by p q r t (suc zero) l = omega (arith, p, q)
+    by p q r t (suc (suc zero)) l = omega (arith, p, q, r)
+    by p q r t (suc (suc (suc zero))) l = omega (arith, p, q, r, t)
+    by p q r t (suc (suc (suc (suc i)))) l = absurd (omega arith)
+
+over-last : (f : ℕ → ℕ) (z : ℕ) → z ≤ over f z
+over-last f z =
+    omega (arith, above (f 0) (later (f 1) (later (f 2) (later (f 3) z))), above (f 1) (later (f 2) (later (f 3) z)), above (f 2) (later (f 3) z), above (f 3) z)
+
+over-most : (f : ℕ → ℕ) (z m : ℕ) → ((i : ℕ) → i < 4 → f i ≤ m) → z ≤ m → over f z ≤ m
+over-most f z m l k =
+    later-most _ _ m (l 0 (omega arith))
+    (later-most _ _ m (l 1 (omega arith)) (later-most _ _ m (l 2 (omega arith)) (later-most _ _ m (l 3 (omega arith)) k)))
+
+-- ---- rule 7: what the other banks ask of bank i
+
+abbrev apartIn : (ℕ → ℕ) → ℕ → ℕ
+apartIn o i = later (put o i 0 0) (later (put o i 0 1) (later (put o i 0 2) (put o i 0 3)))
+
+four-own : (f : ℕ → ℕ) (b : ℕ) → b < 4 → f b ≤ later (f 0) (later (f 1) (later (f 2) (f 3)))
+four-own f b l = by (above (f 0) (later (f 1) (later (f 2) (f 3)))) (above (f 1) (later (f 2) (f 3))) (above (f 2) (f 3)) b l
+  where
+    by : {a b c : ℕ} → (f 0 ≤ a) × (b ≤ a) → (f 1 ≤ b) × (c ≤ b) → (f 2 ≤ c) × (f 3 ≤ c) → (i : ℕ) → i < 4 → f i ≤ a
+    by p q r zero l = p .0
+    by p q r (suc zero) l = omega (arith, p, q)
+    by p q r (suc (suc zero)) l = omega (arith, p, q, r)
+    by p q r (suc (suc (suc zero))) l = omega (arith, p, q, r)
+    by p q r (suc (suc (suc (suc i)))) l = absurd (omega arith)
+
+-- an ACTIVE of bank b that is later than the others
+module _ (o : ℕ → ℕ) (v : ℕ) (low : (i : ℕ) → i < 4 → o i ≤ v) (b : ℕ) (lb : b < 4) (i : ℕ) where
+  -- asks nothing of its own bank
+  apart-own : eqb i b ≡ true → apartIn (put o b v) i ≡ apartIn o i
+  apart-own e =
+      rw (eqb-true i b e) (λ u. later (same (eqb 0 b) (o 0) u) (later (same (eqb 1 b) (o 1) u) (later (same (eqb 2 b) (o 2) u) (same (eqb 3 b) (o 3) u))))
+    where
+      same : (w : Bool) (x : ℕ) → cond w 0 (cond w v x) ≡ cond w 0 x
+      same true x = refl
+      same false x = refl
+
+  -- and settles the matter for the others
+  apart-other : eqb i b ≡ false → apartIn (put o b v) i ≡ v
+  apart-other e =
+      let low′ : (j : ℕ) → j < 4 → put (put o b v) i 0 j ≤ v =
+      λ j l. put-most (put o b v) i 0 j v (put-most o b v j v (low j l) (le-refl v)) (omega arith) in
+      let most : apartIn (put o b v) i ≤ v =
+      later-most _ _ v (low′ 0 (omega arith)) (later-most _ _ v (low′ 1 (omega arith)) (later-most _ _ v (low′ 2 (omega arith)) (low′ 3 (omega arith)))) in
+      let apart-from : eqb b i ≡ false = ne-eqb b i (λ k. eqb-false i b e (sym k)) in
+      let own : put (put o b v) i 0 b ≡ v = ap (λ (w : Bool). cond w 0 (put o b v b)) apart-from ∙ put-own o b v in
+      omega (arith, most, own, four-own (put (put o b v) i 0) b lb)
+
+  apart-after : apartIn (put o b v) i ≡ cond (eqb i b) (apartIn o i) v
+  apart-after = go (eqb i b) refl
+    where
+      go : (w : Bool) → eqb i b ≡ w → apartIn (put o b v) i ≡ cond w (apartIn o i) v
+      go true e = apart-own e
+      go false e = apart-other e
+
+-- ---- a request of bank b
+
+-- what stands in the sixteen places
+pub record Taken (d : List ℕ) (b : ℕ) : Type 0 where
+  pub rest : at (betweenOf d) (REST + b) ≡ at d (all.REST + b)
+  pub again : at (betweenOf d) (AGAIN + b) ≡ at d (all.AGAIN + b)
+  pub apart-is : at (betweenOf d) (APART + b) ≡ apart d b
+
+taken : (d : List ℕ) (b : ℕ) → b < 4 → Taken d b
+unfolding betweenOf
+taken d zero l = record { rest = refl; again = refl; apart-is = refl }
+taken d (suc zero) l = record { rest = refl; again = refl; apart-is = refl }
+taken d (suc (suc zero)) l = record { rest = refl; again = refl; apart-is = refl }
+taken d (suc (suc (suc zero))) l = record { rest = refl; again = refl; apart-is = refl }
+taken d (suc (suc (suc (suc b)))) l = absurd (omega arith)
+
+-- what a request leaves of the deadlines in time, and of the rest no later than the next free cycle lets them be
+pub record Fair (s : Settings) (d : List ℕ) (free : ℕ) : Type 0 where
+  pub rests : (i : ℕ) → i < 4 → at d (all.REST + i) ≤ at d all.DUE
+  pub bus : at d all.DATA ≤ at d all.DUE
+  pub others : (i : ℕ) → i < 4 → at d (all.OTHER + i) ≤ free + s .tRRD
+  pub reads : at d all.READS ≤ free + h (s .mode)
+  pub writes : at d all.WRITES ≤ free + h (s .mode)
+
+-- the ACTIVE
+module _ (d : List ℕ) (f b : ℕ) (lb : b < 4) where
+  pub active-same : later (later f (at d BUSY)) (activeSoonest (betweenOf d) b) ≡ later f (plan.activeSoonest d b)
+  unfolding activeSoonest plan.activeSoonest latest
+  active-same =
+      rw (taken d b lb .rest, taken d b lb .again, taken d b lb .apart-is)
+      (sym (later-group f (at d BUSY) (later (at d (all.REST + b)) (later (at d (all.AGAIN + b)) (apart d b)))))
+
+-- the AUTO REFRESH
+pub refresh-same : (d : List ℕ) (f : ℕ) → at d BUSY ≤ f → later f (refreshSoonest (betweenOf d)) ≡ later f (plan.refreshSoonest d)
+unfolding refreshSoonest plan.refreshSoonest latest betweenOf
+refresh-same d f l =
+    let z : ℕ = over (λ i. at d (all.REST + i)) (at d DATA) in
+    ap (λ (y : ℕ). later y z) (sym (later-high f (at d BUSY) l)) ∙ sym (later-group f (at d BUSY) z)
+
+pub refresh-behind : (x : Held) → ((i : ℕ) → i < 4 → x .rest i ≤ plan.refreshSoonest (laid x)) × (x .bus ≤ plan.refreshSoonest (laid x))
+unfolding plan.refreshSoonest latest
+refresh-behind x = (
+  λ i l. omega (arith, above (x .busy) (over (x .rest) (x .bus)), over-own (x .rest) (x .bus) i l),
+  omega (arith, above (x .busy) (over (x .rest) (x .bus)), over-last (x .rest) (x .bus)),
+)
+
+-- its READ or WRITE
+module _ (s : Settings) (g : Ranged s) (x : Held) (t b : ℕ) (lb : b < 4) (idle : x .busy ≤ t) where
+  abbrev Y : Held
+  Y = activated s t b x
+
+  column-is : at (laid Y) (all.COLUMN + b) ≡ t + s .tRCD
+  column-is = stands Y b lb .column ∙ put-own (x .column) b (t + s .tRCD)
+
+  passing : (m : ℕ) → later (t + 1) (later (x .busy) (later (t + s .tRCD) m)) ≡ later (t + s .tRCD) m
+  passing m =
+      let z : ℕ = later (t + s .tRCD) m in
+      let l : later (x .busy) z ≡ z = later-low (x .busy) z (omega (arith, above (t + s .tRCD) m)) in
+      ap (later (t + 1)) l ∙ later-low (t + 1) z (omega (arith, above (t + s .tRCD) m, g .least-tRCD))
+
+  pub burst-same : (write : Bool) → later (t + 1) (plan.burstSoonest write (laid (activated s t b x)) b) ≡ later (t + s .tRCD) (burstSoonest write (betweenOf (laid x)))
+  unfolding readSoonest writeSoonest latest betweenOf
+  burst-same true = rw column-is (passing (later (x .bus) (x .writes)))
+  burst-same false = rw column-is (passing (later (x .end) (x .reads)))
+
+-- what they leave
+abbrev pub landed : Bool → Settings → ℕ → ℕ → ℕ → Held → Held
+landed true s m u b y =
+    let y₁ = writeGiven (put (y .written) (y .writer % 4) (lesser (y .written (y .writer % 4)) (u + 1 + 0 + s .tWR))) (y .writes) (y .end) (y .writer) y in
+    let y₂ = writeGiven (put (y₁ .written) b (u + 1 + h m + s .tWR)) (u + h m) (u + 1 + h m + s .tWTR) b y₁ in
+    banked (put (y .opened) b 0) (put (y .rest) b (later (y .locked b) (u + 1 + h m + s .tWR + s .tRP))) y₂
+landed false s m u b y =
+    banked (put (y .opened) b 0) (put (y .rest) b (later (y .locked b) (u + h m + s .tRP))) (readGiven (u + CL m + h m) (u + h m) 4 y)
+
+pub landed-is : (write : Bool) (s : Settings) (m u b : ℕ) (y : Held) → b < 4 → burstLeaves write s (laid y) (paceOf m) u b ≡ laid (landed write s m u b y)
+unfolding readAfter writeAfter
+landed-is true s m u b y l =
+    let y₁ : Held = writeGiven (put (y .written) (y .writer % 4) (lesser (y .written (y .writer % 4)) (u + 1 + 0 + s .tWR))) (y .writes) (y .end) (y .writer) y in
+    let y₂ : Held = writeGiven (put (y₁ .written) b (u + 1 + h m + s .tWR)) (u + h m) (u + 1 + h m + s .tWTR) b y₁ in
+    ap (λ (d : List ℕ). autoAfter (set (newWrite s d u (h m) b) WRITES (u + h m)) b (u + 1 + h m + s .tWR + s .tRP)) (cut-laid s y u)
+    ∙ ap (λ (d : List ℕ). autoAfter (set d WRITES (u + h m)) b (u + 1 + h m + s .tWR + s .tRP)) (new-laid s y₁ u (h m) b l)
+    ∙ auto-laid y₂ b (u + 1 + h m + s .tWR + s .tRP) l
+landed-is false s m u b y l = auto-laid (readGiven (u + CL m + h m) (u + h m) 4 y) b (u + h m + s .tRP) l
+
+-- a list of sixteen
+listed : (x₀ x₁ x₂ x₃ x₄ x₅ x₆ x₇ due bus : ℕ) {a₀ a₁ a₂ a₃ r w b₀ b₁ b₂ b₃ v y : ℕ} → a₀ ≡ b₀ → a₁ ≡ b₁ → a₂ ≡ b₂ → a₃ ≡ b₃ → r ≡ v → w ≡ y →
+    (x₀ ∷ x₁ ∷ x₂ ∷ x₃ ∷ x₄ ∷ x₅ ∷ x₆ ∷ x₇ ∷ a₀ ∷ a₁ ∷ a₂ ∷ a₃ ∷ r ∷ w ∷ due ∷ bus ∷ []) ≡
+    (x₀ ∷ x₁ ∷ x₂ ∷ x₃ ∷ x₄ ∷ x₅ ∷ x₆ ∷ x₇ ∷ b₀ ∷ b₁ ∷ b₂ ∷ b₃ ∷ v ∷ y ∷ due ∷ bus ∷ [])
+listed x₀ x₁ x₂ x₃ x₄ x₅ x₆ x₇ due bus p₀ p₁ p₂ p₃ p q i =
+    x₀ ∷ x₁ ∷ x₂ ∷ x₃ ∷ x₄ ∷ x₅ ∷ x₆ ∷ x₇ ∷ p₀ i ∷ p₁ i ∷ p₂ i ∷ p₃ i ∷ p i ∷ q i ∷ due ∷ bus ∷ []
+
+-- ACTIVE at t, READ or WRITE at u
+module _ (s : Settings) (g : Ranged s) (x : Held) (f t u : ℕ) (fair : Fair s (laid x) f) (l : f ≤ t) (idle : x .busy ≤ t) where
+  abbrev m : ℕ
+  m = s .mode
+
+  abbrev pub After : ℕ → Bool → Held
+  After b write = landed write s m u b (activated s t b x)
+
+  abbrev Rest : Bool → ℕ
+  Rest write = restAfter write s (paceOf m) t u
+
+  abbrev Bus : Bool → ℕ
+  Bus write = busAfter write (paceOf m) u
+
+  -- the burst is not before its deadlines
+  abbrev Placed : Bool → Type 0
+  Placed write = later (t + s .tRCD) (burstSoonest write (betweenOf (laid x))) ≤ u
+
+  not-before : (write : Bool) → Placed write → t + s .tRCD ≤ u
+  not-before write k = omega (arith, above (t + s .tRCD) (burstSoonest write (betweenOf (laid x))))
+
+  low : (i : ℕ) → i < 4 → x .other i ≤ t + s .tRRD
+  low i li = omega (arith, stands x i li .other, fair .others i li)
+
+  settled : (b : ℕ) → b < 4 → (i : ℕ) → apartIn (put (x .other) b (t + s .tRRD)) i ≡ cond (eqb i b) (apartIn (x .other) i) (t + s .tRRD)
+  settled b lb i = apart-after (x .other) (t + s .tRRD) low b lb i
+
+  read-from : (write : Bool) → Placed write → later (After 0 write .end) (After 0 write .reads) ≡ cond write (u + 1 + h m + s .tWTR) (u + h m)
+  unfolding betweenOf
+  read-from true k = later-high (u + 1 + h m + s .tWTR) (x .reads) (omega (arith, fair .reads, above (t + s .tRCD) (later (x .bus) (x .writes))))
+  read-from false k = later-low (x .end) (u + h m) (omega (arith, above (t + s .tRCD) (later (x .end) (x .reads)), above (x .end) (x .reads)))
+
+  write-from : (write : Bool) → Placed write → later (After 0 write .bus) (After 0 write .writes) ≡ cond write (u + h m) (u + CL m + h m)
+  unfolding betweenOf
+  write-from true k = later-low (x .bus) (u + h m) (omega (arith, above (t + s .tRCD) (later (x .bus) (x .writes)), above (x .bus) (x .writes)))
+  write-from false k = later-high (u + CL m + h m) (x .writes) (omega (arith, fair .writes, above (t + s .tRCD) (later (x .end) (x .reads))))
+
+  pub taken-same : (b : ℕ) → b < 4 → (write v : Bool) → Placed write →
+      betweenOf (laid (After b write)) ≡
+      taking s (paceOf m) (betweenOf (laid x)) write b (record { active = t; burst = u; rest = Rest write; kept = v })
+  unfolding betweenOf taking apartAfter burstAfter
+  taken-same zero l true v k =
+      listed _ _ _ _ _ _ _ _ _ _ (settled zero l 0) (settled zero l 1) (settled zero l 2) (settled zero l 3) (read-from true k) (write-from true k)
+  taken-same zero l false v k =
+      listed _ _ _ _ _ _ _ _ _ _ (settled zero l 0) (settled zero l 1) (settled zero l 2) (settled zero l 3) (read-from false k) (write-from false k)
+  taken-same (suc zero) l true v k =
+      listed _ _ _ _ _ _ _ _ _ _ (settled (suc zero) l 0) (settled (suc zero) l 1) (settled (suc zero) l 2) (settled (suc zero) l 3) (read-from true k) (write-from true k)
+  taken-same (suc zero) l false v k =
+      listed _ _ _ _ _ _ _ _ _ _ (settled (suc zero) l 0) (settled (suc zero) l 1) (settled (suc zero) l 2) (settled (suc zero) l 3) (read-from false k) (write-from false k)
+  taken-same (suc (suc zero)) l true v k =
+      listed _ _ _ _ _ _ _ _ _ _ (settled (suc (suc zero)) l 0) (settled (suc (suc zero)) l 1) (settled (suc (suc zero)) l 2) (settled (suc (suc zero)) l 3) (read-from true k) (write-from true k)
+  taken-same (suc (suc zero)) l false v k =
+      listed _ _ _ _ _ _ _ _ _ _ (settled (suc (suc zero)) l 0) (settled (suc (suc zero)) l 1) (settled (suc (suc zero)) l 2) (settled (suc (suc zero)) l 3) (read-from false k) (write-from false k)
+  taken-same (suc (suc (suc zero))) l true v k =
+      listed _ _ _ _ _ _ _ _ _ _ (settled (suc (suc (suc zero))) l 0) (settled (suc (suc (suc zero))) l 1) (settled (suc (suc (suc zero))) l 2) (settled (suc (suc (suc zero))) l 3) (read-from true k) (write-from true k)
+  taken-same (suc (suc (suc zero))) l false v k =
+      listed _ _ _ _ _ _ _ _ _ _ (settled (suc (suc (suc zero))) l 0) (settled (suc (suc (suc zero))) l 1) (settled (suc (suc (suc zero))) l 2) (settled (suc (suc (suc zero))) l 3) (read-from false k) (write-from false k)
+  taken-same (suc (suc (suc (suc b)))) l write v k = absurd (omega arith)
+
+  -- the next AUTO REFRESH
+  module _ (b : ℕ) (lb : b < 4) where
+    own : (write : Bool) → After b write .rest b ≡ Rest write
+    own true = put-own (x .rest) b _ ∙ ap (λ (z : ℕ). later z (u + 1 + h m + s .tWR + s .tRP)) (put-own (x .locked) b (t + s .tRAS + s .tRP))
+    own false = put-own (x .rest) b _ ∙ ap (λ (z : ℕ). later z (u + h m + s .tRP)) (put-own (x .locked) b (t + s .tRAS + s .tRP))
+
+    rests-most : (write : Bool) → Rest write ≤ x .due → (i : ℕ) → i < 4 → After b write .rest i ≤ x .due
+    rests-most true k i li = put-most (x .rest) b _ i (x .due) (omega (arith, stands x i li .rest, fair .rests i li)) (omega (arith, own true, put-own (x .rest) b (later (activated s t b x .locked b) (u + 1 + h m + s .tWR + s .tRP))))
+    rests-most false k i li = put-most (x .rest) b _ i (x .due) (omega (arith, stands x i li .rest, fair .rests i li)) (omega (arith, own false, put-own (x .rest) b (later (activated s t b x .locked b) (u + h m + s .tRP))))
+
+    bus-most : (write : Bool) → Bus write ≤ x .due → After b write .bus ≤ x .due
+    bus-most true k = fair .bus
+    bus-most false k = k
+
+    bus-least : (write : Bool) → Bus write ≤ After b write .bus
+    bus-least true = omega arith
+    bus-least false = omega arith
+
+    behind-burst : (write : Bool) → u + 1 ≤ Rest write
+    behind-burst true = omega (arith, above (t + s .tRAS + s .tRP) (u + 1 + h m + s .tWR + s .tRP))
+    behind-burst false = omega (arith, above (t + s .tRAS + s .tRP) (u + h m + s .tRP), g .least-tRP)
+
+    kept-at : (write : Bool) → Placed write →
+        leb (later (u + 1) (later (x .busy) (over (After b write .rest) (After b write .bus)))) (x .due) ≡ leb (later (Rest write) (Bus write)) (x .due)
+    kept-at write k =
+        let z : ℕ = over (After b write .rest) (After b write .bus) in
+        leb-same (later (u + 1) (later (x .busy) z)) (later (Rest write) (Bus write)) (x .due)
+        (λ j.
+        later-most (Rest write) (Bus write) (x .due)
+        (omega (arith, above (u + 1) (later (x .busy) z), above (x .busy) z, over-own (After b write .rest) (After b write .bus) b lb, own write))
+        (omega (arith, above (u + 1) (later (x .busy) z), above (x .busy) z, over-last (After b write .rest) (After b write .bus), bus-least write)))
+        (λ j.
+        let rest : Rest write ≤ x .due = omega (arith, above (Rest write) (Bus write)) in
+        let bus : Bus write ≤ x .due = omega (arith, above (Rest write) (Bus write)) in
+        later-most (u + 1) (later (x .busy) z) (x .due) (omega (arith, behind-burst write))
+        (later-most (x .busy) z (x .due) (omega (arith, behind-burst write, not-before write k))
+        (over-most (After b write .rest) (After b write .bus) (x .due) (rests-most write rest) (bus-most write bus))))
+
+    pub kept-same : (write : Bool) → Placed write → inTime (laid (After b write)) (u + 1) ≡ leb (later (Rest write) (Bus write)) (x .due)
+    unfolding inTime plan.refreshSoonest latest
+    kept-same true k = kept-at true k
+    kept-same false k = kept-at false k
+
+    pub fair-after : (write : Bool) → Placed write → later (Rest write) (Bus write) ≤ x .due → Fair s (laid (After b write)) (u + 1)
+    fair-after true k j =
+        record {
+          rests = λ i li. rw (stands (After b true) i li .rest) (rests-most true (omega (arith, above (Rest true) (Bus true))) i li);
+          bus = bus-most true (omega (arith, above (Rest true) (Bus true)));
+          others = λ i li. rw (stands (After b true) i li .other) (put-most (x .other) b (t + s .tRRD) i (u + 1 + s .tRRD) (omega (arith, low i li, not-before true k)) (omega (arith, not-before true k)));
+          reads = omega (arith, fair .reads, not-before true k);
+          writes = omega arith;
+        }
+    fair-after false k j =
+        record {
+          rests = λ i li. rw (stands (After b false) i li .rest) (rests-most false (omega (arith, above (Rest false) (Bus false))) i li);
+          bus = bus-most false (omega (arith, above (Rest false) (Bus false)));
+          others = λ i li. rw (stands (After b false) i li .other) (put-most (x .other) b (t + s .tRRD) i (u + 1 + s .tRRD) (omega (arith, low i li, not-before false k)) (omega (arith, not-before false k)));
+          reads = omega arith;
+          writes = omega (arith, fair .writes, not-before false k);
+        }
