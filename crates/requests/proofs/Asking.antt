@@ -1,9 +1,10 @@
 -- A request's tests, one at a time; and the walk over the requests.
 use Prim.Native.Nat.{ℕ, zero, suc, _+_, _*_, _/_, _%_, _^_, _≤_, _<_}
-use mathlib.Core.Bool.{Bool, true, false, not, and-eq-true-iff}
+use mathlib.Core.Bool.{Bool, true, false, not, _&&_, and-eq-true-iff}
 use mathlib.Core.List.{List}
 use mathlib.Core.Option.{none, some}
 use mathlib.Core.Path.{_≡_, refl, sym, ap, _∙_}
+use native.Mathlib.Decide.{decLt}
 use native.Mathlib.Nat.{mod-eq-of-lt}
 use native.Mathlib.Omega.{arith}
 use lib.Dec.{ltb, eqb}
@@ -15,9 +16,9 @@ use Rattle.reading.specs.Schedule.{firstCell, cellBank, requestFits, badRequest
 use Rattle.memory.specs.Serving.{Sized}
 use Rattle.words.proofs.Search as search
 use Rattle.words.proofs.Search.{foundFrom}
-use Rattle.requests.specs.Asked.{Asked, cellsOf, below}
+use Rattle.requests.specs.Asked.{Asked, cellsOf, below, EachBelow}
 
-pub all-bits : (bits : ℕ) → bits ≤ 27 → 2 ^ (bits % 32) ≡ 2 ^ bits
+pub all-bits : (bits : ℕ) → bits ≤ 31 → 2 ^ (bits % 32) ≡ 2 ^ bits
 all-bits bits l = let e : bits % 32 ≡ bits = mod-eq-of-lt (omega arith) in rw e
 
 pub some-numbers : (bits : ℕ) → 0 < 2 ^ bits
@@ -109,3 +110,28 @@ module _ {s : Settings} {qs : List ℕ} {i : ℕ} (x : Sought s qs i) where
 
   pub ends : length qs ≤ i → none ≡ badRequest s qs
   ends l = sym (search.ends (bad s qs) (length qs) i l) ∙ x .same
+
+-- ---- all at once: fine if requests 0 to i - 1 are
+
+pub record Looked (n : ℕ) (qs : List ℕ) (fine : Bool) (i : ℕ) : Type 0 where
+  pub within : i ≤ length qs
+  pub low : fine ≡ true → (j : ℕ) → j < i → below n (getD qs j 0) ≡ true
+
+pub looks : (n : ℕ) (qs : List ℕ) → Looked n qs true 0
+looks n qs = record { within = omega arith; low = λ e j l. absurd (omega arith) }
+
+pub looks-on : {n : ℕ} {qs : List ℕ} {fine one fine′ : Bool} {i : ℕ} → Looked n qs fine i → i < length qs →
+    one ≡ below n (getD qs i 0) → fine′ ≡ (fine && one) → Looked n qs fine′ (i + 1)
+looks-on {n} {qs} {fine} {one} {fine′} {i} x l f g = record { within = omega arith; low = λ e j k. more e j (decLt j i) k }
+  where
+    told : fine′ ≡ true → (fine ≡ true) × (one ≡ true)
+    told e = and-eq-true-iff fine one .0 (sym g ∙ e)
+
+    more : fine′ ≡ true → (j : ℕ) → Dec (j < i) → j < i + 1 → below n (getD qs j 0) ≡ true
+    more e j (yes k) m = x .low (told e .0) j k
+    more e j (no k) m = let z : j ≡ i = omega arith in rw z (sym f ∙ told e .1)
+
+pub all-asked : (s : Settings) (qs : List ℕ) → Sized s → length qs ≤ 2000 → {n : ℕ} → n ≡ cellsOf s → EachBelow n qs → none ≡ badRequest s qs
+unfolding badRequest
+all-asked s qs z l e f =
+    rw (le-ltb 2000 (length qs) l) (sym (search.nothing-below (bad s qs) (length qs) (λ i k. ap not (fits-as s (getD qs i 0) z e (f i k)))))

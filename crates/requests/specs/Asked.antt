@@ -1,8 +1,10 @@
 -- A request that fits a part of these settings.
-use Prim.Native.Nat.{ℕ, _+_, _%_, _^_}
+use Prim.Native.Nat.{ℕ, _+_, _%_, _^_, _<_}
 use mathlib.Core.Bool.{Bool, true, cond}
+use mathlib.Core.List.{List}
 use mathlib.Core.Path.{_≡_}
 use lib.Dec.{ltb}
+use lib.ListN.{length, getD}
 use Rattle.reading.specs.Settings.{Settings}
 use Rattle.reading.specs.Commands.{READ, WRITE, pinsOf}
 use Rattle.reading.specs.Schedule.{requestFits}
@@ -22,3 +24,6 @@ cellsOf s = 2 ^ (2 + s .columnBits + s .rowBits)
 
 abbrev pub below : ℕ → ℕ → Bool
 below cells q = ltb (q % 2 ^ 31) cells
+
+abbrev pub EachBelow : ℕ → List ℕ → Type 0
+EachBelow cells qs = (i : ℕ) → i < length qs → below cells (getD qs i 0) ≡ true

@@ -1,12 +1,13 @@
 // A request: whether it fits, and the pins of its commands. Pins that are not named are 0.
 use words::Found;
 ghost use mathlib.Core.Path.{_≡_};
+ghost use mathlib.Core.Bool.{true, _&&_};
 ghost use Prim.Native.Nat.{_^_, _≤_, _<_};
 ghost use Rattle.words.specs.Found.{placeOf};
 ghost use Rattle.reading.specs.Settings.{settingsOf};
 ghost use Rattle.reading.specs.Schedule.{asksWrite, firstCell, cellBank, cellRow, cellColumn, badRequest, activePins, columnPins, burstPins};
 ghost use Rattle.memory.specs.Serving.{Sized};
-ghost use Rattle.requests.specs.Asked.{Asked, burstCode, cellsOf, below};
+ghost use Rattle.requests.specs.Asked.{Asked, burstCode, cellsOf, below, EachBelow};
 
 const COLUMN_BITS: usize = 2;
 
@@ -103,6 +104,23 @@ fn fits(cells: u32, q: u32) -> bool
     q % 2_147_483_648 < cells
 }
 
+fn both(a: bool, b: bool) -> bool
+    ensures { λ r. ⌜ r ≡ (a && b) ⌝ }
+{
+    if a { b } else { false }
+}
+
+// Told without a branch for each request, as most lists fit.
+fn all_fit(cells: u32, requests: &[u32]) -> bool
+    ensures { λ r. ⌜ (r ≡ true → EachBelow cells (now (requests .entry))) ⌝ }
+{
+    let mut fine = true;
+    'requests: for i in 0..requests.len() {
+        fine = both(fine, fits(cells, requests[i]));
+    }
+    fine
+}
+
 // Refusal 5: over 2,000 requests, else the lowest that does not fit.
 pub fn lowest_bad(s: &[u32; 14], requests: &[u32]) -> Found
     requires { ⌜ Sized (settingsOf (now s)) ⌝ }
@@ -113,6 +131,9 @@ pub fn lowest_bad(s: &[u32; 14], requests: &[u32]) -> Found
         return Found::At(2000);
     }
     let cells = cells(s);
+    if all_fit(cells, requests) {
+        return Found::Nothing;
+    }
     'requests: for i in 0..n {
         if fits(cells, requests[i]) {
             continue 'requests;

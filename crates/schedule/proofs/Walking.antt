@@ -1,18 +1,16 @@
 -- The walk over the requests: what holds before request i, and what is planned where it stops.
 use Prim.Native.Nat.{ℕ, suc, _+_, _*_, _≤_, _<_}
-use mathlib.Core.Bool.{true, false, not}
+use mathlib.Core.Bool.{true, false}
 use mathlib.Core.List.{List, [], _++_}
-use mathlib.Core.Option.{Option, none}
+use mathlib.Core.Option.{Option}
 use mathlib.Core.Path.{_≡_, refl, sym, ap, _∙_, subst}
 use native.Mathlib.Numerals.{add-one}
 use native.Mathlib.Omega.{arith}
 use lib.ListN.{length, getD, drop, length-append}
 use lib.Seq.{sets, length-sets, drop-cons}
-use borrow.Author.Tests.{not-false}
-use Rattle.reading.specs.Settings.{Settings, settingsOf, settingFits, badSetting}
+use Rattle.reading.specs.Settings.{Settings, settingsOf}
 use Rattle.reading.specs.Capture.{Event}
 use Rattle.reading.specs.Schedule.{planned, late, firstCell, cellBank, requestFits, freeFrom, served, onwards, scheduleFrom, scheduleOf, eventWords}
-use Rattle.words.proofs.Search.{none-below}
 use Rattle.words.proofs.Runs.{sets-append}
 use Rattle.deadlines.specs.Deadlines.{BUSY, at}
 use Rattle.deadlines.specs.Deadlines as all

@@ -7,20 +7,19 @@ use native.Mathlib.Nat.{le-refl}
 use native.Mathlib.Omega.{arith}
 use lib.Dec.{leb, eqb}
 use lib.ListN.{set}
-use borrow.Author.Tests.{leb-true, leb-false, le-leb, lt-leb, eq-eqb, ne-eqb, eqb-true, eqb-false}
+use borrow.Author.Tests.{leb-true, leb-false, le-leb, eq-eqb, ne-eqb, eqb-true, eqb-false}
 use Rattle.reading.specs.Search.{later, lesser}
 use Rattle.reading.specs.Mode.{h, CL}
 use Rattle.reading.specs.Settings.{Settings}
 use Rattle.deadlines.specs.Deadlines.{OTHER, BUSY, DATA, WRITES, paceOf, at, autoAfter, readAfter, newWrite, writeAfter}
 use Rattle.deadlines.specs.Deadlines as all
 use Rattle.bridge.specs.Summary.{Held, laid}
-use Rattle.bridge.proofs.Laid.{put, activated, banked, readGiven, writeGiven, stands, active-laid, auto-laid, cut-laid, new-laid}
-use Rattle.plan.specs.Soonest.{latest, otherBank, readSoonest, writeSoonest}
+use Rattle.bridge.proofs.Laid.{put, activated, banked, readGiven, writeGiven, stands, auto-laid, cut-laid, new-laid}
+use Rattle.plan.specs.Soonest.{latest, readSoonest, writeSoonest}
 use Rattle.plan.specs.Soonest as plan
 use Rattle.plan.proofs.Ranged.{Ranged}
 use Rattle.plan.proofs.Near.{later-most}
 use Rattle.plan.proofs.Sending.{later-first, later-second}
-use Rattle.turns.specs.declared.Tried.{Tried}
 use Rattle.turns.specs.Turning.{inTime, burstLeaves}
 use Rattle.turns.specs.Between.{REST, AGAIN, APART, apart, betweenOf, activeSoonest, burstSoonest, refreshSoonest, restAfter, busAfter, apartAfter, burstAfter, taking}
 
@@ -144,12 +143,12 @@ module _ (o : ℕ → ℕ) (v : ℕ) (low : (i : ℕ) → i < 4 → o i ≤ v) (
 -- ---- a request of bank b
 
 -- what stands in the sixteen places
-pub record Taken (d : List ℕ) (b : ℕ) : Type 0 where
+record Places (d : List ℕ) (b : ℕ) : Type 0 where
   pub rest : at (betweenOf d) (REST + b) ≡ at d (all.REST + b)
   pub again : at (betweenOf d) (AGAIN + b) ≡ at d (all.AGAIN + b)
   pub apart-is : at (betweenOf d) (APART + b) ≡ apart d b
 
-taken : (d : List ℕ) (b : ℕ) → b < 4 → Taken d b
+taken : (d : List ℕ) (b : ℕ) → b < 4 → Places d b
 unfolding betweenOf
 taken d zero l = record { rest = refl; again = refl; apart-is = refl }
 taken d (suc zero) l = record { rest = refl; again = refl; apart-is = refl }
@@ -157,7 +156,7 @@ taken d (suc (suc zero)) l = record { rest = refl; again = refl; apart-is = refl
 taken d (suc (suc (suc zero))) l = record { rest = refl; again = refl; apart-is = refl }
 taken d (suc (suc (suc (suc b)))) l = absurd (omega arith)
 
--- what a request leaves of the deadlines in time, and of the rest no later than the next free cycle lets them be
+-- between requests: the next AUTO REFRESH is in time, and what earlier commands ask is bounded by the next free cycle
 pub record Fair (s : Settings) (d : List ℕ) (free : ℕ) : Type 0 where
   pub rests : (i : ℕ) → i < 4 → at d (all.REST + i) ≤ at d all.DUE
   pub bus : at d all.DATA ≤ at d all.DUE

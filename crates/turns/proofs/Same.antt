@@ -13,7 +13,7 @@ use borrow.Author.Tests.{leb-true}
 use Rattle.reading.specs.Search.{later}
 use Rattle.reading.specs.Settings.{Settings}
 use Rattle.reading.specs.Schedule.{asksWrite, firstCell, cellBank}
-use Rattle.deadlines.specs.Deadlines.{paceOf, at, activeAfter, refreshAfter}
+use Rattle.deadlines.specs.Deadlines.{paceOf, at, refreshAfter}
 use Rattle.deadlines.specs.Deadlines as all
 use Rattle.bridge.specs.Summary.{Held, laid}
 use Rattle.bridge.proofs.Laid.{stands, activated, timed, active-laid}
@@ -21,7 +21,6 @@ use Rattle.plan.specs.Soonest as plan
 use Rattle.plan.proofs.Ranged.{Ranged}
 use Rattle.plan.proofs.Near.{Near, wait, later-most, near-active, near-refresh, active-most, burst-most, refresh-most}
 use Rattle.plan.proofs.Sending.{later-first, later-second}
-use Rattle.turns.specs.declared.Tried.{Tried}
 use Rattle.turns.specs.Turning.{cycleFor, inTime, burstLeaves, activeAt, opened, burstAt, triedAfter, triedKept, refreshAt, refreshed, alone, led, turning, turnedAfter}
 use Rattle.turns.specs.Between as by
 use Rattle.turns.specs.Between.{betweenOf, restAfter, busAfter, taking}

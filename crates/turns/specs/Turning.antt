@@ -1,4 +1,5 @@
--- One request's turn in the schedule, by the deadlines d that are kept of the part and the next free cycle.
+-- One request's turn in the schedule, by the forty deadlines d of the part and the next free cycle. The code has the same
+-- turn from fewer cycles: Between.
 use Prim.Native.Nat.{ℕ, _+_, _%_, _^_}
 use mathlib.Core.Bool.{Bool, true, false, cond}
 use mathlib.Core.List.{List}

@@ -1,4 +1,3 @@
-use Rattle.reading.specs.Settings.{settingsOf}
 use mathlib.Core.Path.{_∙_}
 use native.Mathlib.Omega.{arith}
 use Rattle.requests.proofs.Asking.{all-bits}

@@ -1,6 +1,5 @@
 use mathlib.Core.Path.{sym, _∙_}
-use borrow.Author.Needs.{needs}
-use Rattle.requests.proofs.Asking.{Sought, too-many, begins, goes-on, stops, ends}
+use Rattle.requests.proofs.Asking.{Sought, too-many, begins, goes-on, stops, ends, all-asked}
 use native.Mathlib.Omega.{arith}
 use Rattle.reading.specs.Settings.{settingsOf}
 use Prim.Native.Nat.{_-_}
@@ -20,8 +19,14 @@ returns c = too-many (settingsOf (c .before .before .args .s .now)) (c .before .
 cells-requires : tie.Need-cells-requires Inv-requests μ-requests
 cells-requires c κs = c .before .before .pre
 
+all-fit-requires : tie.Need-all-fit-requires Inv-requests μ-requests
+all-fit-requires c κs = tt
+
+returns-2 : tie.Need-returns-2 Inv-requests μ-requests
+returns-2 c = all-asked (settingsOf (c .before .before .before .before .before .args .s .now)) (c .before .before .before .before .before .args .requests .now) (c .before .before .before .before .before .pre) (c .before .before .before .if1 .left) (c .before .before .cells .ensures) (c .before .all-fit .ensures (c .if2 .taken))
+
 requests-holds : tie.Need-requests-holds Inv-requests μ-requests
-requests-holds c = begins (settingsOf (c .before .before .before .args .s .now)) (c .before .before .before .args .requests .now) (c .before .if1 .left)
+requests-holds c = begins (settingsOf (c .before .before .before .before .before .args .s .now)) (c .before .before .before .before .before .args .requests .now) (c .before .before .before .if1 .left)
 
 mul-fits : tie.Need-mul-fits Inv-requests μ-requests
 mul-fits c = omega arith
@@ -30,7 +35,7 @@ shared-slice-read-fits : tie.Need-shared-slice-read-fits Inv-requests μ-request
 shared-slice-read-fits c = omega arith
 
 fits-requires : tie.Need-fits-requires Inv-requests μ-requests
-fits-requires c κs = search needs
+fits-requires c κs = tt
 
 add-i : tie.Need-add-i Inv-requests μ-requests
 add-i c = omega arith
@@ -39,16 +44,16 @@ requests-less : tie.Need-requests-less Inv-requests μ-requests
 requests-less c = omega arith
 
 requests-again : tie.Need-requests-again Inv-requests μ-requests
-requests-again c = goes-on (c .before .before .before .before .requests .inv) (omega arith) (c .before .before .before .before .before .before .before .before .pre) (c .before .before .before .before .before .cells .ensures) (sym (c .before .fits2 .ensures) ∙ c .if2 .taken)
+requests-again c = goes-on (c .before .before .before .before .requests .inv) (omega arith) (c .before .before .before .before .before .before .before .before .before .before .pre) (c .before .before .before .before .before .before .before .cells .ensures) (sym (c .before .fits2 .ensures) ∙ c .if3 .taken)
 
-cast-t11 : tie.Need-cast-t11 Inv-requests μ-requests
-cast-t11 c = omega arith
-
-returns-2 : tie.Need-returns-2 Inv-requests μ-requests
-returns-2 c = stops (c .before .before .before .before .requests .inv) (omega arith) (c .before .before .before .before .before .before .before .before .pre) (c .before .before .before .before .before .cells .ensures) (sym (c .before .fits2 .ensures) ∙ c .if2 .left)
+cast-t12 : tie.Need-cast-t12 Inv-requests μ-requests
+cast-t12 c = omega arith
 
 returns-3 : tie.Need-returns-3 Inv-requests μ-requests
-returns-3 c = ends (c .before .requests .inv) (omega arith)
+returns-3 c = stops (c .before .before .before .before .requests .inv) (omega arith) (c .before .before .before .before .before .before .before .before .before .before .pre) (c .before .before .before .before .before .before .before .cells .ensures) (sym (c .before .fits2 .ensures) ∙ c .if3 .left)
+
+returns-4 : tie.Need-returns-4 Inv-requests μ-requests
+returns-4 c = ends (c .before .requests .inv) (omega arith)
 
 pub lowest-bad-spec : {M : Type 1} → statement M
 lowest-bad-spec =
@@ -58,6 +63,8 @@ lowest-bad-spec =
     μ-requests
     returns
     cells-requires
+    all-fit-requires
+    returns-2
     requests-holds
     mul-fits
     shared-slice-read-fits
@@ -65,6 +72,6 @@ lowest-bad-spec =
     add-i
     requests-less
     requests-again
-    cast-t11
-    returns-2
-    returns-3)
+    cast-t12
+    returns-3
+    returns-4)

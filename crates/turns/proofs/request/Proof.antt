@@ -1,4 +1,3 @@
-use mathlib.Core.Path.{refl}
 use Rattle.turns.specs.Between.{activeAt, burstAt, rested, kept}
 use borrow.Author.Needs.{needs}
 use Rattle.turns.proofs.request.Statement.{statement}
