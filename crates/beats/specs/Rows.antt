@@ -37,14 +37,6 @@ placeIn interleaved length column beat = cond interleaved (bitXor (column % leng
 abbrev pub firstCell : Settings → ℕ → ℕ → ℕ
 firstCell s bank row = (bank * 2 ^ s .rowBits + row) * 2 ^ s .columnBits
 
--- the cells of the first beats of a burst, in the block that begins with cell `block`
-abbrev pub blockCells : Bool → ℕ → ℕ → ℕ → ℕ → List ℕ
-blockCells interleaved block length column beats = map (λ j. block + placeIn interleaved length column j) (count 0 beats)
-
--- the same, in the row that begins with cell `first`
-unfoldable pub beatCells : ℕ → ℕ → ℕ → ℕ → List ℕ
-beatCells first mode column beats = map (λ j. first + beatColumn mode column j) (count 0 beats)
-
 -- those of the four banks, by their rows
 abbrev pub firstCells : Settings → ℕ → ℕ → ℕ → ℕ → List ℕ
 firstCells s a b c d = firstCell s 0 a ∷ firstCell s 1 b ∷ firstCell s 2 c ∷ firstCell s 3 d ∷ []
@@ -52,3 +44,11 @@ firstCells s a b c d = firstCell s 0 a ∷ firstCell s 1 b ∷ firstCell s 2 c �
 -- the same after the pins' command: ACTIVE opens its bank on its row
 abbrev pub cellsOpened : Settings → List ℕ → ℕ → List ℕ
 cellsOpened s firsts w = cond (eqb (codeOf w) 12) (set firsts (bankOf w) (firstCell s (bankOf w) (addressOf w))) firsts
+
+-- the cells of the first beats of a burst, in the block that begins with cell `block`
+abbrev pub blockCells : Bool → ℕ → ℕ → ℕ → ℕ → List ℕ
+blockCells interleaved block length column beats = map (λ j. block + placeIn interleaved length column j) (count 0 beats)
+
+-- the same, in the row that begins with cell `first`
+unfoldable pub beatCells : ℕ → ℕ → ℕ → ℕ → List ℕ
+beatCells first mode column beats = map (λ j. first + beatColumn mode column j) (count 0 beats)

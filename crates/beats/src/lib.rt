@@ -149,12 +149,12 @@ fn write_sequential(out: &mut [u32], at: usize, block: u32, size: u32, column: u
     requires { ⌜ at + 2 * pairs ≤ length (now out) ⌝ }
     ensures { λ _. ⌜ now (out .exit) ≡ sets (now (out .entry)) at (blockCells false block size column (2 * pairs)) ⌝ }
 {
-    let mut beat = column;
+    let mut from = column;
     let mut next = at;
     for pair in 0..pairs {
-        out[next] = block + beat % size;
-        out[next + 1] = block + (beat + 1) % size;
-        beat += 2;
+        out[next] = block + from % size;
+        out[next + 1] = block + (from + 1) % size;
+        from += 2;
         next += 2;
     }
 }

@@ -12,10 +12,10 @@ use Rattle.beats.proofs.write_sequential.Statement.{statement}
 use Rattle.beats.proofs.write_sequential.Tie as tie
 
 abbrev Inv-loop : tie.InvT-loop
-Inv-loop out₀ at block size column pairs beat₀ next₀ pair₀ out beat next pair = Stored (λ (j : ℕ). block + placeIn false size column j) out₀ at (2 * pairs) out (2 * pair) next × (beat ≡ column + 2 * pair)
+Inv-loop out₀ at block size column pairs from₀ next₀ pair₀ out from next pair = Stored (λ (j : ℕ). block + placeIn false size column j) out₀ at (2 * pairs) out (2 * pair) next × (from ≡ column + 2 * pair)
 
 abbrev μ-loop : tie.MeasureT-loop
-μ-loop out₀ at block size column pairs beat₀ next₀ pair₀ out beat next pair = pairs - pair
+μ-loop out₀ at block size column pairs from₀ next₀ pair₀ out from next pair = pairs - pair
 
 loop-holds : tie.Need-loop-holds Inv-loop μ-loop
 loop-holds c = (begins (λ (j : ℕ). c .args .block + placeIn false (c .args .size) (c .args .column) j) (c .args .out .now) (c .args .at) (2 * c .args .pairs), omega arith)
@@ -24,7 +24,7 @@ rem-out : tie.Need-rem-out Inv-loop μ-loop
 rem-out c = c .before .before .pre .0 .some
 
 add-out : tie.Need-add-out Inv-loop μ-loop
-add-out c = omega (arith, c .before .before .pre .0 .cell, c .before .before .pre .0 .most, mod-lt (c .before .loop .beat) (c .before .before .pre .0 .some))
+add-out c = omega (arith, c .before .before .pre .0 .cell, c .before .before .pre .0 .most, mod-lt (c .before .loop .from) (c .before .before .pre .0 .some))
 
 mul-out : tie.Need-mul-out Inv-loop μ-loop
 mul-out c = omega arith
@@ -39,7 +39,7 @@ rem-out-2 : tie.Need-rem-out-2 Inv-loop μ-loop
 rem-out-2 c = c .before .before .pre .0 .some
 
 add-out-3 : tie.Need-add-out-3 Inv-loop μ-loop
-add-out-3 c = omega (arith, c .before .before .pre .0 .cell, c .before .before .pre .0 .most, mod-lt (c .before .loop .beat + 1) (c .before .before .pre .0 .some))
+add-out-3 c = omega (arith, c .before .before .pre .0 .cell, c .before .before .pre .0 .most, mod-lt (c .before .loop .from + 1) (c .before .before .pre .0 .some))
 
 add-out-4 : tie.Need-add-out-4 Inv-loop μ-loop
 add-out-4 c = omega (arith, c .before .loop .inv .0 .place, c .before .before .pre .1)
@@ -48,10 +48,10 @@ mul-out-2 : tie.Need-mul-out-2 Inv-loop μ-loop
 mul-out-2 c = omega arith
 
 slice-write-out-2 : tie.Need-slice-write-out-2 Inv-loop μ-loop
-slice-write-out-2 c = omega (arith, length-set (c .before .loop .out) (c .before .loop .next) (c .before .before .args .block + c .before .loop .beat % c .before .before .args .size), c .before .loop .inv .0 .place, c .before .loop .inv .0 .size, c .before .before .pre .1)
+slice-write-out-2 c = omega (arith, length-set (c .before .loop .out) (c .before .loop .next) (c .before .before .args .block + c .before .loop .from % c .before .before .args .size), c .before .loop .inv .0 .place, c .before .loop .inv .0 .size, c .before .before .pre .1)
 
-add-beat : tie.Need-add-beat Inv-loop μ-loop
-add-beat c = omega (arith, c .before .loop .inv .1, c .before .before .pre .0 .low, c .before .before .pre .0 .short)
+add-from : tie.Need-add-from Inv-loop μ-loop
+add-from c = omega (arith, c .before .loop .inv .1, c .before .before .pre .0 .low, c .before .before .pre .0 .short)
 
 add-next : tie.Need-add-next Inv-loop μ-loop
 add-next c = omega (arith, c .before .loop .inv .0 .place, c .before .before .pre .1)
@@ -88,7 +88,7 @@ write-sequential-spec =
     add-out-4
     mul-out-2
     slice-write-out-2
-    add-beat
+    add-from
     add-next
     add-pair
     loop-less
