@@ -163,7 +163,7 @@ pub fn schedule(settings: &[u32], requests: &[u32], out: &mut [u8]) -> Scheduled
         };
     }
     // Any word would do: none is read before it is noted. Zeros would be stored by a call of the C library.
-    let mut list = [1u32; WORDS];
+    let mut list = [0u32; WORDS];
     let planned = plan(&s, requests, &mut list);
     match planned {
         Planned::Late(i) => Scheduled::Refused {
