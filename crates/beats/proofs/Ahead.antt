@@ -1,5 +1,5 @@
 -- The cells of a capture's bursts, event by event: each burst as the events behind it leave it.
-use Prim.Native.Nat.{ℕ, suc, _+_, _*_}
+use Prim.Native.Nat.{ℕ, suc, _*_}
 use mathlib.Core.Bool.{Bool, true, false, cond}
 use mathlib.Core.List.{List, [], _∷_, _++_, map, reverse, append-nil, append-assoc, map-map, map-id, reverse-cons}
 use mathlib.Core.Path.{_≡_, refl, sym, ap, _∙_}

@@ -1,15 +1,15 @@
 -- The bursts of a part after the cuts of one event: what is found among them, and what is held by them.
-use Prim.Native.Nat.{ℕ, zero, suc, _+_, _-_, _≤_, _<_}
-use mathlib.Core.Bool.{Bool, true, false, cond, not, _&&_, _||_, and-true}
+use Prim.Native.Nat.{ℕ, _+_, _≤_, _<_}
+use mathlib.Core.Bool.{Bool, true, false, cond, not, _&&_, and-true}
 use mathlib.Core.List.{List, [], _∷_, map}
-use mathlib.Core.Option.{Option, none, some, Option·map}
+use mathlib.Core.Option.{Option, some, Option·map}
 use mathlib.Core.Path.{_≡_, refl, sym, ap, _∙_, subst}
 use native.Mathlib.Omega.{arith}
-use lib.Dec.{leb, ltb, eqb, leb·zero}
-use borrow.Author.Tests.{leb-true, leb-false, le-leb, lt-leb, ltb-true, ltb-false}
-use Rattle.reading.specs.Search.{implies, ever, every, find, lesser, later}
-use Rattle.reading.specs.Mode.{h, CL}
-use Rattle.reading.specs.Commands.{Command, WRITE, is}
+use lib.Dec.{leb, leb·zero}
+use borrow.Author.Tests.{leb-true, leb-false, le-leb, lt-leb}
+use Rattle.reading.specs.Search.{implies, every, find, lesser, later}
+use Rattle.reading.specs.Mode.{h}
+use Rattle.reading.specs.Commands.{Command}
 use Rattle.reading.specs.Bursts.{Burst, reads, dataEnd, keep, cuts, cutTo, isCut, cutBy}
 use Rattle.reading.specs.Rules.{autoOver, untouchable}
 use Rattle.reading.proofs.Cuts.{All, nil, cons}

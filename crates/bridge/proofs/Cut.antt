@@ -1,20 +1,18 @@
 -- What a cut makes of the cycle at which a write's data ends, and at which the bus is free of a read.
-use Prim.Native.Nat.{ℕ, zero, suc, _+_, _-_, _≤_, _<_}
-use mathlib.Core.Bool.{Bool, true, false, cond, not, _&&_, _||_}
-use mathlib.Core.List.{List, [], _∷_, map}
+use Prim.Native.Nat.{ℕ, _+_, _-_, _≤_}
+use mathlib.Core.Bool.{Bool, true, false, cond, not, _&&_}
 use mathlib.Core.Logic.{_⊎_, inl, inr}
 use mathlib.Core.Option.{Option, none, some, Option·map}
 use mathlib.Core.Path.{_≡_, refl, sym, ap, _∙_}
 use native.Mathlib.Omega.{arith}
-use lib.Dec.{leb, ltb, eqb}
-use borrow.Author.Tests.{leb-true, leb-false, ltb-true, ltb-false}
-use Rattle.reading.specs.Search.{find, lesser}
+use lib.Dec.{leb, ltb}
+use borrow.Author.Tests.{leb-true, leb-false, ltb-false}
+use Rattle.reading.specs.Search.{lesser}
 use Rattle.reading.specs.Mode.{h, CL}
 use Rattle.reading.specs.Commands.{Command}
-use Rattle.reading.specs.Bursts.{Burst, reads, dataEnd, keep, cuts, cutTo, cutBy}
-use Rattle.reading.proofs.Cuts.{auto-uncut}
-use Rattle.bridge.specs.Summary.{ended, cleared, readerOf}
-use Rattle.bridge.proofs.Bursts.{blind, uncut, Given, Over, lesser-left, lesser-right, lesser-low, lesser-high, lesser-add}
+use Rattle.reading.specs.Bursts.{Burst, keep, cuts, cutTo, cutBy}
+use Rattle.bridge.specs.Summary.{readerOf}
+use Rattle.bridge.proofs.Bursts.{blind, Given, lesser-low, lesser-high}
 
 -- the last pair of a burst that c cuts, c more cycles counted: the lesser of what it was and t
 cut-pairs : (c : ℕ) (k n t : ℕ) → k ≤ t → k + c + lesser n (t - k) ≡ lesser (k + c + n) (t + c)

@@ -1,17 +1,17 @@
 -- What holds of a sound part holds after an event that breaks no rule.
-use Prim.Native.Nat.{ℕ, zero, suc, _+_, _-_, _≤_, _<_}
-use mathlib.Core.Bool.{Bool, true, false, cond, not, _&&_, _||_}
+use Prim.Native.Nat.{ℕ, suc, _+_, _≤_, _<_}
+use mathlib.Core.Bool.{Bool, true, false, cond, _&&_}
 use mathlib.Core.List.{List, [], _∷_, map}
-use mathlib.Core.Logic.{_⊎_, inl, inr}
+use mathlib.Core.Logic.{inl, inr}
 use mathlib.Core.Option.{Option, none, some, Option·map}
-use mathlib.Core.Path.{_≡_, refl, sym, ap, _∙_, subst}
+use mathlib.Core.Path.{_≡_, refl, sym, _∙_, subst}
 use native.Mathlib.Nat.{le-refl}
 use native.Mathlib.Omega.{arith}
-use lib.Dec.{leb, eqb}
-use Rattle.reading.specs.Search.{find, lesser}
-use Rattle.reading.specs.Mode.{h, CL}
+use lib.Dec.{eqb}
+use Rattle.reading.specs.Search.{find}
+use Rattle.reading.specs.Mode.{h}
 use Rattle.reading.specs.Settings.{Settings}
-use Rattle.reading.specs.Commands.{Op, ACTIVE, READ, WRITE, PRECHARGE, MODE-REGISTER-SET, Command, is, among, names}
+use Rattle.reading.specs.Commands.{ACTIVE, READ, WRITE, PRECHARGE, MODE-REGISTER-SET, Command, is, among, names}
 use Rattle.reading.specs.Bursts.{Burst, reads, dataEnd, cutBy}
 use Rattle.reading.specs.Part.{Part, openOn, idleFrom, autoPrecharge, bankAfter, burstGiven, partAfter}
 use Rattle.reading.proofs.Cuts.{All, nil, cons, all-map, cut-lowers}

@@ -1,8 +1,7 @@
 -- The summary of the part after an event that breaks no rule is what a step makes of the summary before it.
-use Prim.Native.Nat.{ℕ, zero, suc, _+_, _-_, _%_, _≤_, _<_}
-use mathlib.Core.Bool.{Bool, true, false, cond, not, _&&_, _||_, and-false}
+use Prim.Native.Nat.{ℕ, _+_, _%_, _≤_, _<_}
+use mathlib.Core.Bool.{Bool, true, false, cond, _&&_, _||_, and-false}
 use mathlib.Core.List.{List, [], _∷_, map}
-use mathlib.Core.Logic.{_⊎_, inl, inr}
 use mathlib.Core.Option.{Option, none, some, Option·map}
 use mathlib.Core.Path.{_≡_, refl, sym, ap, _∙_, fun-ext}
 use native.Mathlib.Nat.{mod-eq-of-lt}
@@ -13,15 +12,15 @@ use borrow.Author.Tests.{leb-true, leb-false, le-leb, lt-leb, lt-ltb, eqb-true, 
 use Rattle.reading.specs.Search.{ever, find, lesser, later, orZero}
 use Rattle.reading.specs.Mode.{h, CL}
 use Rattle.reading.specs.Settings.{Settings}
-use Rattle.reading.specs.Commands.{Op, ACTIVE, READ, WRITE, BURST-TERMINATE, PRECHARGE, AUTO-REFRESH, MODE-REGISTER-SET, NOP, DESELECT, Command, is, names}
+use Rattle.reading.specs.Commands.{ACTIVE, READ, WRITE, BURST-TERMINATE, PRECHARGE, AUTO-REFRESH, MODE-REGISTER-SET, NOP, DESELECT, Command, is}
 use Rattle.reading.specs.Bursts.{Burst, reads, dataEnd, cuts, cutBy}
-use Rattle.reading.specs.Part.{Part, Bank, openOn, idleFrom, autoPrecharge, bankAfter, burstGiven, partAfter}
+use Rattle.reading.specs.Part.{Part, Bank, openOn, idleFrom, burstGiven, partAfter}
 use Rattle.reading.specs.Rules.{bankWrite}
-use Rattle.reading.proofs.Cuts.{All, nil, cons, all-map, auto-uncut}
+use Rattle.reading.proofs.Cuts.{All, nil, cons, auto-uncut}
 use Rattle.deadlines.specs.Deadlines.{paceOf, activeAfter, readAfter, writeAfter, cutRead, closeAfter, closeAllAfter, restAll, restAfter, refreshAfter, modeSetAfter, cutWrite, newWrite, autoAfter}
-use Rattle.bridge.specs.Summary.{Held, laid, summary, from, ended, cleared, heldBy, readerOf, writerOf}
+use Rattle.bridge.specs.Summary.{Held, laid, summary, from, ended, cleared, readerOf, writerOf}
 use Rattle.bridge.proofs.Laid.{put, put-same, activated, banked, readGiven, writeGiven, timed, active-laid, auto-laid, cut-laid, new-laid, rest-laid}
-use Rattle.bridge.proofs.Bursts.{blind, uncut, find-same, find-map, find-like, held-cut, Given, Ended, Late, nothing, read, write, Over, held-over, find-all, find-holds, lesser-low, lesser-high, lesser-add, lesser-right, lesser-left, later-low, later-high, later-add}
+use Rattle.bridge.proofs.Bursts.{blind, uncut, find-same, find-map, held-cut, Given, Late, nothing, read, write, Over, held-over, find-all, find-holds, lesser-low, lesser-add, later-low, later-high, later-add}
 use Rattle.bridge.proofs.Tests.{first-of}
 use Rattle.bridge.proofs.Cut.{cut-until, Latency, same-latency, same-reader}
 use Rattle.bridge.proofs.Rules.{does}

@@ -1,23 +1,20 @@
 -- The lowest broken rule of a part is the one that its deadlines show.
-use Prim.Native.Nat.{ℕ, zero, suc, _+_, _%_, _^_, _≤_, _<_}
+use Prim.Native.Nat.{ℕ, zero, suc, _+_, _≤_, _<_}
 use mathlib.Core.Bool.{Bool, true, false, cond, not, _&&_, _||_, or-comm, or-false, and-false, and-true}
-use mathlib.Core.List.{List, [], _∷_}
-use mathlib.Core.Option.{Option, none, some}
-use mathlib.Core.Path.{_≡_, refl, sym, ap, _∙_}
+use mathlib.Core.Path.{_≡_, refl}
 use native.Mathlib.Nat.{mod-eq-of-lt}
 use native.Mathlib.Omega.{arith}
-use lib.Dec.{leb, ltb, eqb}
-use borrow.Author.Tests.{eq-eqb, ne-eqb, eqb-true}
-use Rattle.reading.specs.Search.{implies, ever, find, orZero}
-use Rattle.reading.specs.Mode.{modeWord}
+use lib.Dec.{leb, eqb}
+use borrow.Author.Tests.{eqb-true}
+use Rattle.reading.specs.Search.{implies, ever, find}
 use Rattle.reading.specs.Settings.{Settings}
-use Rattle.reading.specs.Commands.{Op, ACTIVE, READ, WRITE, BURST-TERMINATE, PRECHARGE, AUTO-REFRESH, MODE-REGISTER-SET, NOP, DESELECT, Command, names}
-use Rattle.reading.specs.Bursts.{Burst, reads, dataEnd}
+use Rattle.reading.specs.Commands.{Op, ACTIVE, READ, WRITE, BURST-TERMINATE, PRECHARGE, AUTO-REFRESH, MODE-REGISTER-SET, NOP, DESELECT, Command}
+use Rattle.reading.specs.Bursts.{reads, dataEnd}
 use Rattle.reading.specs.Part.{Part}
 use Rattle.reading.specs.Rules.{everyBank, after, bankWrite, lowestBroken}
 use Rattle.reading.proofs.Cuts.{All}
 use Rattle.deadlines.specs.Deadlines.{orElse, dueBreaks, activeBreaks, readBreaks, writeBreaks, terminateBreaks, closeBreaks, closeAllBreaks, refreshBreaks, modeBreaks}
-use Rattle.bridge.specs.Summary.{Held, heldBy, laid, summary}
+use Rattle.bridge.specs.Summary.{heldBy, laid, summary}
 use Rattle.bridge.proofs.Laid.{stands}
 use Rattle.bridge.proofs.Tests.{num, num-cond, after-is, ended-is, cleared-is, leb-later, held-is, open-is, shut-is, closing-is}
 use Rattle.bridge.proofs.Bursts.{Given, Late, terminate-is}

@@ -1,13 +1,13 @@
 -- A rule's test of the part is a comparison with a deadline of its summary.
-use Prim.Native.Nat.{ℕ, zero, suc, _+_, _≤_, _<_}
+use Prim.Native.Nat.{ℕ, _+_}
 use mathlib.Core.Bool.{Bool, true, false, cond, not, _&&_, _||_, and-false}
 use mathlib.Core.List.{List, [], _∷_}
 use mathlib.Core.Option.{Option, none, some}
-use mathlib.Core.Path.{_≡_, refl, sym, ap, _∙_}
+use mathlib.Core.Path.{_≡_, refl, sym, ap}
 use native.Mathlib.Omega.{arith}
 use lib.Dec.{leb, ltb, eqb, leb·zero}
-use borrow.Author.Tests.{leb-true, leb-false, le-leb, lt-leb, ltb-true, ltb-false, lt-ltb, le-ltb}
-use Rattle.reading.specs.Search.{implies, ever, every, later, lesser}
+use borrow.Author.Tests.{leb-true, leb-false, le-leb, lt-ltb, le-ltb}
+use Rattle.reading.specs.Search.{implies, ever, every, later}
 use Rattle.reading.specs.Mode.{h, CL}
 use Rattle.reading.specs.Bursts.{Burst, dataEnd}
 use Rattle.reading.specs.Rules.{after, autoOver}

@@ -1,7 +1,7 @@
 -- The deadlines as a function of the reading's part: of the bursts, the last read, the last write, each bank's last write
 -- since its ACTIVE, and the latest end of auto precharge bursts.
 use Prim.Native.Nat.{ℕ, _+_}
-use mathlib.Core.Bool.{Bool, true, false, cond, _&&_}
+use mathlib.Core.Bool.{Bool, cond, _&&_}
 use mathlib.Core.List.{List, [], _∷_}
 use mathlib.Core.Option.{Option, none, some}
 use Rattle.reading.specs.Search.{orZero, find, later}

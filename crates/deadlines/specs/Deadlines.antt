@@ -1,7 +1,7 @@
 -- The deadlines that are kept of a part, forty numbers in a row; which rule a command breaks by them, and what it makes of them.
 -- A deadline is the first cycle at which a rule lets a command through; 0 where nothing has happened.
-use Prim.Native.Nat.{ℕ, _+_, _*_, _/_, _%_, _^_}
-use mathlib.Core.Bool.{Bool, true, false, cond, not, _||_, _&&_}
+use Prim.Native.Nat.{ℕ, _+_, _%_, _^_}
+use mathlib.Core.Bool.{Bool, cond, not, _||_}
 use mathlib.Core.List.{List, [], _∷_}
 use lib.ListN.{getD, set, replicate}
 use lib.Dec.{leb, ltb, eqb}

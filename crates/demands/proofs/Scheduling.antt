@@ -1,9 +1,9 @@
 -- Demand 3, for `schedule::schedule` on any settings, requests and buffer.
-use Prim.Native.Nat.{ℕ, _≤_, _<_}
+use Prim.Native.Nat.{ℕ, _≤_}
 use mathlib.Core.Bool.{Bool, true, false, not}
-use mathlib.Core.List.{List, [], _∷_, _++_}
+use mathlib.Core.List.{List}
 use mathlib.Core.Option.{Option, none, some}
-use mathlib.Core.Path.{_≡_, refl, sym, ap, _∙_, subst}
+use mathlib.Core.Path.{_≡_, refl, sym, ap, _∙_}
 use native.Mathlib.Omega.{arith}
 use lib.Dec.{ltb, eqb}
 use lib.ListN.{length, take, drop}
@@ -14,7 +14,7 @@ use Rattle.reading.specs.Settings.{settingsOf, badSetting}
 use Rattle.reading.specs.Capture.{Event, eventCount, eventsOf}
 use Rattle.reading.specs.Schedule.{Schedule, planned, late, badRequest, scheduleOf, captureOf}
 use Rattle.reading.specs.Memory.{Run, replay, plain}
-use Rattle.reading.specs.Answers.{Answer, refused, answered, unless, Outcome, leaves, fitting, keptUp, settingsIn, judgeAnswer, scheduleOutcome}
+use Rattle.reading.specs.Answers.{Answer, refused, answered, unless, leaves, fitting, keptUp, settingsIn, judgeAnswer, scheduleOutcome}
 use Rattle.judge.specs.declared.Verdict.{Verdict}
 use Rattle.judge.specs.declared.Verdict.the-variants.{Clean}
 use Rattle.schedule.specs.declared.Scheduled.the-variants as said

@@ -1,5 +1,5 @@
 -- From a capture's bytes to the verdict on its events.
-use Prim.Native.Nat.{ℕ, _+_, _-_, _*_, _≤_, _<_}
+use Prim.Native.Nat.{ℕ, _-_, _≤_}
 use mathlib.Core.List.{List, [], _∷_}
 use mathlib.Core.Logic.{inl, inr}
 use types.Run.{OneOf}
@@ -10,7 +10,7 @@ use lib.Seq.{take-all}
 use Rattle.reading.specs.Settings.{settingsOf}
 use Rattle.reading.specs.Capture.{eventCount, settingWords, eventPart, eventsOf}
 use Rattle.reading.specs.Verdict as is
-use Rattle.reading.specs.Answers.{Answer, refused, answered, accepted, settingsIn, verdictIn, judgeAnswer, Report}
+use Rattle.reading.specs.Answers.{answered, accepted, settingsIn, verdictIn, judgeAnswer}
 use Rattle.settings.proofs.Fitting.{at-most}
 use Rattle.capture.specs.declared.Opened.{Opened}
 use Rattle.capture.specs.declared.Opened.the-variants.{Accepted, Length, Header, Setting, Event}

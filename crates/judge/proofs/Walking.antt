@@ -1,5 +1,5 @@
 -- The walk over the events: what holds before event i, and what the verdict is where it stops.
-use Prim.Native.Nat.{ℕ, zero, suc, _+_, _-_, _*_, _≤_, _<_, zero-le}
+use Prim.Native.Nat.{ℕ, suc, _+_, _-_, _≤_, _<_, zero-le}
 use mathlib.Core.Bool.{Bool, true, false, cond, not, _&&_}
 use mathlib.Core.List.{List, [], _∷_}
 use mathlib.Core.Option.{Option, none, some}
@@ -7,15 +7,15 @@ use mathlib.Core.Path.{_≡_, refl, sym, ap, _∙_}
 use native.Mathlib.Numerals.{add-one}
 use native.Mathlib.Omega.{arith}
 use lib.Dec.{eqb}
-use lib.ListN.{length, drop}
+use lib.ListN.{drop}
 use borrow.Author.Tests.{eqb-true, eqb-false, eq-eqb, ne-eqb, not-true}
 use Rattle.reading.specs.Search.{every, find}
 use Rattle.reading.specs.Settings.{Settings, settingsOf}
-use Rattle.reading.specs.Capture.{Event, eventAt, eventFits}
+use Rattle.reading.specs.Capture.{Event, eventAt}
 use Rattle.reading.specs.Commands.{commandOf}
 use Rattle.reading.specs.Part.{Part, start, step}
 use Rattle.reading.specs.Rules.{keeps, rules, brokenBy}
-use Rattle.reading.specs.Verdict.{Verdict, clean, broken, onward, judgeFrom, verdictOf}
+use Rattle.reading.specs.Verdict.{broken, onward, judgeFrom, verdictOf}
 use Rattle.capture.proofs.Accepted.{cycle-rises}
 use Rattle.deadlines.specs.Deadlines.{paceOf}
 use Rattle.part.specs.declared.Answer.{Answer}

@@ -1,13 +1,13 @@
 -- A step does what its command does: one law for each way that the four command pins can stand.
 use Prim.Native.Nat.{ℕ}
-use mathlib.Core.Bool.{Bool, true, false, cond, _&&_}
+use mathlib.Core.Bool.{Bool, true, false, cond}
 use mathlib.Core.List.{List}
-use mathlib.Core.Path.{_≡_, refl, sym, ap, _∙_}
+use mathlib.Core.Path.{_≡_, refl}
 use lib.Dec.{eqb}
 use borrow.Author.Tests.{ne-eqb}
 use Rattle.reading.specs.Settings.{Settings}
 use Rattle.deadlines.specs.Deadlines.{paceOf, dueBreaks, activeBreaks, readBreaks, writeBreaks, terminateBreaks, closeBreaks, closeAllBreaks, refreshBreaks, modeBreaks, activeAfter, readAfter, writeAfter, cutRead, closeAfter, closeAllAfter, refreshAfter, modeSetAfter}
-use Rattle.part.specs.Steps.{answerOf, leftBy, codeOf, bankOf, addressOf, tenOf, byCode, stepBreaks, stepAfter, paceAfter}
+use Rattle.part.specs.Steps.{answerOf, leftBy, codeOf, bankOf, addressOf, tenOf, stepBreaks, stepAfter, paceAfter}
 use Rattle.part.specs.declared.Answer.{Answer}
 
 module _ (s : Settings) (d m : List ℕ) (t w : ℕ) where

@@ -1,8 +1,7 @@
 -- Worked cases: pin words and captures as a person would write them, and what is said of a capture.
 -- The cases stand below in Cases/: each list is one statement, and holds by computation.
-use Prim.Native.Nat.{ℕ, _+_, _*_}
+use Prim.Native.Nat.{ℕ, _*_}
 use mathlib.Core.List.{List, [], _∷_}
-use lib.ListN.{set}
 use Rattle.reading.specs.Words.{wordAt, wordBytes, bytesOf}
 use Rattle.reading.specs.Settings.{settingFits, badSetting}
 use Rattle.reading.specs.Capture.{Event, settingWords, eventsOf, badLength, goodHeader, eventFits, badEvent}

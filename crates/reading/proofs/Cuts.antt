@@ -1,7 +1,7 @@
 -- Kept pairs: a cut never raises them, and a burst with auto precharge keeps them all.
-use Prim.Native.Nat.{ℕ, _+_, _-_, _≤_}
+use Prim.Native.Nat.{ℕ, _+_, _≤_}
 use mathlib.Core.Bool.{Bool, true, false, cond, not, _&&_, and-false}
-use mathlib.Core.List.{List, [], _∷_, _++_, map, reverse, reverseAux}
+use mathlib.Core.List.{List, [], _∷_, map, reverseAux}
 use mathlib.Core.Path.{_≡_, refl, sym, ap, _∙_}
 use native.Mathlib.Nat.{le-refl}
 use native.Mathlib.Omega.{arith}
@@ -13,7 +13,7 @@ use Rattle.reading.specs.Settings.{Settings}
 use Rattle.reading.specs.Capture.{Event}
 use Rattle.reading.specs.Commands.{Command, READ, WRITE, among, commandOf}
 use Rattle.reading.specs.Bursts.{Burst, keep, cuts, cutTo, isCut, cutBy}
-use Rattle.reading.specs.Part.{Part, start, burstGiven, burstsAfter, step, run}
+use Rattle.reading.specs.Part.{Part, start, burstGiven, step, run}
 use Rattle.reading.specs.Cells.{burstsOf}
 
 -- ---- one burst, one event

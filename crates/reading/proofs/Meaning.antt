@@ -1,20 +1,20 @@
 -- What a verdict means.
-use Prim.Native.Nat.{ℕ, zero, suc, _+_, _≤_, _<_}
-use mathlib.Core.Bool.{Bool, true, false, not, cond}
+use Prim.Native.Nat.{ℕ, zero, suc, _+_, _<_}
+use mathlib.Core.Bool.{Bool, true, false, not}
 use mathlib.Core.List.{List, [], _∷_, List·Memᴰ}
 use mathlib.Core.Logic.{_↔_}
 use mathlib.Core.Option.{Option, none, some}
-use mathlib.Core.Path.{_≡_, refl, sym, ap, _∙_}
+use mathlib.Core.Path.{_≡_, refl, ap}
 use lib.ListN.{length, take, getD}
 use borrow.Author.Tests.{not-true, not-false}
 use native.Mathlib.Nat.{zero-add, add-zero, add-suc, suc-add}
 use native.Mathlib.Omega.{arith}
 use Rattle.reading.specs.Settings.{Settings}
 use Rattle.reading.specs.Capture.{Event}
-use Rattle.reading.specs.Commands.{Command, commandOf}
+use Rattle.reading.specs.Commands.{commandOf}
 use Rattle.reading.specs.Part.{Part, start, step, run}
-use Rattle.reading.specs.Rules.{keeps, rules, lowestBroken, brokenBy}
-use Rattle.reading.specs.Verdict.{Verdict, clean, broken, onward, judgeFrom, verdictOf, judgedOf}
+use Rattle.reading.specs.Rules.{keeps, rules, brokenBy}
+use Rattle.reading.specs.Verdict.{clean, broken, onward, judgeFrom, verdictOf, judgedOf}
 use Rattle.reading.proofs.Found.{Rising, find-none, none-find, find-some, find-lowest, lowest-find}
 
 -- ---- one event: the rules by their numbers

@@ -1,8 +1,6 @@
 use Prim.Native.Nat.{_+_, _-_}
-use mathlib.Core.Path.{sym, _∙_}
 use native.Mathlib.Omega.{arith}
-use lib.Dec.{leb, eqb}
-use borrow.Author.Needs.{needs}
+use lib.Dec.{eqb}
 use borrow.Author.Tests.{eq-eqb, ne-eqb}
 use Rattle.deadlines.specs.Deadlines.{OPEN, at}
 use Rattle.rules.proofs.Banks.{Passed, none, more, passed, left}

@@ -1,9 +1,8 @@
 use Prim.Native.Nat.{_+_, _-_}
 use mathlib.Core.Path.{sym, _∙_}
 use native.Mathlib.Omega.{arith}
-use lib.Dec.{leb, eqb}
+use lib.Dec.{leb}
 use borrow.Author.Needs.{needs}
-use borrow.Author.Tests.{eq-eqb, ne-eqb}
 use Rattle.deadlines.specs.Deadlines.{REST, at}
 use Rattle.rules.proofs.Banks.{Passed, none, more, passed, left}
 use Rattle.rules.proofs.all_rested.Statement.{statement}

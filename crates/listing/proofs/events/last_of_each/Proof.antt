@@ -1,7 +1,6 @@
 -- The invariant: there is a place for each of the seven kinds.
 use Prim.Native.Nat.{_≤_, _-_}
 use mathlib.Core.Path.{_≡_}
-use native.Mathlib.Omega.{arith}
 use borrow.Author.Needs.{needs}
 use lib.ListN.{length}
 use Rattle.listing.proofs.events.last_of_each.Statement.{statement}
