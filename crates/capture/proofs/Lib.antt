@@ -1,6 +1,5 @@
--- For the proofs of the crates above: what it means that a capture is accepted, and that `open` has one answer.
+-- For the proofs of the crates above: what it means that a capture is accepted.
 pub mod Accepted
-pub mod Unique
 -- The steps of this crate's own proofs.
 mod Fitting
 mod Walks

@@ -1,4 +1,5 @@
 // A capture in bytes: whether it is accepted, and its settings and events.
+use settings::Checked;
 use words::Found;
 ghost use mathlib.Core.Path.{_≡_};
 ghost use mathlib.Core.Bool.{true, not, _&&_};
@@ -8,16 +9,8 @@ ghost use lib.ListN.{length};
 ghost use Rattle.words.specs.Found.{placeOf};
 ghost use Rattle.reading.specs.Capture.{eventCount, settingWords, eventAt, badLength, goodHeader, badEvent};
 ghost use Rattle.reading.specs.Answers.{answered, accepted};
-ghost use Rattle.capture.specs.Meaning.{means, fitsFrom};
-
-// What opening a capture finds.
-pub enum Opened {
-    Accepted,
-    Length,
-    Header,
-    Setting(u32),
-    Event(u32),
-}
+ghost use Rattle.settings.specs.Meaning.{means};
+ghost use Rattle.capture.specs.Meaning.{fitsFrom};
 
 fn bad_length(capture: &[u8]) -> bool
     ensures { λ r. ⌜ r ≡ badLength (now (capture .entry)) ⌝ }
@@ -149,23 +142,29 @@ fn lowest_bad_event(part: &[u8], n: usize) -> Found
 }
 
 // Refusals 1 to 4, in this order.
-pub fn open(capture: &[u8]) -> Opened
+pub fn open(capture: &[u8]) -> Checked
     ensures { λ r. ⌜ means r ≡ accepted (now (capture .entry)) (answered tt) ⌝ }
 {
     if bad_length(capture) {
-        return Opened::Length;
+        return Checked::Refused {
+            number: 1,
+            place: 0,
+        };
     }
     if bad_header(capture) {
-        return Opened::Header;
+        return Checked::Refused {
+            number: 2,
+            place: 0,
+        };
     }
     let loaded = setting_words(capture);
     let setting = settings::lowest_bad(&loaded);
-    if let Found::At(i) = setting {
-        return Opened::Setting(i);
+    if let Found::At(place) = setting {
+        return Checked::Refused { number: 3, place };
     }
     let n = event_count(capture) as usize;
-    let Found::At(i) = lowest_bad_event(&capture[80..], n) else {
-        return Opened::Accepted;
+    let Found::At(place) = lowest_bad_event(&capture[80..], n) else {
+        return Checked::Fine;
     };
-    Opened::Event(i)
+    Checked::Refused { number: 4, place }
 }

@@ -32,9 +32,9 @@ module _ (settings part : List ℕ) (n : ℕ) {v : Verdict} (judged : v ≡ verd
       go is.clean f = refl
       go (is.broken r i t) f = absurd (not-third (subst (λ (x : Verdict). OneOf (0 ∷ 1 ∷ []) (tagOf the-type x)) f o))
 
-  pub broken-first : {r i t k : ℕ} → v ≡ Broken r i t k → some i ≡ notClean (is.verdictOf (settingsOf settings) (eventsIn part n))
-  broken-first {r} {i} {t} {k} b = go (is.verdictOf (settingsOf settings) (eventsIn part n)) (sym b ∙ verdict)
+  pub broken-first : {events judged r i t : ℕ} → v ≡ Broken events judged r i t → some i ≡ notClean (is.verdictOf (settingsOf settings) (eventsIn part n))
+  broken-first {events} {judged} {r} {i} {t} b = go (is.verdictOf (settingsOf settings) (eventsIn part n)) (sym b ∙ verdict)
     where
-      go : (x : is.Verdict) → Broken r i t k ≡ said n x → some i ≡ notClean x
+      go : (x : is.Verdict) → Broken events judged r i t ≡ said n x → some i ≡ notClean x
       go is.clean f = let z : _≡_ {A = ℕ} 0 1 = cc in absurd (omega arith)
       go (is.broken q j u) f = let z : i ≡ j = cc in ap some z

@@ -3,6 +3,7 @@ pub mod Clean
 pub mod Counting
 pub mod Room
 pub mod Rows
+pub mod Stepping
 pub mod Writing
 pub mod Listing
 pub mod Unique

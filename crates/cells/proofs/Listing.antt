@@ -18,13 +18,13 @@ use Rattle.words.specs.declared.Found.{Found}
 use Rattle.words.specs.declared.Found.the-variants.{Nothing, At}
 use Rattle.words.specs.Found.{placeOf}
 use Rattle.settings.proofs.Fitting.{at-most, mode-valid}
-use Rattle.capture.specs.declared.Opened.{Opened}
-use Rattle.capture.specs.declared.Opened.the-variants.{Accepted, Length, Header, Setting, Event}
-use Rattle.capture.specs.Meaning as capture
+use Rattle.settings.specs.declared.Checked.{Checked}
+use Rattle.settings.specs.declared.Checked.the-variants as checked
+use Rattle.settings.specs.Meaning as check
 use Rattle.capture.proofs.Accepted.{Sound, accepted-sound, accepted-rest, refused-rest}
 use Rattle.judge.specs.Meaning.{eventsIn}
 use Rattle.judge.proofs.Judging as judging
-use Rattle.cells.specs.Meaning.{means, refusing, Listable, cellsOn, lackingIn, listing}
+use Rattle.cells.specs.Meaning.{Listable, cellsOn, lackingIn, listing}
 
 -- an answer and what stands in the buffer are those of an outcome
 abbrev pub Meets : Answer ℕ → List ℕ → Outcome → Type 0
@@ -81,29 +81,19 @@ on-capture : (c buffer : List ℕ) → accepted c (answered (tt {0})) ≡ answer
 unfolding listing cellsOn cellsOutcome cellsIn verdictIn eventsOf
 on-capture c buffer h = ap (λ (a : Answer (List ℕ)). leaves a buffer) (sym (accepted-rest c _ h))
 
-module _ (c : List ℕ) (buffer : List ℕ) (o : Opened) (opened : capture.means o ≡ accepted c (answered (tt {0}))) where
+module _ (c : List ℕ) (buffer : List ℕ) (o : Checked) (opened : check.means o ≡ accepted c (answered (tt {0}))) where
   -- one that is not accepted
-  pub refused-so : (o ≡ Accepted → ⊥) → Meets (means (refusing o)) buffer (cellsOutcome c buffer)
+  pub refused-so : (number place : ℕ) → o ≡ checked.Refused number place → Meets (refused number place) buffer (cellsOutcome c buffer)
   unfolding cellsOutcome
-  refused-so n = go o n opened
-    where
-      rest : Answer (List ℕ)
-      rest = unless 8 (notClean (verdictIn c)) (fitting buffer (cellsIn c))
+  refused-so number place e =
+      meets
+      (ap (λ (a : Answer (List ℕ)). leaves a buffer)
+      (refused-rest c (unless 8 (notClean (verdictIn c)) (fitting buffer (cellsIn c))) (sym opened ∙ ap check.means e)))
 
-      refuses : {number place : ℕ} → refused number place ≡ accepted c (answered (tt {0})) → Meets (refused number place) buffer (cellsOutcome c buffer)
-      refuses e = meets (ap (λ (a : Answer (List ℕ)). leaves a buffer) (refused-rest c rest (sym e)))
-
-      go : (o : Opened) → (o ≡ Accepted → ⊥) → capture.means o ≡ accepted c (answered (tt {0})) → Meets (means (refusing o)) buffer (cellsOutcome c buffer)
-      go Accepted n e = absurd (n refl)
-      go Length n e = refuses e
-      go Header n e = refuses e
-      go (Setting i) n e = refuses e
-      go (Event i) n e = refuses e
-
-  module _ (yes-it-is : o ≡ Accepted) {settings : List ℕ} {n : ℕ} {part : List ℕ}
+  module _ (fine : o ≡ checked.Fine) {settings : List ℕ} {n : ℕ} {part : List ℕ}
       (e : settings ≡ settingWords c) (f : n ≡ eventCount c) (g : part ≡ drop 80 c) where
     open-to : accepted c (answered (tt {0})) ≡ answered tt
-    open-to = sym opened ∙ ap capture.means yes-it-is
+    open-to = sym opened ∙ ap check.means fine
 
     sound : Sound c
     sound = accepted-sound c open-to
@@ -111,7 +101,7 @@ module _ (c : List ℕ) (buffer : List ℕ) (o : Opened) (opened : capture.means
     pub listable : Listable settings part n
     listable =
         record {
-          fit = judging.fit c o opened yes-it-is e f g;
+          fit = judging.fit c o opened fine e f g;
           sized =
               rw e
               (record {

@@ -1,20 +1,25 @@
 -- What this crate's answers mean in document 01, and what is known of the captures whose cells are listed.
-use Prim.Native.Nat.{ℕ}
-use mathlib.Core.Bool.{true}
+use Prim.Native.Nat.{ℕ, _+_}
+use mathlib.Core.Bool.{true, cond}
 use mathlib.Core.List.{List}
-use mathlib.Core.Option.{Option}
+use mathlib.Core.Option.{Option, none, some}
 use mathlib.Core.Path.{_≡_}
 use lib.Dec.{ltb}
-use Rattle.reading.specs.Search.{given}
+use lib.ListN.{getD}
+use Rattle.reading.specs.Search as search
 use Rattle.reading.specs.Mode.{modeWord}
 use Rattle.reading.specs.Settings.{Settings, settingsOf}
+use Rattle.reading.specs.Capture.{eventAt}
+use Rattle.reading.specs.Bursts.{columnOf}
 use Rattle.reading.specs.Verdict.{verdictOf}
 use Rattle.reading.specs.Cells.{burstsOf, cellsOf}
 use Rattle.reading.specs.Answers.{Answer, refused, answered, unless, Outcome, leaves, fitting, notClean}
-use Rattle.capture.specs.declared.Opened.{Opened}
-use Rattle.capture.specs.declared.Opened.the-variants.{Accepted, Length, Header, Setting, Event}
+use Rattle.part.specs.Steps.{bankOf, addressOf}
+use Rattle.beats.specs.Kept.{gives, eventsFrom, keptOf}
 use Rattle.beats.specs.Rows.{Sized}
 use Rattle.judge.specs.Meaning.{Fit, eventsIn}
+use Rattle.cells.specs.declared.Given.{Given}
+use Rattle.cells.specs.declared.Given.the-variants as given
 use Rattle.cells.specs.declared.Listed.{Listed}
 use Rattle.cells.specs.declared.Listed.the-variants.{Refused, Written}
 
@@ -23,13 +28,27 @@ abbrev pub means : Listed → Answer ℕ
 means (Refused number place) = refused number place
 means (Written cells) = answered cells
 
--- a capture that is not accepted, as it was opened
-abbrev pub refusing : Opened → Listed
-refusing Accepted = Written 0
-refusing Length = Refused 1 0
-refusing Header = Refused 2 0
-refusing (Setting i) = Refused 3 i
-refusing (Event i) = Refused 4 i
+-- what is written of a burst, and what an event gives by it
+pub record Burst : Type 0 where
+  pub first : ℕ
+  pub column : ℕ
+  pub pairs : ℕ
+
+abbrev pub givenAs : Option Burst → Given
+givenAs none = given.Other
+givenAs (some x) = given.Burst (x .first) (x .column) (x .pairs)
+
+-- by the first cells of the rows that the banks were opened on and the mode word before event i
+unfoldable pub givenBy : Settings → List ℕ → ℕ → ℕ → List ℕ → ℕ → Option Burst
+givenBy s part n i firsts mode =
+    cond (gives (eventAt part i .pins))
+    (some
+    (record {
+      first = getD firsts (bankOf (eventAt part i .pins)) 0;
+      column = columnOf s (addressOf (eventAt part i .pins));
+      pairs = keptOf mode (eventAt part i) (eventsFrom part n (i + 1));
+    }))
+    none
 
 -- n events fit, and so do the settings
 pub record Listable (settings part : List ℕ) (n : ℕ) : Type 0 where
@@ -43,7 +62,7 @@ cellsOn s part n = cellsOf s (burstsOf s (eventsIn part n))
 
 -- the cells that are needed, where there is room for fewer
 abbrev pub lackingIn : ℕ → ℕ → Option ℕ
-lackingIn room cells = given cells (ltb room cells)
+lackingIn room cells = search.given cells (ltb room cells)
 
 -- refusals 8 and 7, and what is left in the buffer
 unfoldable pub listing : Settings → List ℕ → ℕ → List ℕ → Outcome

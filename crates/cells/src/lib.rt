@@ -1,12 +1,12 @@
 // The burst list: the cells of every kept beat of a clean capture, written into a lent buffer.
-use capture::Opened;
 use deadlines::places::MODE;
 use deadlines::sums;
 use judge::Verdict;
+use settings::Checked;
 use words::Found;
 ghost use mathlib.Core.Path.{_≡_};
 ghost use mathlib.Core.Option.{none};
-ghost use Prim.Native.Nat.{_≤_};
+ghost use Prim.Native.Nat.{_≤_, _<_};
 ghost use lib.ListN.{length};
 ghost use lib.Seq.{sets};
 ghost use Rattle.words.specs.Found.{placeOf};
@@ -14,7 +14,7 @@ ghost use Rattle.reading.specs.Settings.{settingsOf};
 ghost use Rattle.reading.specs.Verdict.{verdictOf};
 ghost use Rattle.reading.specs.Answers.{cellsOutcome, notClean};
 ghost use Rattle.judge.specs.Meaning.{eventsIn};
-ghost use Rattle.cells.specs.Meaning.{means, refusing, Listable, cellsOn, lackingIn, listing};
+ghost use Rattle.cells.specs.Meaning.{means, givenAs, givenBy, Listable, cellsOn, lackingIn, listing};
 
 // What is said of a capture whose cells are asked for.
 pub enum Listed {
@@ -22,29 +22,10 @@ pub enum Listed {
     Written { cells: u32 },
 }
 
-// The refusal of a capture that is not accepted.
-fn refusal(o: Opened) -> Listed
-    ensures { λ r. ⌜ r ≡ refusing o ⌝ }
-{
-    match o {
-        Opened::Accepted => Listed::Written { cells: 0 },
-        Opened::Length => Listed::Refused {
-            number: 1,
-            place: 0,
-        },
-        Opened::Header => Listed::Refused {
-            number: 2,
-            place: 0,
-        },
-        Opened::Setting(i) => Listed::Refused {
-            number: 3,
-            place: i,
-        },
-        Opened::Event(i) => Listed::Refused {
-            number: 4,
-            place: i,
-        },
-    }
+// What an event gives: a burst, with what is written of it, or none.
+enum Given {
+    Burst { first: u32, column: u32, pairs: u32 },
+    Other,
 }
 
 // The first event that breaks a rule.
@@ -94,6 +75,26 @@ fn lacking(s: &[u32; 14], part: &[u8], n: u32, room: usize) -> Found
     Found::Nothing
 }
 
+// Event i, by the first cells of the rows that the banks were opened on and the mode word before it.
+fn step(s: &[u32; 14], part: &[u8], n: u32, i: u32, firsts: &[u32; 4], mode: u32) -> Given
+    requires { ⌜ Listable (now s) (now part) n × (i < n) ⌝ }
+    ensures { λ r. ⌜ r ≡ givenAs (givenBy (settingsOf (now (s .entry))) (now (part .entry)) n i (now (firsts .entry)) mode) ⌝ }
+{
+    let pins = capture::pins_at(part, i as usize);
+    if !beats::gives_burst(pins) {
+        return Given::Other;
+    }
+    let bank = beats::bank(pins);
+    let first = firsts[bank as usize];
+    let column = beats::column(s, pins);
+    let pairs = beats::kept(part, n, i, mode);
+    Given::Burst {
+        first,
+        column,
+        pairs,
+    }
+}
+
 // Writes the cells from out[0] on, and says how many.
 fn write(s: &[u32; 14], part: &[u8], n: u32, out: &mut [u32]) -> u32
     requires { ⌜ Listable (now s) (now part) n ⌝ }
@@ -105,16 +106,18 @@ fn write(s: &[u32; 14], part: &[u8], n: u32, out: &mut [u32]) -> u32
     let mut mode = s[MODE];
     let mut next: usize = 0;
     'events: for i in 0..n {
-        let pins = capture::pins_at(part, i as usize);
-        if !beats::gives_burst(pins) {
+        let event = step(s, part, n, i, &firsts, mode);
+        let Given::Burst {
+            first,
+            column,
+            pairs,
+        } = event
+        else {
+            let pins = capture::pins_at(part, i as usize);
             beats::open_row(s, &mut firsts, pins);
             mode = beats::mode_after(mode, pins);
             continue 'events;
-        }
-        let pairs = beats::kept(part, n, i, mode);
-        let bank = beats::bank(pins);
-        let first = firsts[bank as usize];
-        let column = beats::column(s, pins);
+        };
         beats::write_burst(out, next, first, mode, column, pairs);
         next += 2 * (pairs as usize);
     }
@@ -150,10 +153,10 @@ pub fn burst_cells(capture: &[u8], out: &mut [u32]) -> Listed
     ensures { λ r. ⌜ means r ≡ cellsOutcome (now (capture .entry)) (now (out .entry)) .answer ⌝ }
     ensures { λ _. ⌜ now (out .exit) ≡ cellsOutcome (now (capture .entry)) (now (out .entry)) .buffer ⌝ }
 {
-    let opened = capture::open(capture);
-    let Opened::Accepted = opened else {
-        return refusal(opened);
-    };
+    let checked = capture::open(capture);
+    if let Checked::Refused { number, place } = checked {
+        return Listed::Refused { number, place };
+    }
     let settings = capture::setting_words(capture);
     let n = capture::event_count(capture);
     list(&settings, &capture[80..], n, out)

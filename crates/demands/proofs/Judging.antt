@@ -22,34 +22,23 @@ reportOf (refused number place) = Refused number place
 reportOf (answered r) = found (r .verdict)
   where
     found : is.Verdict → Verdict
-    found is.clean = Clean (r .judged)
-    found (is.broken rule event cycle) = Broken rule event cycle (r .judged)
+    found is.clean = Clean (r .events) (r .judged)
+    found (is.broken rule event cycle) = Broken (r .events) (r .judged) rule event cycle
 
-back : (n : ℕ) (r : Verdict) → reportOf (means n r) ≡ r
+back : (r : Verdict) → reportOf (means r) ≡ r
 unfolding reportOf
-back n (Refused number place) = refl
-back n (Clean judged) = refl
-back n (Broken rule event cycle judged) = refl
+back (Refused number place) = refl
+back (Clean events judged) = refl
+back (Broken events judged rule event cycle) = refl
 
 -- Demand 1: one answer for every byte string. Any two results that the contract allows are equal.
 pub one-answer : (capture : List ℕ) (r q : Verdict) → Judges capture r → Judges capture q → r ≡ q
-one-answer capture r q a b = sym (back (eventCount capture) r) ∙ ap reportOf (a ∙ sym b) ∙ back (eventCount capture) q
+one-answer capture r q a b = sym (back r) ∙ ap reportOf (a ∙ sym b) ∙ back q
 
 -- a capture whose every event was judged and kept the rules, of however many events
 pub judged-clean : (capture : List ℕ) (n : ℕ) (r : Verdict) → Judges capture r →
-    judgeAnswer capture ≡ answered (record { events = n; judged = n; verdict = is.clean }) → r ≡ Clean (eventCount capture)
-unfolding reportOf
-judged-clean capture n r a h = said ∙ ap Clean (sym counted)
-  where
-    said : r ≡ Clean n
-    said = sym (back (eventCount capture) r) ∙ ap reportOf (a ∙ h)
-
-    eventsOfAnswer : Answer Report → ℕ
-    eventsOfAnswer (refused number place) = 0
-    eventsOfAnswer (answered r) = r .events
-
-    counted : eventCount capture ≡ n
-    counted = ap eventsOfAnswer (sym (ap (means (eventCount capture)) said) ∙ a ∙ h)
+    judgeAnswer capture ≡ answered (record { events = n; judged = n; verdict = is.clean }) → r ≡ Clean n n
+judged-clean capture n r a h = one-answer capture r (Clean n n) a (sym h)
 
 verdictOfAnswer : Answer Report → is.Verdict
 verdictOfAnswer (refused number place) = is.clean
@@ -72,17 +61,17 @@ module _ (capture : List ℕ) (open-to : accepted capture (answered (tt {0})) �
   report v = answered (record { events = eventCount capture; judged = is.judgedOf (eventCount capture) v; verdict = v })
 
   -- what is reported is the verdict on the events
-  reported : means (eventCount capture) r ≡ report (is.verdictOf s es)
+  reported : means r ≡ report (is.verdictOf s es)
   unfolding judgeAnswer verdictIn
   reported = allowed ∙ accepted-rest capture _ open-to
 
-  verdict-is : (v : is.Verdict) → means (eventCount capture) r ≡ report v ↔ is.verdictOf s es ≡ v
+  verdict-is : (v : is.Verdict) → means r ≡ report v ↔ is.verdictOf s es ≡ v
   unfolding verdictOfAnswer
   verdict-is v = (λ e. ap verdictOfAnswer (sym reported ∙ e), λ e. reported ∙ ap report e)
 
-  saying : (v : is.Verdict) (q : Verdict) → means (eventCount capture) q ≡ report v → r ≡ q ↔ is.verdictOf s es ≡ v
+  saying : (v : is.Verdict) (q : Verdict) → means q ≡ report v → r ≡ q ↔ is.verdictOf s es ≡ v
   saying v q h = (
-    λ e. verdict-is v .0 (ap (means (eventCount capture)) e ∙ h),
+    λ e. verdict-is v .0 (ap means e ∙ h),
     λ e. one-answer capture r q allowed (h ∙ sym (verdict-is v .1 e) ∙ allowed),
   )
 
@@ -90,10 +79,10 @@ module _ (capture : List ℕ) (open-to : accepted capture (answered (tt {0})) �
   both p q = (λ a. q .0 (p .0 a), λ c. p .1 (q .1 c))
 
   -- Demand 2: clean exactly when every event, after the events before it, breaks no rule; and then all were judged.
-  pub clean-means-clean : r ≡ Clean (eventCount capture) ↔ Unbroken s (start s) es (length es)
-  clean-means-clean = both (saying is.clean (Clean (eventCount capture)) refl) (verdict-clean s es)
+  pub clean-means-clean : r ≡ Clean (eventCount capture) (eventCount capture) ↔ Unbroken s (start s) es (length es)
+  clean-means-clean = both (saying is.clean (Clean (eventCount capture) (eventCount capture)) refl) (verdict-clean s es)
 
   -- Demand 2: else the first event that breaks a rule, the lowest rule that it breaks, its cycle, and as many judged as stand before it.
-  pub broken-means-broken : (rule event cycle : ℕ) → r ≡ Broken rule event cycle event ↔ BrokenAt s (start s) es event rule cycle
+  pub broken-means-broken : (rule event cycle : ℕ) → r ≡ Broken (eventCount capture) event rule event cycle ↔ BrokenAt s (start s) es event rule cycle
   broken-means-broken rule event cycle =
-      both (saying (is.broken rule event cycle) (Broken rule event cycle event) refl) (verdict-broken s es rule event cycle)
+      both (saying (is.broken rule event cycle) (Broken (eventCount capture) event rule event cycle) refl) (verdict-broken s es rule event cycle)

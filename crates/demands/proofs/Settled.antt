@@ -52,7 +52,6 @@ use Rattle.effects.proofs.refresh_after.Reads as effects-refresh-after
 use Rattle.effects.proofs.mode_set_after.Reads as effects-mode-set-after
 use Rattle.effects.proofs.start.Reads as effects-start
 use Rattle.part.proofs.step.Reads as part-step
-use Rattle.part.proofs.lowest.Reads as part-lowest
 use Rattle.judge.proofs.walk.Reads as judge-walk
 use Rattle.judge.proofs.judge.Reads as judge-judge
 use Rattle.beats.proofs.bank.Reads as beats-bank
@@ -219,9 +218,6 @@ effects-start-settles κs a z z′ e e′ p q = p ∙ sym q
 
 pub part-step-settles : (κs : _) (a : _) (z z′ : _) (e e′ : _) → part-step.Post κs a z e → part-step.Post κs a z′ e′ → (z ≡ z′) × ((now (e .1 .0) ≡ now (e′ .1 .0)) × (now (e .1 .1 .0) ≡ now (e′ .1 .1 .0)))
 part-step-settles κs a z z′ e e′ p q = (p .0 ∙ sym (q .0), (p .1 .0 ∙ sym (q .1 .0), p .1 .1 ∙ sym (q .1 .1)))
-
-pub part-lowest-settles : (κs : _) (a : _) (z z′ : _) (e e′ : _) → part-lowest.Post κs a z e → part-lowest.Post κs a z′ e′ → z ≡ z′
-part-lowest-settles κs a z z′ e e′ p q = p ∙ sym q
 
 -- ---- judge
 

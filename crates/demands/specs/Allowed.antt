@@ -2,7 +2,6 @@
 use Prim.Native.Nat.{ℕ}
 use mathlib.Core.List.{List}
 use mathlib.Core.Path.{_≡_}
-use Rattle.reading.specs.Capture.{eventCount}
 use Rattle.reading.specs.Answers.{judgeAnswer, cellsOutcome, scheduleOutcome}
 use Rattle.judge.specs.declared.Verdict.{Verdict}
 use Rattle.judge.specs.Meaning.{means}
@@ -13,7 +12,7 @@ use Rattle.schedule.specs.Meaning as schedule
 
 -- by `judge::judge`
 abbrev pub Judges : List ℕ → Verdict → Type 0
-Judges capture r = means (eventCount capture) r ≡ judgeAnswer capture
+Judges capture r = means r ≡ judgeAnswer capture
 
 -- by `cells::burst_cells`, lent `out`, which holds `left` afterwards
 abbrev pub Lists : List ℕ → List ℕ → Listed → List ℕ → Type 0

@@ -4,8 +4,11 @@ use mathlib.Core.List.{List, [], _∷_, map}
 use mathlib.Core.Path.{_≡_, refl, sym, ap, _∙_}
 use native.Mathlib.Nat.{add-zero, zero-add, add-suc, suc-add}
 use native.Mathlib.Omega.{arith}
-use lib.ListN.{length, drop}
+use lib.ListN.{length, take, drop}
 use Rattle.reading.specs.Search.{count}
+use Rattle.reading.specs.Settings.{Settings}
+use Rattle.reading.specs.Capture.{Event}
+use Rattle.reading.specs.Part.{Part, step, run}
 
 drop-map : {A B : Type 0} (f : A → B) (i : ℕ) (xs : List A) → drop i (map f xs) ≡ map f (drop i xs)
 drop-map f zero xs = refl
@@ -39,3 +42,11 @@ module _ {A : Type 0} (f : ℕ → A) (n : ℕ) where
 
   pub none-of : (i : ℕ) → n ≤ i → drop i (map f (count 0 n)) ≡ []
   none-of i l = drop-map f i (count 0 n) ∙ ap (map f) (count-gone 0 n i l)
+
+-- the part after one event more of the list
+pub run-next : (s : Settings) (p : Part) (i : ℕ) (es : List Event) {e : Event} {rest : List Event} → drop i es ≡ e ∷ rest →
+    run s p (take (suc i) es) ≡ step s (run s p (take i es)) e
+run-next s p zero [] h = let z : _≡_ {A = ℕ} 0 1 = cc in absurd (omega arith)
+run-next s p zero (x ∷ es) {e} h = let same : x ≡ e = cc in ap (step s p) same
+run-next s p (suc i) [] h = let z : _≡_ {A = ℕ} 0 1 = cc in absurd (omega arith)
+run-next s p (suc i) (x ∷ es) h = run-next s (step s p x) i es h

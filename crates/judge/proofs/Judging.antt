@@ -1,8 +1,6 @@
 -- From a capture's bytes to the verdict on its events.
 use Prim.Native.Nat.{ℕ, _-_, _≤_}
-use mathlib.Core.List.{List, [], _∷_}
-use mathlib.Core.Logic.{inl, inr}
-use types.Run.{OneOf}
+use mathlib.Core.List.{List}
 use mathlib.Core.Path.{_≡_, refl, sym, ap, _∙_}
 use native.Mathlib.Omega.{arith}
 use lib.ListN.{length, getD, take, drop, length-drop}
@@ -12,39 +10,26 @@ use Rattle.reading.specs.Capture.{eventCount, settingWords, eventPart, eventsOf
 use Rattle.reading.specs.Verdict as is
 use Rattle.reading.specs.Answers.{answered, accepted, settingsIn, verdictIn, judgeAnswer}
 use Rattle.settings.proofs.Fitting.{at-most}
-use Rattle.capture.specs.declared.Opened.{Opened}
-use Rattle.capture.specs.declared.Opened.the-variants.{Accepted, Length, Header, Setting, Event}
-use Rattle.capture.specs.Meaning as capture
+use Rattle.settings.specs.declared.Checked.{Checked}
+use Rattle.settings.specs.declared.Checked.the-variants as checked
+use Rattle.settings.specs.Meaning as check
 use Rattle.capture.proofs.Accepted.{Sound, accepted-sound, accepted-rest, refused-rest}
-use Rattle.judge.specs.Meaning.{means, refusing, said, Fit, eventsIn, verdictOn}
-
--- the first variant is none of the other four
-pub not-first : OneOf (1 ∷ 2 ∷ 3 ∷ 4 ∷ []) 0 → ⊥
-not-first (inl e) = omega arith
-not-first (inr (inl e)) = omega arith
-not-first (inr (inr (inl e))) = omega arith
-not-first (inr (inr (inr e))) = omega arith
+use Rattle.judge.specs.declared.Verdict.the-variants.{Refused}
+use Rattle.judge.specs.Meaning.{means, said, Fit, eventsIn, verdictOn}
 
 -- the part that starts at byte k, to the end
 pub tail : (c : List ℕ) (k : ℕ) → take (length c - k) (drop k c) ≡ drop k c
 tail c k = take-all (length c - k) (drop k c) (omega (arith, length-drop k c))
 
-module _ (c : List ℕ) (o : Opened) (opened : capture.means o ≡ accepted c (answered (tt {0}))) where
+module _ (c : List ℕ) (o : Checked) (opened : check.means o ≡ accepted c (answered (tt {0}))) where
   -- a capture that is not accepted
-  pub refused-so : (o ≡ Accepted → ⊥) → means (eventCount c) (refusing o) ≡ judgeAnswer c
+  pub refused-so : (number place : ℕ) → o ≡ checked.Refused number place → means (Refused number place) ≡ judgeAnswer c
   unfolding judgeAnswer
-  refused-so n = go o n opened
-    where
-      go : (o : Opened) → (o ≡ Accepted → ⊥) → capture.means o ≡ accepted c (answered (tt {0})) → means (eventCount c) (refusing o) ≡ judgeAnswer c
-      go Accepted n e = absurd (n refl)
-      go Length n e = sym (refused-rest c _ (sym e))
-      go Header n e = sym (refused-rest c _ (sym e))
-      go (Setting i) n e = sym (refused-rest c _ (sym e))
-      go (Event i) n e = sym (refused-rest c _ (sym e))
+  refused-so number place e = sym (refused-rest c _ (sym opened ∙ ap check.means e))
 
-  module _ (yes-it-is : o ≡ Accepted) where
+  module _ (fine : o ≡ checked.Fine) where
     open-to : accepted c (answered (tt {0})) ≡ answered tt
-    open-to = sym opened ∙ ap capture.means yes-it-is
+    open-to = sym opened ∙ ap check.means fine
 
     sound : Sound c
     sound = accepted-sound c open-to
@@ -62,12 +47,12 @@ module _ (c : List ℕ) (o : Opened) (opened : capture.means o ≡ accepted c (a
         }
 
     pub judged-so : {settings : List ℕ} {n : ℕ} {part : List ℕ} → settings ≡ settingWords c → n ≡ eventCount c → part ≡ drop 80 c →
-        means (eventCount c) (verdictOn (settingsOf settings) part n) ≡ judgeAnswer c
+        means (verdictOn (settingsOf settings) part n) ≡ judgeAnswer c
     unfolding verdictOn judgeAnswer verdictIn eventsOf
     judged-so e f g =
         rw (e, f, g) (go (is.verdictOf (settingsIn c) (eventsIn (eventPart c) (eventCount c))) ∙ sym (accepted-rest c _ open-to))
       where
-        go : (v : is.Verdict) → means (eventCount c) (said (eventCount c) v) ≡
+        go : (v : is.Verdict) → means (said (eventCount c) v) ≡
             answered (record { events = eventCount c; judged = is.judgedOf (eventCount c) v; verdict = v })
         go is.clean = refl
         go (is.broken r i t) = refl

@@ -7,27 +7,29 @@ use mathlib.Core.Path.{_≡_, refl, sym, ap, _∙_}
 use native.Mathlib.Numerals.{add-one}
 use native.Mathlib.Omega.{arith}
 use lib.Dec.{eqb}
-use lib.ListN.{drop}
+use lib.ListN.{take, drop}
 use borrow.Author.Tests.{eqb-true, eqb-false, eq-eqb, ne-eqb, not-true}
 use Rattle.reading.specs.Search.{every, find}
 use Rattle.reading.specs.Settings.{Settings, settingsOf}
 use Rattle.reading.specs.Capture.{Event, eventAt}
 use Rattle.reading.specs.Commands.{commandOf}
-use Rattle.reading.specs.Part.{Part, start, step}
+use Rattle.reading.specs.Part.{Part, start, step, run}
 use Rattle.reading.specs.Rules.{keeps, rules, brokenBy}
-use Rattle.reading.specs.Verdict.{broken, onward, judgeFrom, verdictOf}
+use Rattle.reading.specs.Verdict as is
+use Rattle.reading.specs.Verdict.{broken, onward, judgeFrom, verdictOf, judgedOf}
 use Rattle.capture.proofs.Accepted.{cycle-rises}
 use Rattle.deadlines.specs.Deadlines.{paceOf}
 use Rattle.part.specs.declared.Answer.{Answer}
 use Rattle.part.specs.declared.Answer.the-variants.{Kept, Broke}
-use Rattle.part.specs.Steps.{answerOf, leftBy, stepBreaks, stepAfter, paceAfter}
+use Rattle.part.specs.Steps.{means, ruleOf, leftBy, stepBreaks, stepAfter, paceAfter}
 use Rattle.bridge.specs.Summary.{laid, summary}
 use Rattle.bridge.proofs.Tests.{num}
 use Rattle.bridge.proofs.Next.{Sound}
 use Rattle.bridge.proofs.Turn.{Turned, turned-event, start-laid, start-sound}
+use Rattle.judge.specs.declared.Verdict.{Verdict}
 use Rattle.judge.specs.declared.Verdict.the-variants.{Clean, Broken}
-use Rattle.judge.specs.Meaning.{Fit, Started, eventsIn, said, verdictOn}
-use Rattle.judge.proofs.Events.{next-of, none-of}
+use Rattle.judge.specs.Meaning.{Fit, Started, eventsIn, said, verdictOn, judgedPart, deadlinesOn, paceOn}
+use Rattle.judge.proofs.Events.{next-of, none-of, run-next}
 
 -- no rule has the number 0
 found-positive : (f : ℕ → Bool) (xs : List ℕ) → every (λ r. not (eqb r 0)) xs ≡ true → (r : ℕ) → find f xs ≡ some r → r ≡ 0 → ⊥
@@ -49,16 +51,24 @@ found-positive f (x ∷ xs) p r e z = go (f x) e (found-positive f xs (both-righ
 positive : (s : Settings) (p : Part) (e : Event) (r : ℕ) → brokenBy s p e ≡ some r → r ≡ 0 → ⊥
 positive s p e r q z = found-positive (λ k. not (keeps k s p (e .cycle) (commandOf (e .pins)))) rules refl r q z
 
-zero-of : (r : ℕ) → Kept ≡ answerOf r → r ≡ 0
+-- the number that an answer stands for
+zero-of : (r : ℕ) → means Kept ≡ ruleOf r → r ≡ 0
 zero-of r e = go (eqb r 0) refl e
   where
-    go : (v : Bool) → eqb r 0 ≡ v → Kept ≡ cond v Kept Broke → r ≡ 0
+    go : (v : Bool) → eqb r 0 ≡ v → none ≡ cond v none (some r) → r ≡ 0
     go true f k = eqb-true r 0 f
     go false f k = let z : _≡_ {A = ℕ} 0 1 = cc in absurd (omega arith)
 
-not-zero : (r : ℕ) → Broke ≡ answerOf r → r ≡ 0 → ⊥
-not-zero r e z =
-    let k : _≡_ {A = Answer} Broke Kept = e ∙ ap answerOf z in let u : _≡_ {A = ℕ} 0 1 = cc in omega arith
+record Breaks (k r : ℕ) : Type 0 where
+  pub same : k ≡ r
+  pub some-rule : r ≡ 0 → ⊥
+
+broken-of : (k r : ℕ) → means (Broke k) ≡ ruleOf r → Breaks k r
+broken-of k r e = go (eqb r 0) refl e
+  where
+    go : (v : Bool) → eqb r 0 ≡ v → some k ≡ cond v none (some r) → Breaks k r
+    go true f q = let z : _≡_ {A = ℕ} 0 1 = cc in absurd (omega arith)
+    go false f q = record { same = cc; some-rule = eqb-false r 0 f }
 
 -- what an event leaves that keeps, or breaks, a rule
 moved : (r : ℕ) → r ≡ 0 → (after before : List ℕ) → leftBy r after before ≡ after
@@ -77,6 +87,7 @@ module _ (settings part : List ℕ) (n : ℕ) where
   -- before event i the deadlines are the summary of a part, from which the rest decides the verdict
   pub record Before (d pace : List ℕ) (i : ℕ) : Type 0 where
     pub reached : Part
+    pub after : reached ≡ run s (start s) (take i es)
     pub from : ℕ
     pub sound : Sound from reached
     pub deadlines : d ≡ laid (summary s reached)
@@ -90,6 +101,7 @@ module _ (settings part : List ℕ) (n : ℕ) where
   begins z =
       record {
         reached = start s;
+        after = refl;
         from = 0;
         sound = start-sound s;
         deadlines = z .deadlines ∙ start-laid s;
@@ -126,6 +138,10 @@ module _ (settings part : List ℕ) (n : ℕ) where
             let k = turn .onward e in
             record {
               reached = step s (b .reached) (eventAt part i);
+              after =
+                  ap (λ (p : Part). step s p (eventAt part i)) (b .after)
+                  ∙ sym (run-next s (start s) i es (next-of (eventAt part) n i l))
+                  ∙ ap (λ (k : ℕ). run s (start s) (take k es)) (sym (add-one i));
               from = suc t;
               sound = k .sound;
               deadlines = rw (b .deadlines, b .paced) (k .leaves);
@@ -142,22 +158,39 @@ module _ (settings part : List ℕ) (n : ℕ) where
         go (some r) e = absurd (positive s (b .reached) (eventAt part i) r e (sym (ap num e) ∙ sym breaks-is ∙ z))
 
     -- the verdict at a broken rule
-    stops : (stepBreaks s d t w ≡ 0 → ⊥) → verdictOn s part n ≡ Broken (stepBreaks s d t w) i t i
-    unfolding verdictOn
+    stops : (stepBreaks s d t w ≡ 0 → ⊥) → verdictOf s es ≡ broken (stepBreaks s d t w) i t
     stops z = go (brokenBy s (b .reached) (eventAt part i)) refl
       where
-        go : (o : Option ℕ) → brokenBy s (b .reached) (eventAt part i) ≡ o → said n (verdictOf s es) ≡ Broken (stepBreaks s d t w) i t i
+        go : (o : Option ℕ) → brokenBy s (b .reached) (eventAt part i) ≡ o → verdictOf s es ≡ broken (stepBreaks s d t w) i t
         go none e = absurd (z (breaks-is ∙ ap num e))
         go (some r) e =
-            ap (said n) (unfolds ∙ ap (λ (o : Option ℕ). onward o i t (judgeFrom s (step s (b .reached) (eventAt part i)) (suc i) (drop (suc i) es))) e)
-            ∙ sym (ap (λ (k : ℕ). Broken k i t i) (breaks-is ∙ ap num e))
+            unfolds ∙ ap (λ (o : Option ℕ). onward o i t (judgeFrom s (step s (b .reached) (eventAt part i)) (suc i) (drop (suc i) es))) e
+            ∙ sym (ap (λ (k : ℕ). broken k i t) (breaks-is ∙ ap num e))
+
+  -- where the walk ends: what it says, and what it leaves
+  abbrev pub Ended : Verdict → List ℕ → List ℕ → Type 0
+  Ended v d pace = (v ≡ verdictOn s part n) × ((d ≡ deadlinesOn s part n) × (pace ≡ paceOn s part n))
+
+  ended : {d pace : List ℕ} {i : ℕ} → Before d pace i → (v : is.Verdict) → verdictOf s es ≡ v → judgedOf n v ≡ i → Ended (said n v) d pace
+  unfolding verdictOn judgedPart
+  ended {d} {pace} {i} b v e f =
+      let judged : judgedOf n (verdictOf s es) ≡ i = ap (judgedOf n) e ∙ f in
+      let there : b .reached ≡ run s (start s) (take (judgedOf n (verdictOf s es)) es) =
+      b .after ∙ ap (λ (k : ℕ). run s (start s) (take k es)) (sym judged) in (
+        sym (ap (said n) e),
+        (
+          b .deadlines ∙ ap (λ (p : Part). laid (summary s p)) there,
+          b .paced ∙ ap (λ (p : Part). paceOf (p .mode)) there,
+        ),
+      )
 
   -- no event is left
-  pub ends : (d pace : List ℕ) (i : ℕ) → Before d pace i → n ≤ i → verdictOn s part n ≡ Clean n
-  unfolding verdictOn judgeFrom
-  ends d pace i b l = ap (said n) (b .decides ∙ ap (judgeFrom s (b .reached) i) (none-of (eventAt part) n i l))
+  pub ends : {d pace : List ℕ} {i : ℕ} → Before d pace i → n ≤ i → Ended (Clean n n) d pace
+  unfolding judgeFrom
+  ends {d} {pace} {i} b l =
+      ended b is.clean (b .decides ∙ ap (judgeFrom s (b .reached) i) (none-of (eventAt part) n i l)) (omega (arith, b .in-range))
 
-  -- the same, by what a step answered and left
+  -- by what a step answered and left
   module _ (fit : Fit settings part n) {d pace : List ℕ} {i cycle pins : ℕ} (b : Before d pace i) (l : i < n)
       (e : cycle ≡ eventAt part i .cycle) (f : pins ≡ eventAt part i .pins) where
     abbrev rule : ℕ
@@ -166,17 +199,17 @@ module _ (settings part : List ℕ) (n : ℕ) where
     there : rule ≡ stepBreaks s d (eventAt part i .cycle) (eventAt part i .pins)
     there = rw (e, f)
 
-    pub kept-on : {a : Answer} {d′ pace′ : List ℕ} → a ≡ answerOf rule → d′ ≡ leftBy rule (stepAfter s d pace cycle pins) d →
-        pace′ ≡ leftBy rule (paceAfter pace pins) pace → a ≡ Kept → Before d′ pace′ (i + 1)
-    kept-on a g h k =
-        let z : rule ≡ 0 = zero-of rule (sym k ∙ a) in
-        rw (g ∙ moved rule z _ d, h ∙ moved rule z _ pace, e, f) (goes-on fit d pace i b l (sym there ∙ z))
+    module _ (a : Answer) {d′ pace′ : List ℕ} (told : means a ≡ ruleOf rule)
+        (g : d′ ≡ leftBy rule (stepAfter s d pace cycle pins) d) (h : pace′ ≡ leftBy rule (paceAfter pace pins) pace) where
+      pub kept-on : a ≡ Kept → Before d′ pace′ (i + 1)
+      kept-on k =
+          let z : rule ≡ 0 = zero-of rule (sym (ap means k) ∙ told) in
+          rw (g ∙ moved rule z _ d, h ∙ moved rule z _ pace, e, f) (goes-on fit d pace i b l (sym there ∙ z))
 
-    pub broke-at : {a : Answer} {d′ : List ℕ} {broken : ℕ} → a ≡ answerOf rule → d′ ≡ leftBy rule (stepAfter s d pace cycle pins) d →
-        a ≡ Broke → broken ≡ stepBreaks s d′ cycle pins → verdictOn s part n ≡ Broken broken i cycle i
-    broke-at a g k r =
-        let z : rule ≡ 0 → ⊥ = not-zero rule (sym k ∙ a) in
-        let same : stepBreaks s d (eventAt part i .cycle) (eventAt part i .pins) ≡ _ =
-        sym there ∙ ap (λ (x : List ℕ). stepBreaks s x cycle pins) (sym (g ∙ left rule z _ d)) ∙ sym r in
-        stops fit d pace i b l (λ q. z (there ∙ q))
-        ∙ (λ u. Broken (same u) i (sym e u) i)
+      pub broke-at : {named : ℕ} → a ≡ Broke named → Ended (Broken n i named i cycle) d′ pace′
+      broke-at {named} k =
+          let z = broken-of named rule (sym (ap means k) ∙ told) in
+          let so = stops fit d pace i b l (λ y. z .some-rule (there ∙ y)) in
+          let same : broken _ i (eventAt part i .cycle) ≡ broken named i cycle =
+          λ u. broken ((sym there ∙ sym (z .same)) u) i (sym e u) in
+          rw (g ∙ left rule (z .some-rule) _ d, h ∙ left rule (z .some-rule) _ pace) (ended b (broken named i cycle) (so ∙ same) refl)

@@ -3,32 +3,25 @@ use Prim.Native.Nat.{ℕ, _*_, _≤_, _<_}
 use mathlib.Core.Bool.{true}
 use mathlib.Core.List.{List, map}
 use mathlib.Core.Path.{_≡_}
-use lib.ListN.{length}
+use lib.ListN.{length, take}
 use Rattle.reading.specs.Search.{count}
 use Rattle.reading.specs.Settings as reading
 use Rattle.reading.specs.Capture as capture
 use Rattle.reading.specs.Capture.{eventAt, eventFits}
+use Rattle.reading.specs.Part.{Part, start, run}
 use Rattle.reading.specs.Verdict as is
 use Rattle.reading.specs.Answers.{Answer, refused, answered, Report}
-use Rattle.capture.specs.declared.Opened.{Opened}
-use Rattle.capture.specs.declared.Opened.the-variants.{Accepted, Length, Header, Setting, Event}
 use Rattle.deadlines.specs.Deadlines.{startOf, paceOf}
+use Rattle.bridge.specs.Summary.{laid, summary}
 use Rattle.judge.specs.declared.Verdict.{Verdict}
 use Rattle.judge.specs.declared.Verdict.the-variants.{Refused, Clean, Broken}
 
--- document 01's answer for a capture of n events
-abbrev pub means : ℕ → Verdict → Answer Report
-means n (Refused number place) = refused number place
-means n (Clean judged) = answered (record { events = n; judged = judged; verdict = is.clean })
-means n (Broken rule event cycle judged) = answered (record { events = n; judged = judged; verdict = is.broken rule event cycle })
-
--- a capture that is not accepted, as it was opened
-abbrev pub refusing : Opened → Verdict
-refusing Accepted = Clean 0
-refusing Length = Refused 1 0
-refusing Header = Refused 2 0
-refusing (Setting i) = Refused 3 i
-refusing (Event i) = Refused 4 i
+-- document 01's answer
+abbrev pub means : Verdict → Answer Report
+means (Refused number place) = refused number place
+means (Clean events judged) = answered (record { events = events; judged = judged; verdict = is.clean })
+means (Broken events judged rule event cycle) =
+    answered (record { events = events; judged = judged; verdict = is.broken rule event cycle })
 
 -- the first n events of the part from byte 80 on
 abbrev pub eventsIn : List ℕ → ℕ → List capture.Event
@@ -47,8 +40,18 @@ pub record Started (s : reading.Settings) (d pace : List ℕ) : Type 0 where
   pub paced : pace ≡ paceOf (s .mode)
 
 abbrev pub said : ℕ → is.Verdict → Verdict
-said n is.clean = Clean n
-said n (is.broken rule event cycle) = Broken rule event cycle event
+said n is.clean = Clean n n
+said n (is.broken rule event cycle) = Broken n event rule event cycle
 
 unfoldable pub verdictOn : reading.Settings → List ℕ → ℕ → Verdict
 verdictOn s part n = said n (is.verdictOf s (eventsIn part n))
+
+-- the part after the events that were judged, and what is kept of it
+unfoldable pub judgedPart : reading.Settings → List ℕ → ℕ → Part
+judgedPart s part n = run s (start s) (take (is.judgedOf n (is.verdictOf s (eventsIn part n))) (eventsIn part n))
+
+abbrev pub deadlinesOn : reading.Settings → List ℕ → ℕ → List ℕ
+deadlinesOn s part n = laid (summary s (judgedPart s part n))
+
+abbrev pub paceOn : reading.Settings → List ℕ → ℕ → List ℕ
+paceOn s part n = paceOf (judgedPart s part n .mode)

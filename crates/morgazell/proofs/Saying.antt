@@ -2,7 +2,6 @@
 use Prim.Native.Nat.{ℕ}
 use mathlib.Core.List.{List}
 use mathlib.Core.Path.{_≡_, sym, ap, _∙_, subst}
-use Rattle.reading.specs.Capture.{eventCount}
 use Rattle.reading.specs.Answers.{Answer, judgeAnswer}
 use Rattle.judge.specs.declared.Verdict.{Verdict}
 use Rattle.judge.specs.Meaning.{means}
@@ -10,14 +9,14 @@ use Rattle.morgazell.specs.Packing.{packed, judgeTold, countTold}
 use Rattle.morgazell.proofs.Fitting.{Fits, judge-fits}
 
 -- a verdict v that is w
-module _ (capture : List ℕ) {v w : Verdict} (said : means (eventCount capture) v ≡ judgeAnswer capture) (is : v ≡ w) where
-  tells : judgeTold (judgeAnswer capture) ≡ judgeTold (means (eventCount capture) w)
-  tells = ap judgeTold (sym said ∙ ap (means (eventCount capture)) is)
+module _ (capture : List ℕ) {v w : Verdict} (said : means v ≡ judgeAnswer capture) (is : v ≡ w) where
+  tells : judgeTold (judgeAnswer capture) ≡ judgeTold (means w)
+  tells = ap judgeTold (sym said ∙ ap means is)
 
-  pub verdict-fits : Fits (judgeTold (means (eventCount capture) w))
+  pub verdict-fits : Fits (judgeTold (means w))
   verdict-fits = subst Fits tells (judge-fits capture)
 
-  pub verdict-packed : packed (judgeTold (means (eventCount capture) w)) ≡ packed (judgeTold (judgeAnswer capture))
+  pub verdict-packed : packed (judgeTold (means w)) ≡ packed (judgeTold (judgeAnswer capture))
   verdict-packed = ap packed (sym tells)
 
 -- an answer a with the meaning f, that is b

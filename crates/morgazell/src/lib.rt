@@ -26,7 +26,7 @@ pub extern "C" fn morgazell_judge(capture: &[u8]) -> u64
     let verdict = judge::judge(capture);
     match verdict {
         Verdict::Refused { number, place } => pack(number, 0, place),
-        Verdict::Clean { judged } => pack(0, 0, judged),
+        Verdict::Clean { judged, .. } => pack(0, 0, judged),
         Verdict::Broken { rule, event, .. } => pack(0, rule, event),
     }
 }

@@ -2,13 +2,13 @@
 use Prim.Native.Nat.{ℕ}
 use mathlib.Core.Bool.{Bool, true, false, cond}
 use mathlib.Core.List.{List}
+use mathlib.Core.Option.{Option}
 use mathlib.Core.Path.{_≡_, refl}
 use lib.Dec.{eqb}
 use borrow.Author.Tests.{ne-eqb}
 use Rattle.reading.specs.Settings.{Settings}
 use Rattle.deadlines.specs.Deadlines.{paceOf, dueBreaks, activeBreaks, readBreaks, writeBreaks, terminateBreaks, closeBreaks, closeAllBreaks, refreshBreaks, modeBreaks, activeAfter, readAfter, writeAfter, cutRead, closeAfter, closeAllAfter, refreshAfter, modeSetAfter}
-use Rattle.part.specs.Steps.{answerOf, leftBy, codeOf, bankOf, addressOf, tenOf, stepBreaks, stepAfter, paceAfter}
-use Rattle.part.specs.declared.Answer.{Answer}
+use Rattle.part.specs.Steps.{ruleOf, leftBy, codeOf, bankOf, addressOf, tenOf, stepBreaks, stepAfter, paceAfter}
 
 module _ (s : Settings) (d m : List ℕ) (t w : ℕ) where
   -- which rule a step breaks, the deadlines after it, and h and CL
@@ -72,13 +72,13 @@ module _ (s : Settings) (d m : List ℕ) (t w : ℕ) where
       record { breaks = rw (e₁, e₂, e₃, e₄, e₅, e₆, e₇); leaves = rw (e₁, e₂, e₃, e₄, e₅, e₆, e₇); sets = rw e₇ }
 
   -- so a function that answers and leaves what its command does meets the step's contract
-  abbrev pub Meets : Answer → List ℕ → List ℕ → Type 0
-  Meets r d′ m′ =
-      (r ≡ answerOf (stepBreaks s d t w))
+  abbrev pub Meets : Option ℕ → List ℕ → List ℕ → Type 0
+  Meets told d′ m′ =
+      (told ≡ ruleOf (stepBreaks s d t w))
       × ((d′ ≡ leftBy (stepBreaks s d t w) (stepAfter s d m t w) d) × (m′ ≡ leftBy (stepBreaks s d t w) (paceAfter m w) m))
 
-  pub met : {rule : ℕ} {after pace : List ℕ} → Does rule after pace → {r : Answer} {d′ m′ : List ℕ} →
-      r ≡ answerOf rule → d′ ≡ leftBy rule after d → m′ ≡ leftBy rule pace m → Meets r d′ m′
+  pub met : {rule : ℕ} {after pace : List ℕ} → Does rule after pace → {told : Option ℕ} {d′ m′ : List ℕ} →
+      told ≡ ruleOf rule → d′ ≡ leftBy rule after d → m′ ≡ leftBy rule pace m → Meets told d′ m′
   met k a b e = rw (k .breaks, k .leaves, k .sets) (a, (b, e))
 
   untouched : (rule : ℕ) (x : List ℕ) → x ≡ leftBy rule x x
@@ -89,9 +89,9 @@ module _ (s : Settings) (d m : List ℕ) (t w : ℕ) where
       go false = refl
 
   -- where h and CL, and where the deadlines too, are left alone
-  pub met-paced : {rule : ℕ} {after : List ℕ} → Does rule after m → {r : Answer} {d′ : List ℕ} →
-      r ≡ answerOf rule → d′ ≡ leftBy rule after d → Meets r d′ m
+  pub met-paced : {rule : ℕ} {after : List ℕ} → Does rule after m → {told : Option ℕ} {d′ : List ℕ} →
+      told ≡ ruleOf rule → d′ ≡ leftBy rule after d → Meets told d′ m
   met-paced {rule} k a b = met k a b (untouched rule m)
 
-  pub met-quiet : {rule : ℕ} → Does rule d m → {r : Answer} → r ≡ answerOf rule → Meets r d m
+  pub met-quiet : {rule : ℕ} → Does rule d m → {told : Option ℕ} → told ≡ ruleOf rule → Meets told d m
   met-quiet {rule} k a = met-paced k a (untouched rule d)

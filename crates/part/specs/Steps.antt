@@ -2,14 +2,21 @@
 use Prim.Native.Nat.{ℕ, _/_, _%_}
 use mathlib.Core.Bool.{Bool, true, cond, _&&_}
 use mathlib.Core.List.{List}
+use mathlib.Core.Option.{Option, none, some}
 use lib.Dec.{eqb}
 use Rattle.reading.specs.Settings.{Settings}
 use Rattle.deadlines.specs.Deadlines.{paceOf, dueBreaks, activeBreaks, readBreaks, writeBreaks, terminateBreaks, closeBreaks, closeAllBreaks, refreshBreaks, modeBreaks, activeAfter, readAfter, writeAfter, cutRead, closeAfter, closeAllAfter, refreshAfter, modeSetAfter}
 use Rattle.part.specs.declared.Answer.{Answer}
 use Rattle.part.specs.declared.Answer.the-variants.{Kept, Broke}
 
-abbrev pub answerOf : ℕ → Answer
-answerOf rule = cond (eqb rule 0) Kept Broke
+-- what an answer says in document 01's words: no rule is broken, or this is the lowest that is
+abbrev pub means : Answer → Option ℕ
+means Kept = none
+means (Broke rule) = some rule
+
+-- the rule that a number stands for, 0 for none
+abbrev pub ruleOf : ℕ → Option ℕ
+ruleOf rule = cond (eqb rule 0) none (some rule)
 
 -- what is left of some numbers by an event that breaks a rule, 0 for none
 abbrev pub leftBy : ℕ → List ℕ → List ℕ → List ℕ

@@ -5,23 +5,24 @@ ghost use Prim.Native.Nat.{_<_};
 ghost use lib.Dec.{eqb};
 ghost use Rattle.reading.specs.Settings.{settingsOf};
 ghost use Rattle.deadlines.specs.Deadlines as is;
-ghost use Rattle.part.specs.Steps.{answerOf, leftBy, bankOf, tenOf, stepBreaks, stepAfter, paceAfter};
+ghost use Rattle.part.specs.Steps.{means, ruleOf, leftBy, bankOf, tenOf, stepBreaks, stepAfter, paceAfter};
 
-// What an event answers: all rules are kept, or one is broken; `lowest` says which.
+// What an event answers: all rules are kept, or some are broken, of which this is the lowest.
 pub enum Answer {
     Kept,
-    Broke,
+    Broke(u32),
 }
 
 // Each command: where it breaks a rule, the deadlines stay as they were.
 
 fn active(s: &[u32; 14], d: &mut [u64; 40], t: u32, b: usize, row: u32) -> Answer
     requires { ⌜ b < 4 ⌝ }
-    ensures { λ r. ⌜ r ≡ answerOf (is.activeBreaks (settingsOf (now (s .entry))) (now (d .entry)) t b row) ⌝ }
+    ensures { λ r. ⌜ means r ≡ ruleOf (is.activeBreaks (settingsOf (now (s .entry))) (now (d .entry)) t b row) ⌝ }
     ensures { λ r. ⌜ now (d .exit) ≡ leftBy (is.activeBreaks (settingsOf (now (s .entry))) (now (d .entry)) t b row) (is.activeAfter (settingsOf (now (s .entry))) (now (d .entry)) t b) (now (d .entry)) ⌝ }
 {
-    if rules::active_breaks(s, &*d, t, b, row) != 0 {
-        return Answer::Broke;
+    let rule = rules::active_breaks(s, &*d, t, b, row);
+    if rule != 0 {
+        return Answer::Broke(rule);
     }
     effects::active_after(s, d, t, b);
     Answer::Kept
@@ -29,11 +30,12 @@ fn active(s: &[u32; 14], d: &mut [u64; 40], t: u32, b: usize, row: u32) -> Answe
 
 fn read(s: &[u32; 14], d: &mut [u64; 40], pace: &[u32; 2], t: u32, b: usize, auto: bool) -> Answer
     requires { ⌜ b < 4 ⌝ }
-    ensures { λ r. ⌜ r ≡ answerOf (is.readBreaks (now (d .entry)) t b) ⌝ }
+    ensures { λ r. ⌜ means r ≡ ruleOf (is.readBreaks (now (d .entry)) t b) ⌝ }
     ensures { λ r. ⌜ now (d .exit) ≡ leftBy (is.readBreaks (now (d .entry)) t b) (is.readAfter (settingsOf (now (s .entry))) (now (d .entry)) (now (pace .entry)) t b auto) (now (d .entry)) ⌝ }
 {
-    if rules::read_breaks(&*d, t, b) != 0 {
-        return Answer::Broke;
+    let rule = rules::read_breaks(&*d, t, b);
+    if rule != 0 {
+        return Answer::Broke(rule);
     }
     effects::read_after(s, d, pace, t, b, auto);
     Answer::Kept
@@ -41,22 +43,24 @@ fn read(s: &[u32; 14], d: &mut [u64; 40], pace: &[u32; 2], t: u32, b: usize, aut
 
 fn write(s: &[u32; 14], d: &mut [u64; 40], pace: &[u32; 2], t: u32, b: usize, auto: bool) -> Answer
     requires { ⌜ b < 4 ⌝ }
-    ensures { λ r. ⌜ r ≡ answerOf (is.writeBreaks (now (d .entry)) t b) ⌝ }
+    ensures { λ r. ⌜ means r ≡ ruleOf (is.writeBreaks (now (d .entry)) t b) ⌝ }
     ensures { λ r. ⌜ now (d .exit) ≡ leftBy (is.writeBreaks (now (d .entry)) t b) (is.writeAfter (settingsOf (now (s .entry))) (now (d .entry)) (now (pace .entry)) t b auto) (now (d .entry)) ⌝ }
 {
-    if rules::write_breaks(&*d, t, b) != 0 {
-        return Answer::Broke;
+    let rule = rules::write_breaks(&*d, t, b);
+    if rule != 0 {
+        return Answer::Broke(rule);
     }
     effects::write_after(s, d, pace, t, b, auto);
     Answer::Kept
 }
 
 fn close_all(s: &[u32; 14], d: &mut [u64; 40], pace: &[u32; 2], t: u32) -> Answer
-    ensures { λ r. ⌜ r ≡ answerOf (is.closeAllBreaks (now (d .entry)) t) ⌝ }
+    ensures { λ r. ⌜ means r ≡ ruleOf (is.closeAllBreaks (now (d .entry)) t) ⌝ }
     ensures { λ r. ⌜ now (d .exit) ≡ leftBy (is.closeAllBreaks (now (d .entry)) t) (is.closeAllAfter (settingsOf (now (s .entry))) (now (d .entry)) (now (pace .entry)) t) (now (d .entry)) ⌝ }
 {
-    if rules::close_all_breaks(&*d, t) != 0 {
-        return Answer::Broke;
+    let rule = rules::close_all_breaks(&*d, t);
+    if rule != 0 {
+        return Answer::Broke(rule);
     }
     effects::close_all_after(s, d, pace, t);
     Answer::Kept
@@ -64,33 +68,36 @@ fn close_all(s: &[u32; 14], d: &mut [u64; 40], pace: &[u32; 2], t: u32) -> Answe
 
 fn close(s: &[u32; 14], d: &mut [u64; 40], pace: &[u32; 2], t: u32, b: usize) -> Answer
     requires { ⌜ b < 4 ⌝ }
-    ensures { λ r. ⌜ r ≡ answerOf (is.closeBreaks (now (d .entry)) t b) ⌝ }
+    ensures { λ r. ⌜ means r ≡ ruleOf (is.closeBreaks (now (d .entry)) t b) ⌝ }
     ensures { λ r. ⌜ now (d .exit) ≡ leftBy (is.closeBreaks (now (d .entry)) t b) (is.closeAfter (settingsOf (now (s .entry))) (now (d .entry)) (now (pace .entry)) t b) (now (d .entry)) ⌝ }
 {
-    if rules::close_breaks(&*d, t, b) != 0 {
-        return Answer::Broke;
+    let rule = rules::close_breaks(&*d, t, b);
+    if rule != 0 {
+        return Answer::Broke(rule);
     }
     effects::close_after(s, d, pace, t, b);
     Answer::Kept
 }
 
 fn terminate(s: &[u32; 14], d: &mut [u64; 40], pace: &[u32; 2], t: u32) -> Answer
-    ensures { λ r. ⌜ r ≡ answerOf (is.terminateBreaks (settingsOf (now (s .entry))) (now (d .entry)) t) ⌝ }
+    ensures { λ r. ⌜ means r ≡ ruleOf (is.terminateBreaks (settingsOf (now (s .entry))) (now (d .entry)) t) ⌝ }
     ensures { λ r. ⌜ now (d .exit) ≡ leftBy (is.terminateBreaks (settingsOf (now (s .entry))) (now (d .entry)) t) (is.cutRead (now (d .entry)) (now (pace .entry)) t true) (now (d .entry)) ⌝ }
 {
-    if rules::terminate_breaks(s, &*d, t) != 0 {
-        return Answer::Broke;
+    let rule = rules::terminate_breaks(s, &*d, t);
+    if rule != 0 {
+        return Answer::Broke(rule);
     }
     effects::cut_read(d, pace, t, true);
     Answer::Kept
 }
 
 fn refresh(s: &[u32; 14], d: &mut [u64; 40], t: u32) -> Answer
-    ensures { λ r. ⌜ r ≡ answerOf (is.refreshBreaks (now (d .entry)) t) ⌝ }
+    ensures { λ r. ⌜ means r ≡ ruleOf (is.refreshBreaks (now (d .entry)) t) ⌝ }
     ensures { λ r. ⌜ now (d .exit) ≡ leftBy (is.refreshBreaks (now (d .entry)) t) (is.refreshAfter (settingsOf (now (s .entry))) (now (d .entry)) t) (now (d .entry)) ⌝ }
 {
-    if rules::refresh_breaks(&*d, t) != 0 {
-        return Answer::Broke;
+    let rule = rules::refresh_breaks(&*d, t);
+    if rule != 0 {
+        return Answer::Broke(rule);
     }
     effects::refresh_after(s, d, t);
     Answer::Kept
@@ -112,12 +119,13 @@ fn mode_set(
     b: usize,
     word: u32,
 ) -> Answer
-    ensures { λ r. ⌜ r ≡ answerOf (is.modeBreaks (now (d .entry)) t b word) ⌝ }
+    ensures { λ r. ⌜ means r ≡ ruleOf (is.modeBreaks (now (d .entry)) t b word) ⌝ }
     ensures { λ r. ⌜ now (d .exit) ≡ leftBy (is.modeBreaks (now (d .entry)) t b word) (is.modeSetAfter (settingsOf (now (s .entry))) (now (d .entry)) t) (now (d .entry)) ⌝ }
     ensures { λ r. ⌜ now (pace .exit) ≡ leftBy (is.modeBreaks (now (d .entry)) t b word) (cond (eqb b 0) (is.paceOf word) (now (pace .entry))) (now (pace .entry)) ⌝ }
 {
-    if rules::mode_breaks(&*d, t, b, word) != 0 {
-        return Answer::Broke;
+    let rule = rules::mode_breaks(&*d, t, b, word);
+    if rule != 0 {
+        return Answer::Broke(rule);
     }
     effects::mode_set_after(s, d, t);
     set_register(pace, b, word);
@@ -125,10 +133,11 @@ fn mode_set(
 }
 
 fn quiet(d: &[u64; 40], t: u32) -> Answer
-    ensures { λ r. ⌜ r ≡ answerOf (is.dueBreaks (now (d .entry)) t) ⌝ }
+    ensures { λ r. ⌜ means r ≡ ruleOf (is.dueBreaks (now (d .entry)) t) ⌝ }
 {
-    if rules::due_breaks(d, t) != 0 {
-        return Answer::Broke;
+    let rule = rules::due_breaks(d, t);
+    if rule != 0 {
+        return Answer::Broke(rule);
     }
     Answer::Kept
 }
@@ -148,7 +157,7 @@ fn ten(w: u32) -> bool
 // One event: what it answers by the deadlines kept of the events before it, and the deadlines with it. An event that
 // breaks a rule leaves them as they were.
 pub fn step(s: &[u32; 14], d: &mut [u64; 40], pace: &mut [u32; 2], t: u32, w: u32) -> Answer
-    ensures { λ r. ⌜ r ≡ answerOf (stepBreaks (settingsOf (now (s .entry))) (now (d .entry)) t w) ⌝ }
+    ensures { λ r. ⌜ means r ≡ ruleOf (stepBreaks (settingsOf (now (s .entry))) (now (d .entry)) t w) ⌝ }
     ensures { λ r. ⌜ now (d .exit) ≡ leftBy (stepBreaks (settingsOf (now (s .entry))) (now (d .entry)) t w) (stepAfter (settingsOf (now (s .entry))) (now (d .entry)) (now (pace .entry)) t w) (now (d .entry)) ⌝ }
     ensures { λ r. ⌜ now (pace .exit) ≡ leftBy (stepBreaks (settingsOf (now (s .entry))) (now (d .entry)) t w) (paceAfter (now (pace .entry)) w) (now (pace .entry)) ⌝ }
 {
@@ -167,27 +176,5 @@ pub fn step(s: &[u32; 14], d: &mut [u64; 40], pace: &mut [u32; 2], t: u32, w: u3
         8 => refresh(s, d, t),
         0 => mode_set(s, d, pace, t, bank(w), w % 16384),
         _ => quiet(&*d, t),
-    }
-}
-
-// The lowest rule that an event breaks, 0 for none.
-pub fn lowest(s: &[u32; 14], d: &[u64; 40], t: u32, w: u32) -> u32
-    ensures { λ r. ⌜ r ≡ stepBreaks (settingsOf (now (s .entry))) (now (d .entry)) t w ⌝ }
-{
-    let code = w / 65536 % 16;
-    match code {
-        12 => rules::active_breaks(s, d, t, bank(w), w % 16384),
-        10 => rules::read_breaks(d, t, bank(w)),
-        2 => rules::write_breaks(d, t, bank(w)),
-        4 => {
-            if ten(w) {
-                return rules::close_all_breaks(d, t);
-            }
-            rules::close_breaks(d, t, bank(w))
-        }
-        6 => rules::terminate_breaks(s, d, t),
-        8 => rules::refresh_breaks(d, t),
-        0 => rules::mode_breaks(d, t, bank(w), w % 16384),
-        _ => rules::due_breaks(d, t),
     }
 }

@@ -33,10 +33,14 @@ passed {f} {b} p l rule rest = sym (ap (λ (k : Bool). orElse k rule rest) (ever
 pub left : {f : ℕ → Bool} {b : ℕ} → Passed f b → b < 4 → f b ≡ false → (rule rest : ℕ) → rule ≡ orElse (everyBank f) rule rest
 left {f} {b} p l e rule rest = sym (ap (λ (k : Bool). orElse k rule rest) (one-fails f b l e))
 
--- what a search told
-pub told-broken : (every : Bool) (rule : ℕ) {r : ℕ} → r ≡ orElse every rule 0 → (r ≡ 0 → ⊥) → every ≡ false
+-- what a search told: the rule that it hands on
+pub record Told (every : Bool) (rule r : ℕ) : Type 0 where
+  pub fails : every ≡ false
+  pub named : r ≡ rule
+
+pub told-broken : (every : Bool) (rule : ℕ) {r : ℕ} → r ≡ orElse every rule 0 → (r ≡ 0 → ⊥) → Told every rule r
 told-broken true rule e z = absurd (z e)
-told-broken false rule e z = refl
+told-broken false rule e z = record { fails = refl; named = e }
 
 pub told-kept : (every : Bool) (rule : ℕ) {r : ℕ} → r ≡ orElse every (suc rule) 0 → r ≡ 0 → every ≡ true
 told-kept true rule e z = refl

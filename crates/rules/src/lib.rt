@@ -128,8 +128,9 @@ pub fn active_breaks(s: &[u32; 14], d: &[u64; 40], t: u32, b: usize, row: u32) -
     if (t as u64) < d[AGAIN + b] {
         return 6;
     }
-    if others_apart(d, t, b) != 0 {
-        return 7;
+    let apart = others_apart(d, t, b);
+    if apart != 0 {
+        return apart;
     }
     due_breaks(d, t)
 }
@@ -218,11 +219,13 @@ pub fn close_all_breaks(d: &[u64; 40], t: u32) -> u32
     if (t as u64) < d[BUSY] {
         return 4;
     }
-    if all_held(d, t) != 0 {
-        return 9;
+    let held = all_held(d, t);
+    if held != 0 {
+        return held;
     }
-    if all_written(d, t) != 0 {
-        return 10;
+    let written = all_written(d, t);
+    if written != 0 {
+        return written;
     }
     due_breaks(d, t)
 }
@@ -230,14 +233,16 @@ pub fn close_all_breaks(d: &[u64; 40], t: u32) -> u32
 pub fn refresh_breaks(d: &[u64; 40], t: u32) -> u32
     ensures { λ r. ⌜ r ≡ is.refreshBreaks (now (d .entry)) t ⌝ }
 {
-    if all_idle(d) != 0 {
-        return 3;
+    let idle = all_idle(d);
+    if idle != 0 {
+        return idle;
     }
     if (t as u64) < d[BUSY] {
         return 4;
     }
-    if all_rested(d, t) != 0 {
-        return 5;
+    let rested = all_rested(d, t);
+    if rested != 0 {
+        return rested;
     }
     if (t as u64) < d[DATA] {
         return 12;

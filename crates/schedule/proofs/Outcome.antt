@@ -1,12 +1,10 @@
 -- What a call answers, and what it leaves in the buffer, at each place where it ends.
 use Prim.Native.Nat.{ℕ, _*_, _≤_}
 use mathlib.Core.Bool.{Bool, true, false, cond, not}
-use mathlib.Core.List.{List, [], _∷_, _++_}
+use mathlib.Core.List.{List, _++_}
 use mathlib.Core.Option.{Option, none, some}
 use mathlib.Core.Path.{_≡_, refl, sym, ap, _∙_}
 use native.Mathlib.Omega.{arith}
-use mathlib.Core.Logic.{inl, inr}
-use types.Run.{OneOf}
 use lib.Dec.{ltb, eqb}
 use lib.ListN.{length, take, drop}
 use lib.Seq.{sets, length-sets, take-append-le, take-length}
@@ -23,7 +21,7 @@ use Rattle.words.specs.declared.Found.the-variants.{Nothing, At}
 use Rattle.settings.specs.Meaning as settings
 use Rattle.settings.specs.Meaning.{checked}
 use Rattle.settings.specs.declared.Checked.{Checked}
-use Rattle.settings.specs.declared.Checked.the-variants.{Fine, Count, Setting}
+use Rattle.settings.specs.declared.Checked.the-variants as check
 use Rattle.memory.specs.Serving.{Sized}
 use Rattle.plan.proofs.Captured.{words-length, settings-fit}
 use Rattle.plan.proofs.Ranged.{ranged}
@@ -33,13 +31,8 @@ use Rattle.schedule.specs.declared.Scheduled.{Scheduled}
 use Rattle.schedule.specs.declared.Scheduled.the-variants.{Refused, Written}
 use Rattle.schedule.specs.declared.Planned.{Planned}
 use Rattle.schedule.specs.declared.Planned.the-variants.{Late, Events}
-use Rattle.schedule.specs.Meaning.{means, refusing, plannedAs, Noted, Plannable, Writable, size, head, written, writing}
+use Rattle.schedule.specs.Meaning.{means, plannedAs, Noted, Plannable, Writable, size, head, written, writing}
 use Rattle.schedule.proofs.Filling.{front}
-
--- the first variant is neither of the others
-pub not-first : OneOf (1 ∷ 2 ∷ []) 0 → ⊥
-not-first (inl e) = omega arith
-not-first (inr e) = omega arith
 
 -- what a call ends with is document 01's outcome
 abbrev pub Ends : Outcome → Scheduled → List ℕ → Type 0
@@ -76,10 +69,9 @@ module _ (ws qs out : List ℕ) where
   unfolding scheduleOutcome checked
   unfit k p e = ap (λ (a : Answer (List ℕ)). leaves a out) (refused-so (given 0 (not (eqb (length ws) 14))) (badSetting ws) _ k p e)
 
-  pub refuses : (r : Checked) → settings.means r ≡ checked ws → (r ≡ Fine → ⊥) → Ends (scheduleOutcome ws qs out) (refusing r) out
-  refuses Fine e n = absurd (n refl)
-  refuses Count e n = rw (unfit 2 0 e) (refl, refl)
-  refuses (Setting i) e n = rw (unfit 3 i e) (refl, refl)
+  pub refuses : (r : Checked) → settings.means r ≡ checked ws → {number place : ℕ} → r ≡ check.Refused number place →
+      Ends (scheduleOutcome ws qs out) (Refused number place) out
+  refuses r e {number} {place} f = rw (unfit number place (sym (ap settings.means f) ∙ e)) (refl, refl)
 
 -- ---- settings that fit
 
@@ -87,7 +79,7 @@ pub record Right (ws : List ℕ) : Type 0 where
   pub count : length ws ≡ 14
   pub each : badSetting ws ≡ none
 
-pub right : (ws : List ℕ) (r : Checked) → settings.means r ≡ checked ws → r ≡ Fine → Right ws
+pub right : (ws : List ℕ) (r : Checked) → settings.means r ≡ checked ws → r ≡ check.Fine → Right ws
 unfolding checked
 right ws r e f =
     let (x, y) = fine-so (given 0 (not (eqb (length ws) 14))) (badSetting ws) (sym (ap settings.means f) ∙ e) in

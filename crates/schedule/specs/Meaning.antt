@@ -14,8 +14,6 @@ use Rattle.reading.specs.Capture.{Event}
 use Rattle.reading.specs.Schedule.{Schedule, planned, late, badRequest, eventWords}
 use Rattle.reading.specs.Answers.{Answer, refused, answered}
 use Rattle.requests.specs.Asked.{Asked}
-use Rattle.settings.specs.declared.Checked.{Checked}
-use Rattle.settings.specs.declared.Checked.the-variants.{Fine, Count, Setting}
 use Rattle.schedule.specs.declared.Scheduled.{Scheduled}
 use Rattle.schedule.specs.declared.Scheduled.the-variants.{Refused, Written}
 use Rattle.schedule.specs.declared.Planned.{Planned}
@@ -25,12 +23,6 @@ use Rattle.schedule.specs.declared.Planned.the-variants.{Late, Events}
 abbrev pub means : Scheduled → Answer ℕ
 means (Refused number place) = refused number place
 means (Written bytes) = answered bytes
-
--- settings that are not fine
-abbrev pub refusing : Checked → Scheduled
-refusing Fine = Written 0
-refusing Count = Refused 2 0
-refusing (Setting i) = Refused 3 i
 
 -- ---- the walk over the requests
 

@@ -3,7 +3,7 @@ use deadlines::places::MODE;
 use deadlines::sums;
 use requests::REFRESH_PINS;
 use settings::Checked;
-use turns::Turn;
+use turns::Placed;
 use words::Found;
 ghost use mathlib.Core.Path.{_≡_};
 ghost use mathlib.Core.List.{[], _∷_};
@@ -14,8 +14,8 @@ ghost use Rattle.reading.specs.Words.{bytesOf};
 ghost use Rattle.reading.specs.Settings.{settingsOf};
 ghost use Rattle.reading.specs.Schedule.{scheduleOf, eventWords};
 ghost use Rattle.reading.specs.Answers.{scheduleOutcome};
-ghost use Rattle.turns.specs.Events.{requestEvents, turnEvents};
-ghost use Rattle.schedule.specs.Meaning.{means, refusing, plannedAs, Noted, Plannable, Notable, Writable, written, writing};
+ghost use Rattle.turns.specs.Events.{requestEvents, behindEvents};
+ghost use Rattle.schedule.specs.Meaning.{means, plannedAs, Noted, Plannable, Notable, Writable, written, writing};
 
 // What is said of settings, requests and a buffer.
 pub enum Scheduled {
@@ -31,23 +31,6 @@ enum Planned {
 
 // Document 01 has at most 2,000 requests, and a schedule three events per request, of two words each.
 const WORDS: usize = 12_000;
-
-// The refusal of settings that are not fine.
-fn refusal(c: Checked) -> Scheduled
-    ensures { λ r. ⌜ r ≡ refusing c ⌝ }
-{
-    match c {
-        Checked::Fine => Scheduled::Written { bytes: 0 },
-        Checked::Count => Scheduled::Refused {
-            number: 2,
-            place: 0,
-        },
-        Checked::Setting(i) => Scheduled::Refused {
-            number: 3,
-            place: i,
-        },
-    }
-}
 
 // The settings as an array.
 fn fourteen(settings: &[u32]) -> [u32; 14]
@@ -78,19 +61,21 @@ fn note_request(s: &[u32; 14], words: &mut [u32], n: usize, active: u32, burst: 
     put_event(words, n + 1, burst, requests::burst_pins(s, q));
 }
 
-// The events of a turn, noted behind n events; how many there are then.
-fn note(s: &[u32; 14], words: &mut [u32], n: usize, turn: Turn, q: u32) -> usize
+// An AUTO REFRESH before them.
+fn note_behind(
+    s: &[u32; 14],
+    words: &mut [u32],
+    n: usize,
+    refresh: u32,
+    active: u32,
+    burst: u32,
+    q: u32,
+)
     requires { ⌜ Notable (settingsOf (now s)) (now words) n 3 q ⌝ }
-    ensures { λ r. ⌜ r ≡ n + length (turnEvents (settingsOf (now (s .entry))) turn q) ⌝ }
-    ensures { λ r. ⌜ now (words .exit) ≡ sets (now (words .entry)) (2 * n) (eventWords (turnEvents (settingsOf (now (s .entry))) turn q)) ⌝ }
+    ensures { λ r. ⌜ now (words .exit) ≡ sets (now (words .entry)) (2 * n) (eventWords (behindEvents (settingsOf (now (s .entry))) refresh active burst q)) ⌝ }
 {
-    if turn.lead {
-        put_event(words, n, turn.refresh, REFRESH_PINS);
-        note_request(s, words, n + 1, turn.active, turn.burst, q);
-        return n + 3;
-    }
-    note_request(s, words, n, turn.active, turn.burst, q);
-    n + 2
+    put_event(words, n, refresh, REFRESH_PINS);
+    note_request(s, words, n + 1, active, burst, q);
 }
 
 // Request after request, until refresh cannot be kept. The words of the events stand from the front on.
@@ -106,11 +91,23 @@ fn plan(s: &[u32; 14], requests: &[u32], words: &mut [u32]) -> Planned
     'requests: for i in 0..requests.len() {
         let q = requests[i];
         let turn = turns::serve(s, &mut k, &pace, free, q);
-        if !turn.kept {
-            return Planned::Late(i as u32);
-        }
-        n = note(s, words, n, turn, q);
-        free = sums::after(turn.burst, 1);
+        let Placed::Alone { active, burst } = turn else {
+            let Placed::Behind {
+                refresh,
+                active,
+                burst,
+            } = turn
+            else {
+                return Planned::Late(i as u32);
+            };
+            note_behind(s, words, n, refresh, active, burst, q);
+            n += 3;
+            free = sums::after(burst, 1);
+            continue 'requests;
+        };
+        note_request(s, words, n, active, burst, q);
+        n += 2;
+        free = sums::after(burst, 1);
     }
     Planned::Events(n as u32)
 }
@@ -151,9 +148,9 @@ pub fn schedule(settings: &[u32], requests: &[u32], out: &mut [u8]) -> Scheduled
     ensures { λ r. ⌜ now (out .exit) ≡ scheduleOutcome (now (settings .entry)) (now (requests .entry)) (now (out .entry)) .buffer ⌝ }
 {
     let checked = settings::check(settings);
-    let Checked::Fine = checked else {
-        return refusal(checked);
-    };
+    if let Checked::Refused { number, place } = checked {
+        return Scheduled::Refused { number, place };
+    }
     let s = fourteen(settings);
     let bad = requests::lowest_bad(&s, requests);
     if let Found::At(i) = bad {
@@ -162,7 +159,7 @@ pub fn schedule(settings: &[u32], requests: &[u32], out: &mut [u8]) -> Scheduled
             place: i,
         };
     }
-    // Any word would do: none is read before it is noted. Zeros would be stored by a call of the C library.
+    // Any word would do: none is read before it is noted.
     let mut list = [0u32; WORDS];
     let planned = plan(&s, requests, &mut list);
     match planned {

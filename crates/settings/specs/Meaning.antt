@@ -8,13 +8,12 @@ use Rattle.reading.specs.Search.{given}
 use Rattle.reading.specs.Settings.{badSetting}
 use Rattle.reading.specs.Answers.{Answer, refused, answered, unless}
 use Rattle.settings.specs.declared.Checked.{Checked}
-use Rattle.settings.specs.declared.Checked.the-variants.{Fine, Count, Setting}
+use Rattle.settings.specs.declared.Checked.the-variants.{Fine, Refused}
 
 -- document 01's number and place
 abbrev pub means : Checked → Answer (Unit {0})
 means Fine = answered tt
-means Count = refused 2 0
-means (Setting i) = refused 3 i
+means (Refused number place) = refused number place
 
 -- refusals 2 and 3 of a list of settings
 unfoldable pub checked : List ℕ → Answer (Unit {0})

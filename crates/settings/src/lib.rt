@@ -28,11 +28,10 @@ const LIMITS: [Limits; 14] = [
     Limits(1, 1_000_000), // GAP
 ];
 
-// What is wrong with a list of settings.
+// What is wrong with a list of settings, or with a capture.
 pub enum Checked {
     Fine,
-    Count,
-    Setting(u32),
+    Refused { number: u32, place: u32 },
 }
 
 // Rule 2's test of a mode word.
@@ -92,10 +91,13 @@ pub fn check(words: &[u32]) -> Checked
     ensures { λ r. ⌜ means r ≡ checked (now (words .entry)) ⌝ }
 {
     if words.len() != 14 {
-        return Checked::Count;
+        return Checked::Refused {
+            number: 2,
+            place: 0,
+        };
     }
-    let Found::At(i) = lowest_bad(words) else {
+    let Found::At(place) = lowest_bad(words) else {
         return Checked::Fine;
     };
-    Checked::Setting(i)
+    Checked::Refused { number: 3, place }
 }

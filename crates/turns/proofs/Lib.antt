@@ -5,3 +5,4 @@ pub mod Timely
 pub mod Same
 pub mod Placing
 pub mod Taken
+pub mod Told

@@ -1,6 +1,6 @@
--- What was tried, as a turn.
+-- What was tried, as a turn, and as the code tells of it.
 use Prim.Native.Nat.{ℕ, _+_}
-use mathlib.Core.Bool.{Bool, true, false}
+use mathlib.Core.Bool.{Bool, true, false, cond}
 use mathlib.Core.List.{List}
 use mathlib.Core.Path.{_≡_, sym, ap, _∙_}
 use lib.ListN.{set}
@@ -8,6 +8,8 @@ use Rattle.reading.specs.Settings.{Settings}
 use Rattle.reading.specs.Schedule.{asksWrite, firstCell, cellBank}
 use Rattle.deadlines.specs.Deadlines.{paceOf}
 use Rattle.turns.specs.declared.Tried.{Tried}
+use Rattle.turns.specs.declared.Placed.the-variants.{Alone, Behind, Late}
+use Rattle.turns.specs.Turns.{Turn, told}
 use Rattle.turns.specs.Turning.{cycleFor}
 use Rattle.turns.specs.Between.{DUE, refreshSoonest, trying, taking, refreshAt, refreshed, alone, behind, serving, servedAfter}
 
@@ -20,11 +22,11 @@ module _ (s : Settings) (k : List ℕ) (free q : ℕ) {m : List ℕ} (mm : m ≡
   kept-as e = sym (ap (λ (x : Tried). x .kept) r-is) ∙ e
 
   pub served-alone : r .kept ≡ true → {k′ : List ℕ} → k′ ≡ taking s m k w b r →
-      (record { kept = true; lead = false; refresh = 0; active = r .active; burst = r .burst } ≡ serving s k free q) × (k′ ≡ servedAfter s k free q)
+      (Alone (r .active) (r .burst) ≡ told (serving s k free q)) × (k′ ≡ servedAfter s k free q)
   unfolding serving servedAfter taking
   served-alone e f =
       rw (kept-as e) (
-        λ u. record { kept = true; lead = false; refresh = 0; active = r-is u .active; burst = r-is u .burst },
+        λ u. Alone (r-is u .active) (r-is u .burst),
         f ∙ (λ i. taking s (mm i) k (ww i) (bb i) (r-is i)),
       )
 
@@ -42,11 +44,26 @@ module _ (s : Settings) (k : List ℕ) (free q : ℕ) {m : List ℕ} (mm : m ≡
     r₂-is : r₂ ≡ behind s k free q
     r₂-is = tried₂ ∙ (λ i. trying s (mm i) (k-is i) ((on ∙ ap (λ (t : ℕ). t + s .tRFC) at-is) i) (ww i) (bb i))
 
-    pub served-led : {k₂ : List ℕ} → k₂ ≡ taking s m (set k DUE due) w b r₂ →
-        (record { kept = r₂ .kept; lead = true; refresh = refresh; active = r₂ .active; burst = r₂ .burst } ≡ serving s k free q) × (k₂ ≡ servedAfter s k free q)
-    unfolding serving servedAfter
-    served-led f =
-        rw (kept-as e) (
-          λ u. record { kept = r₂-is u .kept; lead = true; refresh = at-is u; active = r₂-is u .active; burst = r₂-is u .burst },
-          f ∙ (λ i. taking s (mm i) (k-is i) (ww i) (bb i) (r₂-is i)),
-        )
+    turn : Turn
+    turn = record { kept = r₂ .kept; lead = true; refresh = refresh; active = r₂ .active; burst = r₂ .burst }
+
+    turn-is : turn ≡ serving s k free q
+    unfolding turn serving
+    turn-is =
+        rw (kept-as e)
+        (λ u. record { kept = r₂-is u .kept; lead = true; refresh = at-is u; active = r₂-is u .active; burst = r₂-is u .burst })
+
+    by-kept : {v : Bool} → r₂ .kept ≡ v → cond v (Behind refresh (r₂ .active) (r₂ .burst)) Late ≡ told (serving s k free q)
+    unfolding turn
+    by-kept g = sym (ap (λ (x : Bool). cond x (Behind refresh (r₂ .active) (r₂ .burst)) Late) g) ∙ ap told turn-is
+
+    module _ {k₂ : List ℕ} (f : k₂ ≡ taking s m (set k DUE due) w b r₂) where
+      left-is : k₂ ≡ servedAfter s k free q
+      unfolding servedAfter
+      left-is = rw (kept-as e) (f ∙ (λ i. taking s (mm i) (k-is i) (ww i) (bb i) (r₂-is i)))
+
+      pub served-behind : r₂ .kept ≡ true → (Behind refresh (r₂ .active) (r₂ .burst) ≡ told (serving s k free q)) × (k₂ ≡ servedAfter s k free q)
+      served-behind g = (by-kept g, left-is)
+
+      pub served-late : r₂ .kept ≡ false → (Late ≡ told (serving s k free q)) × (k₂ ≡ servedAfter s k free q)
+      served-late g = (by-kept g, left-is)

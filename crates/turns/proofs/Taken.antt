@@ -14,7 +14,7 @@ use Rattle.plan.proofs.Sending.{free-sent}
 use Rattle.plan.proofs.Reached.{Reached}
 use Rattle.plan.proofs.Placed.{Idle, refresh-sent, refresh-idle}
 use Rattle.plan.proofs.Ready.{Ready}
-use Rattle.turns.specs.declared.Turn.{Turn}
+use Rattle.turns.specs.Turns.{Turn}
 use Rattle.turns.specs.Turning.{activeAt, burstAt, triedAfter, triedKept, refreshAt, refreshed, alone, led, turning, turnedAfter}
 use Rattle.turns.specs.Events.{turnEvents}
 use Rattle.turns.proofs.Timely.{far}

@@ -12,7 +12,7 @@ use Rattle.deadlines.specs.Deadlines as all
 use Rattle.deadlines.specs.Deadlines.{PAIRS, LATENCY, at, paceOf}
 use Rattle.plan.specs.Soonest.{otherBank}
 use Rattle.turns.specs.declared.Tried.{Tried}
-use Rattle.turns.specs.declared.Turn.{Turn}
+use Rattle.turns.specs.Turns.{Turn}
 use Rattle.turns.specs.Turning.{cycleFor}
 
 -- of each bank: rules 5, 6 and 7

@@ -1,3 +1,4 @@
 pub mod Turning
 pub mod Between
 pub mod Events
+pub mod Turns

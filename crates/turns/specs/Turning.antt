@@ -9,7 +9,7 @@ use Rattle.reading.specs.Settings.{Settings}
 use Rattle.reading.specs.Schedule.{asksWrite, firstCell, cellBank}
 use Rattle.deadlines.specs.Deadlines.{DUE, at, paceOf, activeAfter, readAfter, writeAfter, refreshAfter}
 use Rattle.plan.specs.Soonest.{activeSoonest, burstSoonest, refreshSoonest}
-use Rattle.turns.specs.declared.Turn.{Turn}
+use Rattle.turns.specs.Turns.{Turn}
 
 -- a cycle is a word
 unfoldable pub cycleFor : ℕ → ℕ → ℕ

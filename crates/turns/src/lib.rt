@@ -22,6 +22,7 @@ ghost use Rattle.reading.specs.Settings.{settingsOf};
 ghost use Rattle.deadlines.specs.Deadlines.{paceOf};
 ghost use Rattle.requests.specs.Asked.{Asked};
 ghost use Rattle.turns.specs.Turning.{cycleFor};
+ghost use Rattle.turns.specs.Turns.{told};
 ghost use Rattle.turns.specs.Between as is;
 
 // Of each bank: rules 5, 6 and 7.
@@ -49,13 +50,18 @@ struct Tried {
     kept: bool,
 }
 
-// The cycles of a request, with an AUTO REFRESH before it where `lead` says so.
-pub struct Turn {
-    pub kept: bool,
-    pub lead: bool,
-    pub refresh: u32,
-    pub active: u32,
-    pub burst: u32,
+// A request's turn: its own two commands, those behind an AUTO REFRESH, or refresh cannot be kept.
+pub enum Placed {
+    Alone {
+        active: u32,
+        burst: u32,
+    },
+    Behind {
+        refresh: u32,
+        active: u32,
+        burst: u32,
+    },
+    Late,
 }
 
 // The cycle of a command: the first that is free and not before its deadlines.
@@ -177,10 +183,10 @@ pub fn start(s: &[u32; 14]) -> [u64; 16]
 }
 
 // The request alone, or else with an AUTO REFRESH before it.
-pub fn serve(s: &[u32; 14], k: &mut [u64; 16], pace: &[u32; 2], free: u64, q: u32) -> Turn
+pub fn serve(s: &[u32; 14], k: &mut [u64; 16], pace: &[u32; 2], free: u64, q: u32) -> Placed
     requires { ⌜ Asked (settingsOf (now s)) q ⌝ }
     requires { ⌜ now pace ≡ paceOf (settingsOf (now s) .mode) ⌝ }
-    ensures { λ r. ⌜ r ≡ is.serving (settingsOf (now (s .entry))) (now (k .entry)) free q ⌝ }
+    ensures { λ r. ⌜ r ≡ told (is.serving (settingsOf (now (s .entry))) (now (k .entry)) free q) ⌝ }
     ensures { λ r. ⌜ now (k .exit) ≡ is.servedAfter (settingsOf (now (s .entry))) (now (k .entry)) free q ⌝ }
 {
     let b = requests::bank(s, q) as usize;
@@ -188,10 +194,7 @@ pub fn serve(s: &[u32; 14], k: &mut [u64; 16], pace: &[u32; 2], free: u64, q: u3
     let alone = request(s, &*k, pace, free, write, b);
     if alone.kept {
         take(s, k, pace, write, b, alone);
-        return Turn {
-            kept: true,
-            lead: false,
-            refresh: 0,
+        return Placed::Alone {
             active: alone.active,
             burst: alone.burst,
         };
@@ -200,9 +203,10 @@ pub fn serve(s: &[u32; 14], k: &mut [u64; 16], pace: &[u32; 2], free: u64, q: u3
     k[DUE] = after(refresh, s[GAP]);
     let behind = request(s, &*k, pace, after(refresh, s[T_RFC]), write, b);
     take(s, k, pace, write, b, behind);
-    Turn {
-        kept: behind.kept,
-        lead: true,
+    if !behind.kept {
+        return Placed::Late;
+    }
+    Placed::Behind {
         refresh,
         active: behind.active,
         burst: behind.burst,

@@ -85,8 +85,8 @@ lowest-bad-event-requires c κs =
     let tests = c .before .before .before .before .before .before .before in
     events-within (capture-of tests) (sized (capture-of tests) (right-length (tests .before .before)) (right-header tests)) (c .before .event-count .ensures)
 
-enum-known-i : tie.Need-enum-known-i
-enum-known-i c = search needs
+enum-known-place : tie.Need-enum-known-place
+enum-known-place c = search needs
 
 enum-told-2 : tie.Need-enum-told-2
 enum-told-2 c = search needs
@@ -107,7 +107,7 @@ returns-4 : tie.Need-returns-4
 returns-4 c = sym (ap of-event (c .enum-told2 .given .1)) ∙ walked (c .before .before)
 
 returns-5 : tie.Need-returns-5
-returns-5 c = sym (ap of-event (c .before .i .given .1)) ∙ walked (c .before .before .before)
+returns-5 c = sym (ap of-event (c .before .place .given .1)) ∙ walked (c .before .before .before)
 
 pub open-spec : {M : Type 1} → statement M
 open-spec =
@@ -129,7 +129,7 @@ open-spec =
     part-lowest-bad-event-start
     part-lowest-bad-event-end
     lowest-bad-event-requires
-    enum-known-i
+    enum-known-place
     enum-told-2
     returns-4
     returns-5)

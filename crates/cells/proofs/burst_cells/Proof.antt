@@ -1,60 +1,78 @@
+use Prim.Native.Nat.{ℕ, _≤_}
+use mathlib.Core.List.{List}
 use native.Mathlib.Omega.{arith}
-use mathlib.Core.List.{[], _∷_}
-use mathlib.Core.Path.{subst}
-use types.Run.{OneOf}
-use denote.Enum.Declared.{tagOf}
-use Rattle.capture.specs.declared.Opened.{Opened}
-use Rattle.capture.proofs.Opened.{the-type}
-use Rattle.judge.proofs.Judging.{tail, not-first, long}
-use Rattle.cells.proofs.Listing.{refused-so, listable, listed-so}
+use lib.ListN.{length}
 use borrow.Author.Needs.{needs}
+use Rattle.judge.proofs.Judging.{tail, long}
+use Rattle.cells.proofs.Listing.{refused-so, listable, listed-so}
 use Rattle.cells.proofs.burst_cells.Statement.{statement}
 use Rattle.cells.proofs.burst_cells.Tie as tie
+
+-- the capture, where it was accepted
+abbrev capture-of : tie.After-enum-told → List ℕ
+capture-of c = c .before .before .before .before .before .args .capture .now
+
+holds-settings : (c : tie.After-enum-told) → 80 ≤ length (capture-of c)
+holds-settings c = long (capture-of c) (c .before .before .«open» .result) (c .before .before .«open» .ensures) (c .enum-told .given .1)
 
 open-requires : tie.Need-open-requires
 open-requires c κs = search needs
 
+enum-known-checked : tie.Need-enum-known-checked
+enum-known-checked c = search needs
+
+returns : tie.Need-returns
+returns c =
+    let opened = c .before .before .before in
+    let a = opened .before .before .before .args in
+    refused-so (a .capture .now) (a .out .now) (opened .«open» .result) (opened .«open» .ensures) _ _ (c .before .checked .given .1)
+
 enum-told : tie.Need-enum-told
 enum-told c = search needs
 
-refusal-requires : tie.Need-refusal-requires
-refusal-requires c κs = search needs
-
-returns : tie.Need-returns
-returns c = rw (c .refusal .ensures) (refused-so (c .before .before .before .before .before .args .capture .now) (c .before .before .before .before .before .args .out .now) (c .before .before .«open» .result) (c .before .before .«open» .ensures) (λ e. not-first (subst (λ (x : Opened). OneOf (1 ∷ 2 ∷ 3 ∷ 4 ∷ []) (tagOf the-type x)) e (c .before .match .keys2))))
-
 setting-words-requires : tie.Need-setting-words-requires
-setting-words-requires c κs = long (c .before .before .before .before .before .args .capture .now) (c .before .before .«open» .result) (c .before .before .«open» .ensures) (c .enum-told .given .1)
+setting-words-requires c κs = holds-settings c
 
 event-count-requires : tie.Need-event-count-requires
-event-count-requires c κs = omega (arith, long (c .before .before .before .before .before .before .args .capture .now) (c .before .before .before .«open» .result) (c .before .before .before .«open» .ensures) (c .before .enum-told .given .1))
+event-count-requires c κs = omega (arith, holds-settings (c .before))
 
 sub-list : tie.Need-sub-list
-sub-list c = long (c .before .before .before .before .before .before .before .before .args .capture .now) (c .before .before .before .before .before .«open» .result) (c .before .before .before .before .before .«open» .ensures) (c .before .before .before .enum-told .given .1)
+sub-list c = holds-settings (c .before .before .before)
 
 part-list-start : tie.Need-part-list-start
-part-list-start c = omega (arith, long (c .before .before .before .before .before .before .before .before .args .capture .now) (c .before .before .before .before .before .«open» .result) (c .before .before .before .before .before .«open» .ensures) (c .before .before .before .enum-told .given .1))
+part-list-start c = holds-settings (c .before .before .before)
 
 part-list-end : tie.Need-part-list-end
 part-list-end c = search needs
 
 list-requires : tie.Need-list-requires
-list-requires c κs = listable (c .before .before .before .before .before .before .before .before .before .before .args .capture .now) (c .before .before .before .before .before .before .before .before .before .before .args .out .now) (c .before .before .before .before .before .before .before .«open» .result) (c .before .before .before .before .before .before .before .«open» .ensures) (c .before .before .before .before .before .enum-told .given .1) (c .before .before .before .before .setting-words .ensures) (c .before .before .before .event-count .ensures) (tail (c .before .before .before .before .before .before .before .before .before .before .args .capture .now) 80)
+list-requires c κs =
+    let counted = c .before .before .before in
+    let told = counted .before .before in
+    let opened = told .before .before .«open» in
+    listable (capture-of told) (told .before .before .before .before .before .args .out .now) (opened .result) (opened .ensures)
+    (told .enum-told .given .1) (counted .before .setting-words .ensures) (counted .event-count .ensures) (tail (capture-of told) 80)
 
 same-length : tie.Need-same-length
 same-length c = search needs
 
 returns-2 : tie.Need-returns-2
-returns-2 c = listed-so (c .before .before .before .before .before .before .before .before .before .before .before .before .before .args .capture .now) (c .before .before .before .before .before .before .before .before .before .before .before .before .before .args .out .now) (c .before .before .before .before .before .before .before .before .before .before .«open» .result) (c .before .before .before .before .before .before .before .before .before .before .«open» .ensures) (c .before .before .before .before .before .before .before .before .enum-told .given .1) (c .before .before .before .before .before .before .before .setting-words .ensures) (c .before .before .before .before .before .before .event-count .ensures) (tail (c .before .before .before .before .before .before .before .before .before .before .before .before .before .args .capture .now) 80) (c .before .before .list .ensures)
+returns-2 c =
+    let counted = c .before .before .before .before .before .before in
+    let told = counted .before .before in
+    let opened = told .before .before .«open» in
+    listed-so (capture-of told) (told .before .before .before .before .before .args .out .now) (opened .result) (opened .ensures)
+    (told .enum-told .given .1) (counted .before .setting-words .ensures) (counted .event-count .ensures) (tail (capture-of told) 80)
+    (c .before .before .list .ensures)
 
 pub burst-cells-spec : {M : Type 1} → statement M
 burst-cells-spec =
     tie.close
     (tie.spec
     open-requires
-    enum-told
-    refusal-requires
+    enum-known-checked
     returns
+    enum-told
     setting-words-requires
     event-count-requires
     sub-list

@@ -1,10 +1,10 @@
 -- The invariant: the buffer as it was, with the cells of the events before i stored from its front on (Writing).
 use Prim.Native.Nat.{_-_}
-use mathlib.Core.Path.{refl, sym, _∙_}
+use mathlib.Core.Path.{refl}
 use native.Mathlib.Omega.{arith}
 use borrow.Author.Needs.{needs}
-use borrow.Author.Tests.{not-true, not-false}
-use Rattle.cells.proofs.Counting.{fitting}
+use Rattle.reading.specs.Settings.{settingsOf}
+use Rattle.cells.proofs.Stepping.{told, told-other}
 use Rattle.cells.proofs.Writing.{Written, begins, size, room, in-row, goes-on, passes, counted, ends}
 use Rattle.cells.proofs.write.Statement.{statement}
 use Rattle.cells.proofs.write.Tie as tie
@@ -22,19 +22,31 @@ element-copy-out-mode : tie.Need-element-copy-out-mode Inv-events μ-events
 element-copy-out-mode c = omega arith
 
 events-holds : tie.Need-events-holds Inv-events μ-events
-events-holds c = begins (c .before .before .before .before .args .s .now) (c .before .before .before .before .args .part .now) (c .before .before .before .before .args .n) (c .before .before .before .before .args .out .now) (c .before .before .before .before .pre .0) (c .before .first-cells .ensures)
+events-holds c =
+    let start = c .before .before .before .before in
+    begins (start .args .s .now) (start .args .part .now) (start .args .n) (start .args .out .now) (start .pre .0) (c .before .first-cells .ensures)
+
+step-requires : tie.Need-step-requires Inv-events μ-events
+step-requires c κs = (c .before .before .before .before .before .before .before .pre .0, c .before .events-test .taken)
+
+enum-known-event : tie.Need-enum-known-event Inv-events μ-events
+enum-known-event c = search needs
+
+enum-told : tie.Need-enum-told Inv-events μ-events
+enum-told c = search needs
 
 cast-pins-at : tie.Need-cast-pins-at Inv-events μ-events
 cast-pins-at c = omega arith
 
 pins-at-requires : tie.Need-pins-at-requires Inv-events μ-events
-pins-at-requires c κs = omega (arith, c .before .before .before .before .before .before .pre .0 .fit .long)
-
-gives-burst-requires : tie.Need-gives-burst-requires Inv-events μ-events
-gives-burst-requires c κs = search needs
+pins-at-requires c κs =
+    let test = c .before .before .before .before in
+    omega (arith, test .before .before .before .before .before .before .pre .0 .fit .long, test .events-test .taken)
 
 open-row-requires : tie.Need-open-row-requires Inv-events μ-events
-open-row-requires c κs = c .before .before .before .before .before .before .before .before .before .before .pre .0 .sized
+open-row-requires c κs =
+    let stepped = c .before .before .before .before in
+    stepped .before .before .before .before .before .before .before .before .pre .0 .sized
 
 mode-after-requires : tie.Need-mode-after-requires Inv-events μ-events
 mode-after-requires c κs = search needs
@@ -46,28 +58,31 @@ events-less : tie.Need-events-less Inv-events μ-events
 events-less c = omega arith
 
 events-again : tie.Need-events-again Inv-events μ-events
-events-again c = passes (c .before .before .before .before .before .before .before .before .before .before .before .before .args .s .now) (c .before .before .before .before .before .before .before .before .before .before .before .before .args .part .now) (c .before .before .before .before .before .before .before .before .before .before .before .before .args .n) (c .before .before .before .before .before .before .before .before .before .before .before .before .args .out .now) (c .before .before .before .before .before .before .before .events .inv) (c .before .before .before .before .before .before .events-test .taken) (c .before .before .before .before .before .pins-at .ensures) (sym (c .before .before .before .before .gives-burst .ensures) ∙ not-true _ (c .before .before .before .if1 .taken)) (c .before .open-row .ensures) (c .mode-after .ensures)
-
-kept-requires : tie.Need-kept-requires Inv-events μ-events
-kept-requires c κs = (fitting (c .before .before .before .before .before .before .before .before .before .args .s .now) (c .before .before .before .before .before .before .before .before .before .args .part .now) (c .before .before .before .before .before .before .before .before .before .args .n) (c .before .before .before .before .before .before .before .before .before .pre .0), c .before .before .before .events-test .taken)
-
-bank-requires : tie.Need-bank-requires Inv-events μ-events
-bank-requires c κs = search needs
-
-cast-first : tie.Need-cast-first Inv-events μ-events
-cast-first c = omega arith
-
-mul-first : tie.Need-mul-first Inv-events μ-events
-mul-first c = omega arith
-
-array-read-first : tie.Need-array-read-first Inv-events μ-events
-array-read-first c = omega arith
-
-column-requires : tie.Need-column-requires Inv-events μ-events
-column-requires c κs = c .before .before .before .before .before .before .before .before .before .before .before .pre .0 .sized
+events-again c =
+    let other = c .before .before .before .before in
+    let stepped = other .before .before in
+    let loop = stepped .before .before .before in
+    let start = loop .before .before .before .before .before in
+    let x = loop .events in
+    let none = told-other (settingsOf (start .args .s .now)) (start .args .part .now) (start .args .n) (x .i) (x .firsts) (x .mode)
+    (stepped .step .ensures) (other .enum-told .given .1) in
+    let pins = c .before .before .before .pins-at .ensures in
+    passes (start .args .s .now) (start .args .part .now) (start .args .n) (start .args .out .now) (x .inv) (stepped .before .before .events-test .taken)
+    pins (rw pins none) (c .before .open-row .ensures) (c .mode-after .ensures)
 
 write-burst-requires : tie.Need-write-burst-requires Inv-events μ-events
-write-burst-requires c κs = (in-row (c .before .before .before .before .before .before .before .before .before .before .before .before .before .args .s .now) (c .before .before .before .before .before .before .before .before .before .before .before .before .before .args .part .now) (c .before .before .before .before .before .before .before .before .before .before .before .before .before .args .n) (c .before .before .before .before .before .before .before .before .before .before .before .before .before .args .out .now) (c .before .before .before .before .before .before .before .before .events .inv) (c .before .before .before .before .before .before .before .events-test .taken) (c .before .before .before .before .before .before .pins-at .ensures) (c .before .before .before .kept .ensures) (c .before .before .bank .ensures .0) refl (c .before .column .ensures) (c .before .before .before .before .before .before .before .before .before .before .before .before .before .pre .0), room (c .before .before .before .before .before .before .before .before .before .before .before .before .before .args .s .now) (c .before .before .before .before .before .before .before .before .before .before .before .before .before .args .part .now) (c .before .before .before .before .before .before .before .before .before .before .before .before .before .args .n) (c .before .before .before .before .before .before .before .before .before .before .before .before .before .args .out .now) (c .before .before .before .before .before .before .before .before .events .inv) (c .before .before .before .before .before .before .before .events-test .taken) (c .before .before .before .before .before .before .pins-at .ensures) (c .before .before .before .kept .ensures) (c .before .before .before .before .before .before .before .before .before .before .before .before .before .pre .1))
+write-burst-requires c κs =
+    let burst = c .before .before in
+    let stepped = burst .before .before in
+    let loop = stepped .before .before .before in
+    let start = loop .before .before .before .before .before in
+    let a = start .args in
+    let x = loop .events in
+    let is = told (settingsOf (a .s .now)) (a .part .now) (a .n) (x .i) (x .firsts) (x .mode) (stepped .step .ensures) (burst .event .given .1) in
+    let taken = stepped .before .before .events-test .taken in (
+      in-row (a .s .now) (a .part .now) (a .n) (a .out .now) (x .inv) taken refl (is .kept) refl (is .row) (is .place) (start .pre .0),
+      room (a .s .now) (a .part .now) (a .n) (a .out .now) (x .inv) taken refl (is .kept) (start .pre .1),
+    )
 
 cast-next : tie.Need-cast-next Inv-events μ-events
 cast-next c = omega arith
@@ -76,7 +91,20 @@ mul-next : tie.Need-mul-next Inv-events μ-events
 mul-next c = omega arith
 
 add-next : tie.Need-add-next Inv-events μ-events
-add-next c = omega (arith, room (c .before .before .before .before .before .before .before .before .before .before .before .before .before .before .before .before .args .s .now) (c .before .before .before .before .before .before .before .before .before .before .before .before .before .before .before .before .args .part .now) (c .before .before .before .before .before .before .before .before .before .before .before .before .before .before .before .before .args .n) (c .before .before .before .before .before .before .before .before .before .before .before .before .before .before .before .before .args .out .now) (c .before .before .before .before .before .before .before .before .before .before .before .events .inv) (c .before .before .before .before .before .before .before .before .before .before .events-test .taken) (c .before .before .before .before .before .before .before .before .before .pins-at .ensures) (c .before .before .before .before .before .before .kept .ensures) (c .before .before .before .before .before .before .before .before .before .before .before .before .before .before .before .before .pre .1), size (c .before .before .before .before .before .before .before .before .before .before .before .before .before .before .before .before .args .s .now) (c .before .before .before .before .before .before .before .before .before .before .before .before .before .before .before .before .args .part .now) (c .before .before .before .before .before .before .before .before .before .before .before .before .before .before .before .before .args .n) (c .before .before .before .before .before .before .before .before .before .before .before .before .before .before .before .before .args .out .now) (c .before .before .before .before .before .before .before .before .before .before .before .events .inv))
+add-next c =
+    let burst = c .before .before .before .before .before in
+    let stepped = burst .before .before in
+    let loop = stepped .before .before .before in
+    let start = loop .before .before .before .before .before in
+    let a = start .args in
+    let x = loop .events in
+    let is = told (settingsOf (a .s .now)) (a .part .now) (a .n) (x .i) (x .firsts) (x .mode) (stepped .step .ensures) (burst .event .given .1) in
+    let taken = stepped .before .before .events-test .taken in
+    omega (
+      arith,
+      room (a .s .now) (a .part .now) (a .n) (a .out .now) (x .inv) taken refl (is .kept) (start .pre .1),
+      size (a .s .now) (a .part .now) (a .n) (a .out .now) (x .inv),
+    )
 
 add-i-2 : tie.Need-add-i-2 Inv-events μ-events
 add-i-2 c = omega arith
@@ -85,16 +113,32 @@ events-less-2 : tie.Need-events-less-2 Inv-events μ-events
 events-less-2 c = omega arith
 
 events-again-2 : tie.Need-events-again-2 Inv-events μ-events
-events-again-2 c = goes-on (c .before .before .before .before .before .before .before .before .before .before .before .before .before .before .before .before .args .s .now) (c .before .before .before .before .before .before .before .before .before .before .before .before .before .before .before .before .args .part .now) (c .before .before .before .before .before .before .before .before .before .before .before .before .before .before .before .before .args .n) (c .before .before .before .before .before .before .before .before .before .before .before .before .before .before .before .before .args .out .now) (c .before .before .before .before .before .before .before .before .before .before .before .events .inv) (c .before .before .before .before .before .before .before .before .before .before .events-test .taken) (c .before .before .before .before .before .before .before .before .before .pins-at .ensures) (c .before .before .before .before .before .before .kept .ensures) (c .before .before .before .before .before .bank .ensures .0) refl (c .before .before .before .before .column .ensures) (sym (c .before .before .before .before .before .before .before .before .gives-burst .ensures) ∙ not-false _ (c .before .before .before .before .before .before .before .if1 .left)) (c .before .before .write-burst .ensures)
+events-again-2 c =
+    let burst = c .before .before .before .before .before in
+    let stepped = burst .before .before in
+    let loop = stepped .before .before .before in
+    let start = loop .before .before .before .before .before in
+    let a = start .args in
+    let x = loop .events in
+    let is = told (settingsOf (a .s .now)) (a .part .now) (a .n) (x .i) (x .firsts) (x .mode) (stepped .step .ensures) (burst .event .given .1) in
+    goes-on (a .s .now) (a .part .now) (a .n) (a .out .now) (x .inv) (stepped .before .before .events-test .taken)
+    refl (is .kept) refl (is .row) (is .place) (is .burst) (c .before .before .write-burst .ensures)
 
 cast-result : tie.Need-cast-result Inv-events μ-events
-cast-result c = omega (arith, c .before .events .inv .small, c .before .events .inv .within, c .before .before .before .before .before .before .pre .0 .fit .few)
+cast-result c =
+    let x = c .before .events .inv in
+    omega (arith, x .small, x .within, c .before .before .before .before .before .before .pre .0 .fit .few)
 
 same-length : tie.Need-same-length Inv-events μ-events
-same-length c = size (c .before .before .before .before .before .before .args .s .now) (c .before .before .before .before .before .before .args .part .now) (c .before .before .before .before .before .before .args .n) (c .before .before .before .before .before .before .args .out .now) (c .before .events .inv)
+same-length c =
+    let a = c .before .before .before .before .before .before .args in
+    size (a .s .now) (a .part .now) (a .n) (a .out .now) (c .before .events .inv)
 
 returns : tie.Need-returns Inv-events μ-events
-returns c = (counted (c .before .before .before .before .before .before .args .s .now) (c .before .before .before .before .before .before .args .part .now) (c .before .before .before .before .before .before .args .n) (c .before .before .before .before .before .before .args .out .now) (c .before .events .inv) (omega arith), ends (c .before .before .before .before .before .before .args .s .now) (c .before .before .before .before .before .before .args .part .now) (c .before .before .before .before .before .before .args .n) (c .before .before .before .before .before .before .args .out .now) (c .before .events .inv) (omega arith))
+returns c =
+    let a = c .before .before .before .before .before .before .args in
+    let x = c .before .events .inv in
+    (counted (a .s .now) (a .part .now) (a .n) (a .out .now) x (omega arith), ends (a .s .now) (a .part .now) (a .n) (a .out .now) x (omega arith))
 
 pub write-spec : {M : Type 1} → statement M
 write-spec =
@@ -105,20 +149,16 @@ write-spec =
     first-cells-requires
     element-copy-out-mode
     events-holds
+    step-requires
+    enum-known-event
+    enum-told
     cast-pins-at
     pins-at-requires
-    gives-burst-requires
     open-row-requires
     mode-after-requires
     add-i
     events-less
     events-again
-    kept-requires
-    bank-requires
-    cast-first
-    mul-first
-    array-read-first
-    column-requires
     write-burst-requires
     cast-next
     mul-next

@@ -1,5 +1,4 @@
 use Prim.Native.Nat.{_-_}
-use mathlib.Core.Path.{sym}
 use native.Mathlib.Omega.{arith}
 use borrow.Author.Needs.{needs}
 use Rattle.judge.proofs.Walking.{Before, begins, kept-on, broke-at, ends}
@@ -27,29 +26,40 @@ pins-at-requires c κs = omega (arith, c .before .before .before .before .pre .0
 step-requires : tie.Need-step-requires Inv-events μ-events
 step-requires c κs = search needs
 
+enum-known-answer : tie.Need-enum-known-answer Inv-events μ-events
+enum-known-answer c = search needs
+
 enum-told : tie.Need-enum-told Inv-events μ-events
 enum-told c = search needs
 
-enum-told-2 : tie.Need-enum-told-2 Inv-events μ-events
-enum-told-2 c = search needs
-
-lowest-requires : tie.Need-lowest-requires Inv-events μ-events
-lowest-requires c κs = search needs
-
-returns : tie.Need-returns Inv-events μ-events
-returns c = sym (broke-at (c .before .before .before .before .before .before .before .before .before .before .before .before .args .s .now) (c .before .before .before .before .before .before .before .before .before .before .before .before .args .part .now) (c .before .before .before .before .before .before .before .before .before .before .before .before .args .n) (c .before .before .before .before .before .before .before .before .before .before .before .before .pre .0) (c .before .before .before .before .before .before .before .before .before .before .events .inv) (c .before .before .before .before .before .before .before .before .before .events-test .taken) (c .before .before .before .before .before .before .before .before .cycle-at .ensures) (c .before .before .before .before .before .before .before .pins-at .ensures) (c .before .before .before .before .step .ensures .0) (c .before .before .before .before .step .ensures .1 .0) (c .before .before .enum-told2 .given .1) (c .lowest .ensures))
-
 add-i : tie.Need-add-i Inv-events μ-events
-add-i c = omega arith
+add-i c = omega (arith, c .before .before .before .before .before .before .before .before .before .before .pre .0 .few)
 
 events-less : tie.Need-events-less Inv-events μ-events
 events-less c = omega arith
 
 events-again : tie.Need-events-again Inv-events μ-events
-events-again c = kept-on (c .before .before .before .before .before .before .before .before .before .before .args .s .now) (c .before .before .before .before .before .before .before .before .before .before .args .part .now) (c .before .before .before .before .before .before .before .before .before .before .args .n) (c .before .before .before .before .before .before .before .before .before .before .pre .0) (c .before .before .before .before .before .before .before .before .events .inv) (c .before .before .before .before .before .before .before .events-test .taken) (c .before .before .before .before .before .before .cycle-at .ensures) (c .before .before .before .before .before .pins-at .ensures) (c .before .before .step .ensures .0) (c .before .before .step .ensures .1 .0) (c .before .before .step .ensures .1 .1) (c .enum-told .given .1)
+events-again c =
+    let stepped = c .before .before in
+    let test = stepped .before .before .before .before .before in
+    let start = test .before .before .before in
+    kept-on (start .args .s .now) (start .args .part .now) (start .args .n) (start .pre .0) (test .before .events .inv) (test .events-test .taken)
+    (stepped .before .before .before .before .cycle-at .ensures) (stepped .before .before .before .pins-at .ensures)
+    (stepped .step .result) (stepped .step .ensures .0) (stepped .step .ensures .1 .0) (stepped .step .ensures .1 .1) (c .enum-told .given .1)
+
+returns : tie.Need-returns Inv-events μ-events
+returns c =
+    let stepped = c .before .before .before in
+    let test = stepped .before .before .before .before .before in
+    let start = test .before .before .before in
+    broke-at (start .args .s .now) (start .args .part .now) (start .args .n) (start .pre .0) (test .before .events .inv) (test .events-test .taken)
+    (stepped .before .before .before .before .cycle-at .ensures) (stepped .before .before .before .pins-at .ensures)
+    (stepped .step .result) (stepped .step .ensures .0) (stepped .step .ensures .1 .0) (stepped .step .ensures .1 .1) (c .before .answer .given .1)
 
 returns-2 : tie.Need-returns-2 Inv-events μ-events
-returns-2 c = sym (ends (c .before .before .before .args .s .now) (c .before .before .before .args .part .now) (c .before .before .before .args .n) _ _ _ (c .before .events .inv) (omega arith))
+returns-2 c =
+    let start = c .before .before .before in
+    ends (start .args .s .now) (start .args .part .now) (start .args .n) (c .before .events .inv) (omega arith)
 
 pub walk-spec : {M : Type 1} → statement M
 walk-spec =
@@ -62,11 +72,10 @@ walk-spec =
     cycle-at-requires
     pins-at-requires
     step-requires
+    enum-known-answer
     enum-told
-    enum-told-2
-    lowest-requires
-    returns
     add-i
     events-less
     events-again
+    returns
     returns-2)

@@ -70,7 +70,9 @@ others-apart-requires c κs = search needs
 
 returns-6 : tie.Need-returns-6
 unfolding activeBreaks
-returns-6 c = rw (← c .before .before .before .before .before .before .before .before .before .before .before .rows .ensures, lt-ltb _ _ (c .before .before .before .before .before .before .before .before .before .before .if1 .left), eq-eqb _ _ (c .before .before .before .before .before .before .before .before .if2 .left), le-leb _ _ (c .before .before .before .before .before .before .if3 .left), le-leb _ _ (c .before .before .before .before .if4 .left), le-leb _ _ (c .before .before .if5 .left), told-broken (everyBank (λ i. leb (at (c .before .before .before .before .before .before .before .before .before .before .before .before .before .args .d .now) (OTHER + i)) (c .before .before .before .before .before .before .before .before .before .before .before .before .before .args .t) || eqb i (c .before .before .before .before .before .before .before .before .before .before .before .before .before .args .b))) 7 (c .before .others-apart .ensures) (c .if6 .taken))
+returns-6 c =
+    let told = told-broken (everyBank (λ i. leb (at (c .before .before .before .before .before .before .before .before .before .before .before .before .before .args .d .now) (OTHER + i)) (c .before .before .before .before .before .before .before .before .before .before .before .before .before .args .t) || eqb i (c .before .before .before .before .before .before .before .before .before .before .before .before .before .args .b))) 7 (c .before .others-apart .ensures) (c .if6 .taken) in
+    rw (← c .before .before .before .before .before .before .before .before .before .before .before .rows .ensures, lt-ltb _ _ (c .before .before .before .before .before .before .before .before .before .before .if1 .left), eq-eqb _ _ (c .before .before .before .before .before .before .before .before .if2 .left), le-leb _ _ (c .before .before .before .before .before .before .if3 .left), le-leb _ _ (c .before .before .before .before .if4 .left), le-leb _ _ (c .before .before .if5 .left), told .fails) (told .named)
 
 due-breaks-requires : tie.Need-due-breaks-requires
 due-breaks-requires c κs = search needs

@@ -21,14 +21,18 @@ all-held-requires c κs = search needs
 
 returns-2 : tie.Need-returns-2
 unfolding closeAllBreaks
-returns-2 c = rw (le-leb _ _ (c .before .before .if1 .left), told-broken (everyBank (λ i. leb (at (c .before .before .before .before .args .d .now) (CLOSE + i)) (c .before .before .before .before .args .t) || eqb (at (c .before .before .before .before .args .d .now) (OPEN + i)) 0)) 9 (c .before .all-held .ensures) (c .if2 .taken))
+returns-2 c =
+    let told = told-broken (everyBank (λ i. leb (at (c .before .before .before .before .args .d .now) (CLOSE + i)) (c .before .before .before .before .args .t) || eqb (at (c .before .before .before .before .args .d .now) (OPEN + i)) 0)) 9 (c .before .all-held .ensures) (c .if2 .taken) in
+    rw (le-leb _ _ (c .before .before .if1 .left), told .fails) (told .named)
 
 all-written-requires : tie.Need-all-written-requires
 all-written-requires c κs = search needs
 
 returns-3 : tie.Need-returns-3
 unfolding closeAllBreaks
-returns-3 c = rw (le-leb _ _ (c .before .before .before .before .if1 .left), told-kept (everyBank (λ i. leb (at (c .before .before .before .before .before .before .args .d .now) (CLOSE + i)) (c .before .before .before .before .before .before .args .t) || eqb (at (c .before .before .before .before .before .before .args .d .now) (OPEN + i)) 0)) 8 (c .before .before .before .all-held .ensures) (c .before .before .if2 .left), told-broken (everyBank (λ i. leb (at (c .before .before .before .before .before .before .args .d .now) (WRITTEN + i)) (c .before .before .before .before .before .before .args .t) || eqb (at (c .before .before .before .before .before .before .args .d .now) (OPEN + i)) 0)) 10 (c .before .all-written .ensures) (c .if3 .taken))
+returns-3 c =
+    let told = told-broken (everyBank (λ i. leb (at (c .before .before .before .before .before .before .args .d .now) (WRITTEN + i)) (c .before .before .before .before .before .before .args .t) || eqb (at (c .before .before .before .before .before .before .args .d .now) (OPEN + i)) 0)) 10 (c .before .all-written .ensures) (c .if3 .taken) in
+    rw (le-leb _ _ (c .before .before .before .before .if1 .left), told-kept (everyBank (λ i. leb (at (c .before .before .before .before .before .before .args .d .now) (CLOSE + i)) (c .before .before .before .before .before .before .args .t) || eqb (at (c .before .before .before .before .before .before .args .d .now) (OPEN + i)) 0)) 8 (c .before .before .before .all-held .ensures) (c .before .before .if2 .left), told .fails) (told .named)
 
 due-breaks-requires : tie.Need-due-breaks-requires
 due-breaks-requires c κs = search needs

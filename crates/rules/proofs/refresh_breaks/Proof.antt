@@ -13,7 +13,9 @@ all-idle-requires c κs = search needs
 
 returns : tie.Need-returns
 unfolding refreshBreaks
-returns c = rw (told-broken (everyBank (λ i. eqb (at (c .before .before .args .d .now) (OPEN + i)) 0)) 3 (c .before .all-idle .ensures) (c .if1 .taken))
+returns c =
+    let told = told-broken (everyBank (λ i. eqb (at (c .before .before .args .d .now) (OPEN + i)) 0)) 3 (c .before .all-idle .ensures) (c .if1 .taken) in
+    rw (told .fails) (told .named)
 
 element-copy-out-if2 : tie.Need-element-copy-out-if2
 element-copy-out-if2 c = search needs
@@ -27,7 +29,9 @@ all-rested-requires c κs = search needs
 
 returns-3 : tie.Need-returns-3
 unfolding refreshBreaks
-returns-3 c = rw (told-kept (everyBank (λ i. eqb (at (c .before .before .before .before .before .before .args .d .now) (OPEN + i)) 0)) 2 (c .before .before .before .before .before .all-idle .ensures) (c .before .before .before .before .if1 .left), le-leb _ _ (c .before .before .if2 .left), told-broken (everyBank (λ i. leb (at (c .before .before .before .before .before .before .args .d .now) (REST + i)) (c .before .before .before .before .before .before .args .t))) 5 (c .before .all-rested .ensures) (c .if3 .taken))
+returns-3 c =
+    let told = told-broken (everyBank (λ i. leb (at (c .before .before .before .before .before .before .args .d .now) (REST + i)) (c .before .before .before .before .before .before .args .t))) 5 (c .before .all-rested .ensures) (c .if3 .taken) in
+    rw (told-kept (everyBank (λ i. eqb (at (c .before .before .before .before .before .before .args .d .now) (OPEN + i)) 0)) 2 (c .before .before .before .before .before .all-idle .ensures) (c .before .before .before .before .if1 .left), le-leb _ _ (c .before .before .if2 .left), told .fails) (told .named)
 
 element-copy-out-if4 : tie.Need-element-copy-out-if4
 element-copy-out-if4 c = search needs

@@ -10,8 +10,8 @@ returns c = sym (wrong-count (c .before .before .args .words .now) (c .if1 .take
 lowest-bad-requires : tie.Need-lowest-bad-requires
 lowest-bad-requires c κs = search needs
 
-enum-known-i : tie.Need-enum-known-i
-enum-known-i c = search needs
+enum-known-place : tie.Need-enum-known-place
+enum-known-place c = search needs
 
 enum-told : tie.Need-enum-told
 enum-told c = search needs
@@ -24,8 +24,8 @@ returns-2 c =
 returns-3 : tie.Need-returns-3
 returns-3 c =
     let call = c .before .before .before .lowest-bad in
-    sym (one-unfit (c .before .before .before .before .before .before .args .words .now) (c .before .before .before .before .if1 .left) (call .result) (c .before .i .given .1) (call .ensures))
+    sym (one-unfit (c .before .before .before .before .before .before .args .words .now) (c .before .before .before .before .if1 .left) (call .result) (c .before .place .given .1) (call .ensures))
 
 pub check-spec : {M : Type 1} → statement M
 check-spec =
-    tie.close (tie.spec returns lowest-bad-requires enum-known-i enum-told returns-2 returns-3)
+    tie.close (tie.spec returns lowest-bad-requires enum-known-place enum-told returns-2 returns-3)

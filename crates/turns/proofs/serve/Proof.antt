@@ -1,12 +1,17 @@
-use Rattle.reading.specs.Settings.{settingsOf}
+use Prim.Native.Nat.{_<_}
 use mathlib.Core.Path.{ap, _∙_}
 use native.Mathlib.Omega.{arith}
+use borrow.Author.Needs.{needs}
+use borrow.Author.Tests.{not-true, not-false}
+use Rattle.reading.specs.Settings.{settingsOf}
 use Rattle.requests.proofs.Asking.{bank-low}
 use Rattle.turns.specs.Turning.{cycleFor}
-use Rattle.turns.proofs.Serving.{served-alone, served-led}
-use borrow.Author.Needs.{needs}
+use Rattle.turns.proofs.Serving.{served-alone, served-behind, served-late}
 use Rattle.turns.proofs.serve.Statement.{statement}
 use Rattle.turns.proofs.serve.Tie as tie
+
+low : (c : tie.After-bank) → c .bank .result < 4
+low c = omega (arith, c .bank .ensures, bank-low (settingsOf (c .before .args .s .now)) (c .before .args .q) (c .before .pre .0))
 
 bank-requires : tie.Need-bank-requires
 bank-requires c κs = search needs
@@ -18,13 +23,18 @@ asks-write-requires : tie.Need-asks-write-requires
 asks-write-requires c κs = search needs
 
 request-requires : tie.Need-request-requires
-request-requires c κs = omega (arith, c .before .before .bank .ensures, bank-low (settingsOf (c .before .before .before .args .s .now)) (c .before .before .before .args .q) (c .before .before .before .pre .0))
+request-requires c κs = low (c .before .before)
 
 take-requires : tie.Need-take-requires
-take-requires c κs = omega (arith, c .before .before .before .before .before .bank .ensures, bank-low (settingsOf (c .before .before .before .before .before .before .args .s .now)) (c .before .before .before .before .before .before .args .q) (c .before .before .before .before .before .before .pre .0))
+take-requires c κs = low (c .before .before .before .before .before)
 
 returns : tie.Need-returns
-returns c = served-alone (settingsOf (c .before .before .before .before .before .before .before .args .s .now)) (c .before .before .before .before .before .before .before .args .k .now) (c .before .before .before .before .before .before .before .args .free) (c .before .before .before .before .before .before .before .args .q) (c .before .before .before .before .before .before .before .pre .1) (c .before .before .before .before .before .asks-write .ensures) (c .before .before .before .before .before .before .bank .ensures) (c .before .before .before .request .ensures) (c .before .before .if1 .taken) (c .take .ensures)
+returns c =
+    let chosen = c .before .before in
+    let banked = chosen .before .before .before .before in
+    let start = banked .before in
+    served-alone (settingsOf (start .args .s .now)) (start .args .k .now) (start .args .free) (start .args .q) (start .pre .1)
+    (chosen .before .before .before .asks-write .ensures) (banked .bank .ensures) (chosen .before .request .ensures) (chosen .if1 .taken) (c .take .ensures)
 
 refresh-soonest-requires : tie.Need-refresh-soonest-requires
 refresh-soonest-requires c κs = search needs
@@ -48,13 +58,40 @@ after-requires-2 : tie.Need-after-requires-2
 after-requires-2 c κs = search needs
 
 request-requires-2 : tie.Need-request-requires-2
-request-requires-2 c κs = omega (arith, c .before .before .before .before .before .before .before .before .before .before .before .before .bank .ensures, bank-low (settingsOf (c .before .before .before .before .before .before .before .before .before .before .before .before .before .args .s .now)) (c .before .before .before .before .before .before .before .before .before .before .before .before .before .args .q) (c .before .before .before .before .before .before .before .before .before .before .before .before .before .pre .0))
+request-requires-2 c κs =
+    let chosen = c .before .before .before .before .before .before .before .before in
+    low (chosen .before .before .before .before)
 
 take-requires-2 : tie.Need-take-requires-2
-take-requires-2 c κs = omega (arith, c .before .before .before .before .before .before .before .before .before .before .before .before .before .before .bank .ensures, bank-low (settingsOf (c .before .before .before .before .before .before .before .before .before .before .before .before .before .before .before .args .s .now)) (c .before .before .before .before .before .before .before .before .before .before .before .before .before .before .before .args .q) (c .before .before .before .before .before .before .before .before .before .before .before .before .before .before .before .pre .0))
+take-requires-2 c κs =
+    let chosen = c .before .before .before .before .before .before .before .before .before .before in
+    low (chosen .before .before .before .before)
 
 returns-2 : tie.Need-returns-2
-returns-2 c = served-led (settingsOf (c .before .before .before .before .before .before .before .before .before .before .before .before .before .before .before .before .args .s .now)) (c .before .before .before .before .before .before .before .before .before .before .before .before .before .before .before .before .args .k .now) (c .before .before .before .before .before .before .before .before .before .before .before .before .before .before .before .before .args .free) (c .before .before .before .before .before .before .before .before .before .before .before .before .before .before .before .before .args .q) (c .before .before .before .before .before .before .before .before .before .before .before .before .before .before .before .before .pre .1) (c .before .before .before .before .before .before .before .before .before .before .before .before .before .before .asks-write .ensures) (c .before .before .before .before .before .before .before .before .before .before .before .before .before .before .before .bank .ensures) (c .before .before .before .before .before .before .before .before .before .before .before .before .request .ensures) (c .before .before .before .before .before .before .before .before .before .before .before .if1 .left) (c .before .before .before .before .before .before .before .before .cycle-for .ensures ∙ ap (cycleFor (c .before .before .before .before .before .before .before .before .before .before .before .before .before .before .before .before .args .free)) (c .before .before .before .before .before .before .before .before .before .refresh-soonest .ensures)) (c .before .before .before .before .before .before .after .ensures) (c .before .before .before .after2 .ensures) (c .before .before .request2 .ensures) (c .take2 .ensures)
+returns-2 c =
+    let taken = c .before .before in
+    let refreshed = taken .before .before .before .before .before .before .before .before in
+    let chosen = refreshed .before .before .before in
+    let banked = chosen .before .before .before .before in
+    let start = banked .before in
+    served-late (settingsOf (start .args .s .now)) (start .args .k .now) (start .args .free) (start .args .q) (start .pre .1)
+    (chosen .before .before .before .asks-write .ensures) (banked .bank .ensures) (chosen .before .request .ensures) (chosen .if1 .left)
+    (refreshed .cycle-for .ensures ∙ ap (cycleFor (start .args .free)) (refreshed .before .refresh-soonest .ensures))
+    (taken .before .before .before .before .before .before .after .ensures) (taken .before .before .before .after2 .ensures)
+    (taken .before .before .request2 .ensures) (taken .take2 .ensures) (not-true _ (c .if2 .taken))
+
+returns-3 : tie.Need-returns-3
+returns-3 c =
+    let taken = c .before .before in
+    let refreshed = taken .before .before .before .before .before .before .before .before in
+    let chosen = refreshed .before .before .before in
+    let banked = chosen .before .before .before .before in
+    let start = banked .before in
+    served-behind (settingsOf (start .args .s .now)) (start .args .k .now) (start .args .free) (start .args .q) (start .pre .1)
+    (chosen .before .before .before .asks-write .ensures) (banked .bank .ensures) (chosen .before .request .ensures) (chosen .if1 .left)
+    (refreshed .cycle-for .ensures ∙ ap (cycleFor (start .args .free)) (refreshed .before .refresh-soonest .ensures))
+    (taken .before .before .before .before .before .before .after .ensures) (taken .before .before .before .after2 .ensures)
+    (taken .before .before .request2 .ensures) (taken .take2 .ensures) (not-false _ (c .if2 .left))
 
 pub serve-spec : {M : Type 1} → statement M
 serve-spec =
@@ -75,4 +112,5 @@ serve-spec =
     after-requires-2
     request-requires-2
     take-requires-2
-    returns-2)
+    returns-2
+    returns-3)

@@ -1,0 +1,66 @@
+-- One event's step: what the code found makes what an event gives, and what was given tells of the event.
+use Prim.Native.Nat.{ℕ, _+_}
+use mathlib.Core.Bool.{Bool, true, false, cond}
+use mathlib.Core.List.{List}
+use mathlib.Core.Option.{none, some}
+use mathlib.Core.Path.{_≡_, refl, sym, ap, _∙_}
+use native.Mathlib.Omega.{arith}
+use lib.ListN.{getD}
+use Rattle.reading.specs.Settings.{Settings}
+use Rattle.reading.specs.Capture.{Event, eventAt}
+use Rattle.reading.specs.Bursts.{columnOf}
+use Rattle.part.specs.Steps.{bankOf, addressOf}
+use Rattle.beats.specs.Kept.{gives, eventsFrom, keptOf}
+use Rattle.cells.specs.declared.Given.{Given}
+use Rattle.cells.specs.declared.Given.the-variants.{Burst, Other}
+use Rattle.cells.specs.Meaning.{givenAs, givenBy}
+
+module _ (s : Settings) (part : List ℕ) (n i : ℕ) (firsts : List ℕ) (mode : ℕ) where
+  abbrev w : ℕ
+  w = eventAt part i .pins
+
+  abbrev later : List Event
+  later = eventsFrom part n (i + 1)
+
+  pub record Is (first column pairs : ℕ) : Type 0 where
+    pub burst : gives w ≡ true
+    pub row : first ≡ getD firsts (bankOf w) 0
+    pub place : column ≡ columnOf s (addressOf w)
+    pub kept : pairs ≡ keptOf mode (eventAt part i) later
+
+  module _ {pins : ℕ} {v : Bool} (e : pins ≡ w) (f : v ≡ gives pins) where
+    pub found-none : v ≡ false → Other ≡ givenAs (givenBy s part n i firsts mode)
+    unfolding givenBy
+    found-none g = let h : gives w ≡ false = sym (f ∙ ap gives e) ∙ g in rw h
+
+    pub found : {bank first column pairs : ℕ} → v ≡ true → bank ≡ bankOf pins → first ≡ getD firsts bank 0 → column ≡ columnOf s (addressOf pins) →
+        pairs ≡ keptOf mode (eventAt part i) later → Burst first column pairs ≡ givenAs (givenBy s part n i firsts mode)
+    unfolding givenBy
+    found g b x y z =
+        let h : gives w ≡ true = sym (f ∙ ap gives e) ∙ g in
+        let row = x ∙ ap (λ (k : ℕ). getD firsts k 0) (b ∙ ap bankOf e) in
+        let place = y ∙ ap (λ (k : ℕ). columnOf s (addressOf k)) e in
+        rw h (λ u. Burst (row u) (place u) (z u))
+
+  module _ {r : Given} (step : r ≡ givenAs (givenBy s part n i firsts mode)) where
+    pub told : {first column pairs : ℕ} → r ≡ Burst first column pairs → Is first column pairs
+    unfolding givenBy
+    told {first} {column} {pairs} b = go (gives w) refl (sym b ∙ step)
+      where
+        go : (v : Bool) → gives w ≡ v →
+            Burst first column pairs
+            ≡ givenAs (cond v (some (record { first = getD firsts (bankOf w) 0; column = columnOf s (addressOf w); pairs = keptOf mode (eventAt part i) later })) none) →
+            Is first column pairs
+        go true g q = record { burst = g; row = cc; place = cc; kept = cc }
+        go false g q = let z : _≡_ {A = ℕ} 0 1 = cc in absurd (omega arith)
+
+    pub told-other : r ≡ Other → gives w ≡ false
+    unfolding givenBy
+    told-other b = go (gives w) (sym b ∙ step)
+      where
+        go : (v : Bool) →
+            Other
+            ≡ givenAs (cond v (some (record { first = getD firsts (bankOf w) 0; column = columnOf s (addressOf w); pairs = keptOf mode (eventAt part i) later })) none) →
+            v ≡ false
+        go true q = let z : _≡_ {A = ℕ} 0 1 = cc in absurd (omega arith)
+        go false q = refl

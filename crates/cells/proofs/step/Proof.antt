@@ -1,0 +1,64 @@
+use native.Mathlib.Omega.{arith}
+use mathlib.Core.Path.{refl}
+use borrow.Author.Needs.{needs}
+use borrow.Author.Tests.{not-true, not-false}
+use Rattle.reading.specs.Settings.{settingsOf}
+use Rattle.cells.proofs.Counting.{fitting}
+use Rattle.cells.proofs.Stepping.{found-none, found}
+use Rattle.cells.proofs.step.Statement.{statement}
+use Rattle.cells.proofs.step.Tie as tie
+
+pins-at-requires : tie.Need-pins-at-requires
+pins-at-requires c κs = omega (arith, c .before .pre .0 .fit .long)
+
+gives-burst-requires : tie.Need-gives-burst-requires
+gives-burst-requires c κs = search needs
+
+returns : tie.Need-returns
+returns c =
+    let a = c .before .before .before .before .args in
+    found-none (settingsOf (a .s .now)) (a .part .now) (a .n) (a .i) (a .firsts .now) (a .mode)
+    (c .before .before .pins-at .ensures) (c .before .gives-burst .ensures) (not-true _ (c .if1 .taken))
+
+bank-requires : tie.Need-bank-requires
+bank-requires c κs = search needs
+
+cast-first : tie.Need-cast-first
+cast-first c = search needs
+
+mul-first : tie.Need-mul-first
+mul-first c = search needs
+
+element-copy-out-first : tie.Need-element-copy-out-first
+element-copy-out-first c = search needs
+
+column-requires : tie.Need-column-requires
+column-requires c κs = c .before .before .before .before .before .before .pre .0 .sized
+
+kept-requires : tie.Need-kept-requires
+kept-requires c κs =
+    let start = c .before .before .before .before .before .before .before in
+    (fitting (start .args .s .now) (start .args .part .now) (start .args .n) (start .pre .0), start .pre .1)
+
+returns-2 : tie.Need-returns-2
+returns-2 c =
+    let chosen = c .before .before .before .before in
+    let a = chosen .before .before .before .before .args in
+    found (settingsOf (a .s .now)) (a .part .now) (a .n) (a .i) (a .firsts .now) (a .mode)
+    (chosen .before .before .pins-at .ensures) (chosen .before .gives-burst .ensures) (not-false _ (chosen .if1 .left))
+    (c .before .before .before .bank .ensures .0) refl (c .before .column .ensures) (c .kept .ensures)
+
+pub step-spec : {M : Type 1} → statement M
+step-spec =
+    tie.close
+    (tie.spec
+    pins-at-requires
+    gives-burst-requires
+    returns
+    bank-requires
+    cast-first
+    mul-first
+    element-copy-out-first
+    column-requires
+    kept-requires
+    returns-2)
