@@ -1,67 +1,146 @@
 #!/usr/bin/env python3
-"""Every public function of every library crate has its law in crates/demands/proofs/Settled.antt, and the law speaks of
-its result and of every buffer lent to it. The exceptions are those that docs/PROMISES.md names; a crate that reads and
-writes (`io` in crates.txt) answers about the world and has none."""
+"""Every public function of every library crate has its law in crates/demands/proofs/Settled.antt: its contract settles its
+result and the contents of every buffer lent to it. The law's lines are made here from the function, and that file is these
+lines, to the letter, and its proofs. The exceptions are those that docs/PROMISES.md names.
+
+The test is then given laws and sources made wrong on purpose (faults.py), and has to tell of each."""
+import collections
 import os
 import re
 import sys
 
+import faults
+
 ROOT = os.path.join(os.path.dirname(os.path.abspath(__file__)), "..", "..")
-LAWS = os.path.join(ROOT, "crates", "demands", "proofs", "Settled.antt")
+LAWS = os.path.join("crates", "demands", "proofs", "Settled.antt")
+
+# They print for the programs.
+PRINTING = ("console", "wording")
 
 # What a public function is lent and no contract settles.
 UNSETTLED = {("judge", "walk"): ["d", "pace"]}
 
-FUNCTION = re.compile(r"^pub (?:extern \"C\" )?fn (\w+)\(([^)]*)\)( ->)?", re.M)
+# What the laws and their proofs are written with.
+BROUGHT = """\
+use mathlib.Core.Path.{_≡_, sym, _∙_}
+use denote.Ref.{now}
+use Rattle.settings.proofs.Unique as settings
+use Rattle.capture.proofs.Unique as capture
+use Rattle.cells.proofs.Unique as cells
+use Rattle.schedule.proofs.Unique as schedule
+use Rattle.demands.proofs.Finding as finding
+use Rattle.demands.proofs.Judging as judging
+""".splitlines()
+
+# Text in which a brace or `pub fn` means nothing.
+QUIET = re.compile(r"""//[^\n]*|/\*(?:.|\n)*?\*/|b"(?:\\.|[^"\\])*"|b'(?:\\.|[^'\\])'""")
+
+# What opens a block and whether it has a name, what closes it, and what is public in it.
+PIECE = re.compile(
+    r"""(?:\bmod\s+(?P<module>\w+)\s*|\bimpl\b(?:\s*<[^>]*>)?\s*(?P<type>\w+)(?:\s*<[^>]*>)?\s*)?(?P<open>\{)
+    | (?P<close>\})
+    | \bpub\s+(?:(?:const|unsafe|extern|"C")\s+)*fn\s+(?P<name>\w+)\s*(?:<[^>]*>)?\s*\((?P<parameters>[^)]*)\)\s*(?P<answers>->)?
+    """,
+    re.X,
+)
+
+Function = collections.namedtuple("Function", "crate path parameters answers")
 
 
-def crates():
-    with open(os.path.join(ROOT, "crates.txt"), encoding="utf-8") as file:
-        for line in file:
-            crate, needs = line.split(":")
-            if "io" not in needs.split():
-                yield crate
+def read(*path):
+    with open(os.path.join(ROOT, *path), encoding="utf-8") as file:
+        return file.read()
 
 
-def functions():
-    """(crate, name, parameters, whether it answers)"""
-    for crate in crates():
-        folder = os.path.join(ROOT, "crates", crate, "src")
-        if not os.path.exists(os.path.join(folder, "lib.rt")):
-            continue
-        for file in sorted(os.listdir(folder)):
-            with open(os.path.join(folder, file), encoding="utf-8") as source:
-                for name, parameters, answers in FUNCTION.findall(source.read()):
-                    yield crate, name, re.findall(r"(\w+): (&mut )?", parameters), bool(answers)
+def libraries():
+    for line in read("crates.txt").splitlines():
+        crate = line.split(":")[0]
+        if crate not in PRINTING and os.path.exists(os.path.join(ROOT, "crates", crate, "src", "lib.rt")):
+            yield crate
 
 
-def wanted(crate, name, parameters, answers):
-    """The equations that the law has to claim."""
-    claims = ["z ≡ z′"] if answers else []
-    for place, (parameter, lent) in enumerate(parameters):
-        if lent and parameter not in UNSETTLED.get((crate, name), []):
+def sources():
+    """(crate, module, text) of every source of every library."""
+    for crate in libraries():
+        top = os.path.join(ROOT, "crates", crate, "src")
+        for folder, _, files in sorted(os.walk(top)):
+            for file in sorted(files):
+                place = os.path.relpath(os.path.join(folder, file), top)[: -len(".rt")]
+                module = [name for name in place.split(os.sep) if name not in ("lib", "mod")]
+                yield crate, module, read("crates", crate, "src", place + ".rt")
+
+
+def functions(crate, module, text):
+    """The public functions of a source, also those of its modules and types."""
+    blocks = []
+    for piece in PIECE.finditer(QUIET.sub("", text)):
+        if piece["open"]:
+            blocks.append(piece["module"] or piece["type"])
+        elif piece["close"]:
+            blocks.pop()
+        else:
+            path = module + [block for block in blocks if block] + [piece["name"]]
+            parameters = [" ".join(p.split()) for p in re.split(r",(?![^<]*>)", piece["parameters"]) if p.strip()]
+            yield Function(crate, path, parameters, bool(piece["answers"]))
+
+
+def claims(function):
+    """What the law says of two results z, z′ and of two contents e, e′ of what is lent."""
+    said = ["z ≡ z′"] if function.answers else []
+    for place, parameter in enumerate(function.parameters):
+        name = parameter.split(":")[0].strip()
+        if re.search(r"&\s*('\w+ )?mut\b", parameter) and name not in UNSETTLED.get((function.crate, *function.path), []):
             at = " .1" * place + " .0"
-            claims.append("now (e%s) ≡ now (e′%s)" % (at, at))
-    return claims
+            said.append("now (e%s) ≡ now (e′%s)" % (at, at))
+    return said
+
+
+def joined(said):
+    return said[0] if len(said) == 1 else "(%s) × (%s)" % (said[0], joined(said[1:]))
+
+
+def lines_of(function):
+    """The lines of a function's law, without its proof."""
+    said = claims(function)
+    if not said:
+        return []
+    law = "-".join([function.crate] + function.path).replace("_", "-")
+    given = "(κs : _) (a : _) (z z′ : _) (e e′ : _) → %s.Post κs a z e → %s.Post κs a z′ e′" % (law, law)
+    return [
+        "use Rattle.%s.proofs.%s.Reads as %s" % (function.crate, ".".join(function.path), law),
+        "pub %s-settles : %s → %s" % (law, given, joined(said)),
+        "%s-settles κs a z z′ e e′ p q =" % law,
+    ]
+
+
+def wrong(texts, laws):
+    """What is missing in the laws, and what stands there beside them."""
+    public = [function for text in texts for function in functions(*text)]
+    wanted = collections.Counter(BROUGHT)
+    for function in public:
+        wanted.update(lines_of(function))
+    there = collections.Counter()
+    for line in laws.splitlines():
+        if line and not line.startswith("-- "):
+            there[re.sub(r"^(\S+-settles κs a z z′ e e′ p q =) .*$", r"\1", line)] += 1
+    held = ["no law can say what is lent inside %s of %s::%s" % (p, f.crate, "::".join(f.path))
+            for f in public for p in f.parameters if "<" in p]
+    return held + ["missing: " + line for line in wanted - there] + ["of no public function: " + line for line in there - wanted]
 
 
 def main():
-    with open(LAWS, encoding="utf-8") as file:
-        laws = dict(re.findall(r"^pub (\S+)-settles :(.*?)^\1-settles ", file.read(), re.M | re.S))
-    wrong = 0
-    known = set()
-    for crate, name, parameters, answers in functions():
-        law = (crate + "-" + name).replace("_", "-")
-        known.add(law)
-        missing = [c for c in wanted(crate, name, parameters, answers) if c not in laws.get(law, "")]
-        if law not in laws or missing:
-            wrong += 1
-            print("%s::%s: %s" % (crate, name, "no law" if law not in laws else "the law does not claim " + ", ".join(missing)))
-    for law in sorted(set(laws) - known):
-        wrong += 1
-        print("%s: a law of no public function" % law)
-    print("%d public functions, %d wrong" % (len(known), wrong))
-    sys.exit(1 if wrong else 0)
+    texts, laws = list(sources()), read(LAWS)
+    found = wrong(texts, laws)
+    if "mod Settled" not in read("crates", "demands", "proofs", "Lib.antt").splitlines():
+        found.append("the laws are not declared, so nothing checks them")
+    made = [] if found else list(faults.made(texts, laws))
+    unnoticed = [name for name, said, *fault in made if not any(said in line for line in wrong(*fault))]
+    for line in found + ["not noticed: " + name for name in unnoticed]:
+        print(line)
+    count = sum(1 for text in texts for _ in functions(*text))
+    print("%d public functions, %d wrong; %d faults made on purpose, %d not noticed" % (count, len(found), len(made), len(unnoticed)))
+    sys.exit(1 if found or unnoticed else 0)
 
 
-main()
+if __name__ == "__main__":
+    main()

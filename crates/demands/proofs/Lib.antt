@@ -2,4 +2,5 @@
 pub mod Judging
 pub mod Refusing
 pub mod Scheduling
+mod Finding
 mod Settled

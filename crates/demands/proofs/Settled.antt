@@ -1,17 +1,13 @@
 -- Every public function of every library crate: any two results, and any two contents of each lent buffer, that its contract
 -- allows for the same arguments are equal. `Post` is the contract itself, as the check reads it: the arguments a, the
 -- result z, and e what is lent as it is left.
-use Prim.Native.Nat.{ℕ}
-use mathlib.Core.Option.{Option, none, some}
-use mathlib.Core.Path.{_≡_, refl, sym, ap, _∙_}
+use mathlib.Core.Path.{_≡_, sym, _∙_}
 use denote.Ref.{now}
-use Rattle.words.specs.Found.{placeOf}
-use Rattle.words.specs.declared.Found.{Found}
-use Rattle.words.specs.declared.Found.the-variants.{Nothing, At}
 use Rattle.settings.proofs.Unique as settings
 use Rattle.capture.proofs.Unique as capture
 use Rattle.cells.proofs.Unique as cells
 use Rattle.schedule.proofs.Unique as schedule
+use Rattle.demands.proofs.Finding as finding
 use Rattle.demands.proofs.Judging as judging
 use Rattle.words.proofs.word_at.Reads as words-word-at
 use Rattle.words.proofs.put_word.Reads as words-put-word
@@ -23,16 +19,16 @@ use Rattle.capture.proofs.setting_words.Reads as capture-setting-words
 use Rattle.capture.proofs.cycle_at.Reads as capture-cycle-at
 use Rattle.capture.proofs.pins_at.Reads as capture-pins-at
 use Rattle.capture.proofs.open.Reads as capture-open
-use Rattle.deadlines.proofs.sums.past.Reads as deadlines-past
-use Rattle.deadlines.proofs.sums.after.Reads as deadlines-after
-use Rattle.deadlines.proofs.sums.after2.Reads as deadlines-after2
-use Rattle.deadlines.proofs.sums.data_after.Reads as deadlines-data-after
-use Rattle.deadlines.proofs.sums.data_after2.Reads as deadlines-data-after2
-use Rattle.deadlines.proofs.sums.least.Reads as deadlines-least
-use Rattle.deadlines.proofs.sums.latest.Reads as deadlines-latest
-use Rattle.deadlines.proofs.sums.pick.Reads as deadlines-pick
-use Rattle.deadlines.proofs.sums.pace.Reads as deadlines-pace
-use Rattle.deadlines.proofs.sums.rows.Reads as deadlines-rows
+use Rattle.deadlines.proofs.sums.past.Reads as deadlines-sums-past
+use Rattle.deadlines.proofs.sums.after.Reads as deadlines-sums-after
+use Rattle.deadlines.proofs.sums.after2.Reads as deadlines-sums-after2
+use Rattle.deadlines.proofs.sums.data_after.Reads as deadlines-sums-data-after
+use Rattle.deadlines.proofs.sums.data_after2.Reads as deadlines-sums-data-after2
+use Rattle.deadlines.proofs.sums.least.Reads as deadlines-sums-least
+use Rattle.deadlines.proofs.sums.latest.Reads as deadlines-sums-latest
+use Rattle.deadlines.proofs.sums.pick.Reads as deadlines-sums-pick
+use Rattle.deadlines.proofs.sums.pace.Reads as deadlines-sums-pace
+use Rattle.deadlines.proofs.sums.rows.Reads as deadlines-sums-rows
 use Rattle.rules.proofs.due_breaks.Reads as rules-due-breaks
 use Rattle.rules.proofs.active_breaks.Reads as rules-active-breaks
 use Rattle.rules.proofs.read_breaks.Reads as rules-read-breaks
@@ -54,6 +50,14 @@ use Rattle.effects.proofs.start.Reads as effects-start
 use Rattle.part.proofs.step.Reads as part-step
 use Rattle.judge.proofs.walk.Reads as judge-walk
 use Rattle.judge.proofs.judge.Reads as judge-judge
+use Rattle.requests.proofs.asks_write.Reads as requests-asks-write
+use Rattle.requests.proofs.bank.Reads as requests-bank
+use Rattle.requests.proofs.active_pins.Reads as requests-active-pins
+use Rattle.requests.proofs.burst_pins.Reads as requests-burst-pins
+use Rattle.requests.proofs.lowest_bad.Reads as requests-lowest-bad
+use Rattle.turns.proofs.start.Reads as turns-start
+use Rattle.turns.proofs.serve.Reads as turns-serve
+use Rattle.schedule.proofs.schedule.Reads as schedule-schedule
 use Rattle.beats.proofs.bank.Reads as beats-bank
 use Rattle.beats.proofs.gives_burst.Reads as beats-gives-burst
 use Rattle.beats.proofs.mode_after.Reads as beats-mode-after
@@ -64,29 +68,9 @@ use Rattle.beats.proofs.open_row.Reads as beats-open-row
 use Rattle.beats.proofs.write_burst.Reads as beats-write-burst
 use Rattle.beats.proofs.kept.Reads as beats-kept
 use Rattle.cells.proofs.burst_cells.Reads as cells-burst-cells
-use Rattle.requests.proofs.asks_write.Reads as requests-asks-write
-use Rattle.requests.proofs.bank.Reads as requests-bank
-use Rattle.requests.proofs.active_pins.Reads as requests-active-pins
-use Rattle.requests.proofs.burst_pins.Reads as requests-burst-pins
-use Rattle.requests.proofs.lowest_bad.Reads as requests-lowest-bad
-use Rattle.turns.proofs.start.Reads as turns-start
-use Rattle.turns.proofs.serve.Reads as turns-serve
-use Rattle.schedule.proofs.schedule.Reads as schedule-schedule
 use Rattle.morgazell.proofs.morgazell_judge.Reads as morgazell-morgazell-judge
 use Rattle.morgazell.proofs.morgazell_cells.Reads as morgazell-morgazell-cells
 use Rattle.morgazell.proofs.morgazell_schedule.Reads as morgazell-morgazell-schedule
-
--- what a search found is told by its place
-found-one : (x y : Found) → placeOf x ≡ placeOf y → x ≡ y
-found-one x y h = sym (back x) ∙ ap from h ∙ back y
-  where
-    from : Option ℕ → Found
-    from none = Nothing
-    from (some i) = At i
-
-    back : (x : Found) → from (placeOf x) ≡ x
-    back Nothing = refl
-    back (At i) = refl
 
 -- ---- words
 
@@ -102,7 +86,7 @@ pub settings-mode-word-settles : (κs : _) (a : _) (z z′ : _) (e e′ : _) →
 settings-mode-word-settles κs a z z′ e e′ p q = p ∙ sym q
 
 pub settings-lowest-bad-settles : (κs : _) (a : _) (z z′ : _) (e e′ : _) → settings-lowest-bad.Post κs a z e → settings-lowest-bad.Post κs a z′ e′ → z ≡ z′
-settings-lowest-bad-settles κs a z z′ e e′ p q = found-one z z′ (p ∙ sym q)
+settings-lowest-bad-settles κs a z z′ e e′ p q = finding.found-one z z′ (p ∙ sym q)
 
 pub settings-check-settles : (κs : _) (a : _) (z z′ : _) (e e′ : _) → settings-check.Post κs a z e → settings-check.Post κs a z′ e′ → z ≡ z′
 settings-check-settles κs a z z′ e e′ p q = settings.one-answer z z′ (p ∙ sym q)
@@ -126,35 +110,35 @@ capture-open-settles κs a z z′ e e′ p q = capture.one-answer z z′ (p ∙ 
 
 -- ---- deadlines
 
-pub deadlines-past-settles : (κs : _) (a : _) (z z′ : _) (e e′ : _) → deadlines-past.Post κs a z e → deadlines-past.Post κs a z′ e′ → z ≡ z′
-deadlines-past-settles κs a z z′ e e′ p q = p ∙ sym q
+pub deadlines-sums-past-settles : (κs : _) (a : _) (z z′ : _) (e e′ : _) → deadlines-sums-past.Post κs a z e → deadlines-sums-past.Post κs a z′ e′ → z ≡ z′
+deadlines-sums-past-settles κs a z z′ e e′ p q = p ∙ sym q
 
-pub deadlines-after-settles : (κs : _) (a : _) (z z′ : _) (e e′ : _) → deadlines-after.Post κs a z e → deadlines-after.Post κs a z′ e′ → z ≡ z′
-deadlines-after-settles κs a z z′ e e′ p q = p ∙ sym q
+pub deadlines-sums-after-settles : (κs : _) (a : _) (z z′ : _) (e e′ : _) → deadlines-sums-after.Post κs a z e → deadlines-sums-after.Post κs a z′ e′ → z ≡ z′
+deadlines-sums-after-settles κs a z z′ e e′ p q = p ∙ sym q
 
-pub deadlines-after2-settles : (κs : _) (a : _) (z z′ : _) (e e′ : _) → deadlines-after2.Post κs a z e → deadlines-after2.Post κs a z′ e′ → z ≡ z′
-deadlines-after2-settles κs a z z′ e e′ p q = p ∙ sym q
+pub deadlines-sums-after2-settles : (κs : _) (a : _) (z z′ : _) (e e′ : _) → deadlines-sums-after2.Post κs a z e → deadlines-sums-after2.Post κs a z′ e′ → z ≡ z′
+deadlines-sums-after2-settles κs a z z′ e e′ p q = p ∙ sym q
 
-pub deadlines-data-after-settles : (κs : _) (a : _) (z z′ : _) (e e′ : _) → deadlines-data-after.Post κs a z e → deadlines-data-after.Post κs a z′ e′ → z ≡ z′
-deadlines-data-after-settles κs a z z′ e e′ p q = p ∙ sym q
+pub deadlines-sums-data-after-settles : (κs : _) (a : _) (z z′ : _) (e e′ : _) → deadlines-sums-data-after.Post κs a z e → deadlines-sums-data-after.Post κs a z′ e′ → z ≡ z′
+deadlines-sums-data-after-settles κs a z z′ e e′ p q = p ∙ sym q
 
-pub deadlines-data-after2-settles : (κs : _) (a : _) (z z′ : _) (e e′ : _) → deadlines-data-after2.Post κs a z e → deadlines-data-after2.Post κs a z′ e′ → z ≡ z′
-deadlines-data-after2-settles κs a z z′ e e′ p q = p ∙ sym q
+pub deadlines-sums-data-after2-settles : (κs : _) (a : _) (z z′ : _) (e e′ : _) → deadlines-sums-data-after2.Post κs a z e → deadlines-sums-data-after2.Post κs a z′ e′ → z ≡ z′
+deadlines-sums-data-after2-settles κs a z z′ e e′ p q = p ∙ sym q
 
-pub deadlines-least-settles : (κs : _) (a : _) (z z′ : _) (e e′ : _) → deadlines-least.Post κs a z e → deadlines-least.Post κs a z′ e′ → z ≡ z′
-deadlines-least-settles κs a z z′ e e′ p q = p ∙ sym q
+pub deadlines-sums-least-settles : (κs : _) (a : _) (z z′ : _) (e e′ : _) → deadlines-sums-least.Post κs a z e → deadlines-sums-least.Post κs a z′ e′ → z ≡ z′
+deadlines-sums-least-settles κs a z z′ e e′ p q = p ∙ sym q
 
-pub deadlines-latest-settles : (κs : _) (a : _) (z z′ : _) (e e′ : _) → deadlines-latest.Post κs a z e → deadlines-latest.Post κs a z′ e′ → z ≡ z′
-deadlines-latest-settles κs a z z′ e e′ p q = p ∙ sym q
+pub deadlines-sums-latest-settles : (κs : _) (a : _) (z z′ : _) (e e′ : _) → deadlines-sums-latest.Post κs a z e → deadlines-sums-latest.Post κs a z′ e′ → z ≡ z′
+deadlines-sums-latest-settles κs a z z′ e e′ p q = p ∙ sym q
 
-pub deadlines-pick-settles : (κs : _) (a : _) (z z′ : _) (e e′ : _) → deadlines-pick.Post κs a z e → deadlines-pick.Post κs a z′ e′ → z ≡ z′
-deadlines-pick-settles κs a z z′ e e′ p q = p ∙ sym q
+pub deadlines-sums-pick-settles : (κs : _) (a : _) (z z′ : _) (e e′ : _) → deadlines-sums-pick.Post κs a z e → deadlines-sums-pick.Post κs a z′ e′ → z ≡ z′
+deadlines-sums-pick-settles κs a z z′ e e′ p q = p ∙ sym q
 
-pub deadlines-pace-settles : (κs : _) (a : _) (z z′ : _) (e e′ : _) → deadlines-pace.Post κs a z e → deadlines-pace.Post κs a z′ e′ → z ≡ z′
-deadlines-pace-settles κs a z z′ e e′ p q = p ∙ sym q
+pub deadlines-sums-pace-settles : (κs : _) (a : _) (z z′ : _) (e e′ : _) → deadlines-sums-pace.Post κs a z e → deadlines-sums-pace.Post κs a z′ e′ → z ≡ z′
+deadlines-sums-pace-settles κs a z z′ e e′ p q = p ∙ sym q
 
-pub deadlines-rows-settles : (κs : _) (a : _) (z z′ : _) (e e′ : _) → deadlines-rows.Post κs a z e → deadlines-rows.Post κs a z′ e′ → z ≡ z′
-deadlines-rows-settles κs a z z′ e e′ p q = p ∙ sym q
+pub deadlines-sums-rows-settles : (κs : _) (a : _) (z z′ : _) (e e′ : _) → deadlines-sums-rows.Post κs a z e → deadlines-sums-rows.Post κs a z′ e′ → z ≡ z′
+deadlines-sums-rows-settles κs a z z′ e e′ p q = p ∙ sym q
 
 -- ---- rules
 
@@ -227,6 +211,36 @@ judge-walk-settles κs a z z′ e e′ p q = p ∙ sym q
 pub judge-judge-settles : (κs : _) (a : _) (z z′ : _) (e e′ : _) → judge-judge.Post κs a z e → judge-judge.Post κs a z′ e′ → z ≡ z′
 judge-judge-settles κs a z z′ e e′ p q = judging.one-answer (now (a .0)) z z′ p q
 
+-- ---- requests
+
+pub requests-asks-write-settles : (κs : _) (a : _) (z z′ : _) (e e′ : _) → requests-asks-write.Post κs a z e → requests-asks-write.Post κs a z′ e′ → z ≡ z′
+requests-asks-write-settles κs a z z′ e e′ p q = p ∙ sym q
+
+pub requests-bank-settles : (κs : _) (a : _) (z z′ : _) (e e′ : _) → requests-bank.Post κs a z e → requests-bank.Post κs a z′ e′ → z ≡ z′
+requests-bank-settles κs a z z′ e e′ p q = p ∙ sym q
+
+pub requests-active-pins-settles : (κs : _) (a : _) (z z′ : _) (e e′ : _) → requests-active-pins.Post κs a z e → requests-active-pins.Post κs a z′ e′ → z ≡ z′
+requests-active-pins-settles κs a z z′ e e′ p q = p ∙ sym q
+
+pub requests-burst-pins-settles : (κs : _) (a : _) (z z′ : _) (e e′ : _) → requests-burst-pins.Post κs a z e → requests-burst-pins.Post κs a z′ e′ → z ≡ z′
+requests-burst-pins-settles κs a z z′ e e′ p q = p ∙ sym q
+
+pub requests-lowest-bad-settles : (κs : _) (a : _) (z z′ : _) (e e′ : _) → requests-lowest-bad.Post κs a z e → requests-lowest-bad.Post κs a z′ e′ → z ≡ z′
+requests-lowest-bad-settles κs a z z′ e e′ p q = finding.found-one z z′ (p ∙ sym q)
+
+-- ---- turns
+
+pub turns-start-settles : (κs : _) (a : _) (z z′ : _) (e e′ : _) → turns-start.Post κs a z e → turns-start.Post κs a z′ e′ → z ≡ z′
+turns-start-settles κs a z z′ e e′ p q = p ∙ sym q
+
+pub turns-serve-settles : (κs : _) (a : _) (z z′ : _) (e e′ : _) → turns-serve.Post κs a z e → turns-serve.Post κs a z′ e′ → (z ≡ z′) × (now (e .1 .0) ≡ now (e′ .1 .0))
+turns-serve-settles κs a z z′ e e′ p q = (p .0 ∙ sym (q .0), p .1 ∙ sym (q .1))
+
+-- ---- schedule
+
+pub schedule-schedule-settles : (κs : _) (a : _) (z z′ : _) (e e′ : _) → schedule-schedule.Post κs a z e → schedule-schedule.Post κs a z′ e′ → (z ≡ z′) × (now (e .1 .1 .0) ≡ now (e′ .1 .1 .0))
+schedule-schedule-settles κs a z z′ e e′ p q = (schedule.one-answer z z′ (p .0 ∙ sym (q .0)), p .1 ∙ sym (q .1))
+
 -- ---- beats
 
 pub beats-bank-settles : (κs : _) (a : _) (z z′ : _) (e e′ : _) → beats-bank.Post κs a z e → beats-bank.Post κs a z′ e′ → z ≡ z′
@@ -260,36 +274,6 @@ beats-kept-settles κs a z z′ e e′ p q = p ∙ sym q
 
 pub cells-burst-cells-settles : (κs : _) (a : _) (z z′ : _) (e e′ : _) → cells-burst-cells.Post κs a z e → cells-burst-cells.Post κs a z′ e′ → (z ≡ z′) × (now (e .1 .0) ≡ now (e′ .1 .0))
 cells-burst-cells-settles κs a z z′ e e′ p q = (cells.one-answer z z′ (p .0 ∙ sym (q .0)), p .1 ∙ sym (q .1))
-
--- ---- requests
-
-pub requests-asks-write-settles : (κs : _) (a : _) (z z′ : _) (e e′ : _) → requests-asks-write.Post κs a z e → requests-asks-write.Post κs a z′ e′ → z ≡ z′
-requests-asks-write-settles κs a z z′ e e′ p q = p ∙ sym q
-
-pub requests-bank-settles : (κs : _) (a : _) (z z′ : _) (e e′ : _) → requests-bank.Post κs a z e → requests-bank.Post κs a z′ e′ → z ≡ z′
-requests-bank-settles κs a z z′ e e′ p q = p ∙ sym q
-
-pub requests-active-pins-settles : (κs : _) (a : _) (z z′ : _) (e e′ : _) → requests-active-pins.Post κs a z e → requests-active-pins.Post κs a z′ e′ → z ≡ z′
-requests-active-pins-settles κs a z z′ e e′ p q = p ∙ sym q
-
-pub requests-burst-pins-settles : (κs : _) (a : _) (z z′ : _) (e e′ : _) → requests-burst-pins.Post κs a z e → requests-burst-pins.Post κs a z′ e′ → z ≡ z′
-requests-burst-pins-settles κs a z z′ e e′ p q = p ∙ sym q
-
-pub requests-lowest-bad-settles : (κs : _) (a : _) (z z′ : _) (e e′ : _) → requests-lowest-bad.Post κs a z e → requests-lowest-bad.Post κs a z′ e′ → z ≡ z′
-requests-lowest-bad-settles κs a z z′ e e′ p q = found-one z z′ (p ∙ sym q)
-
--- ---- turns
-
-pub turns-start-settles : (κs : _) (a : _) (z z′ : _) (e e′ : _) → turns-start.Post κs a z e → turns-start.Post κs a z′ e′ → z ≡ z′
-turns-start-settles κs a z z′ e e′ p q = p ∙ sym q
-
-pub turns-serve-settles : (κs : _) (a : _) (z z′ : _) (e e′ : _) → turns-serve.Post κs a z e → turns-serve.Post κs a z′ e′ → (z ≡ z′) × (now (e .1 .0) ≡ now (e′ .1 .0))
-turns-serve-settles κs a z z′ e e′ p q = (p .0 ∙ sym (q .0), p .1 ∙ sym (q .1))
-
--- ---- schedule
-
-pub schedule-schedule-settles : (κs : _) (a : _) (z z′ : _) (e e′ : _) → schedule-schedule.Post κs a z e → schedule-schedule.Post κs a z′ e′ → (z ≡ z′) × (now (e .1 .1 .0) ≡ now (e′ .1 .1 .0))
-schedule-schedule-settles κs a z z′ e e′ p q = (schedule.one-answer z z′ (p .0 ∙ sym (q .0)), p .1 ∙ sym (q .1))
 
 -- ---- morgazell
 

@@ -30,12 +30,12 @@ h-small m =
     let k : 2 ^ (m % 8) ≤ 2 ^ 7 = pow-le-pow-right {n = 2} (omega arith) l in
     omega arith
 
+either : (v : Bool) (a b m : ℕ) → a ≤ m → b ≤ m → cond v a b ≤ m
+either true a b m l k = l
+either false a b m l k = k
+
 pub later-most : (a b m : ℕ) → a ≤ m → b ≤ m → later a b ≤ m
-later-most a b m l k = go (leb a b)
-  where
-    go : (v : Bool) → cond v b a ≤ m
-    go true = k
-    go false = l
+later-most a b m l k = either (leb a b) b a m k l
 
 -- ---- stores
 
@@ -131,29 +131,25 @@ latest-most m c (x ∷ xs) l (cons k r) = later-most c (latest x xs) m l (latest
 
 module _ {n : ℕ} {d : List ℕ} (near : Near n d) where
   other-most : (b i : ℕ) → i < 4 → otherBank d b i ≤ n + wait
-  other-most b i l = go (eqb i b)
-    where
-      go : (v : Bool) → cond v 0 (at d (OTHER + i)) ≤ n + wait
-      go true = omega arith
-      go false = near .by (OTHER + i) (omega arith)
+  other-most b i l = let k = near .by (OTHER + i) (omega arith) in either (eqb i b) _ _ _ (omega (arith, k)) k
 
   pub refresh-most : refreshSoonest d ≤ n + wait
   unfolding refreshSoonest
   refresh-most =
-      latest-most (n + wait) _ _ (near .by BUSY (omega arith))
-      (cons (near .by REST (omega arith))
-      (cons (near .by (REST + 1) (omega arith))
-      (cons (near .by (REST + 2) (omega arith))
-      (cons (near .by (REST + 3) (omega arith))
-      (cons (near .by DATA (omega arith)) nil)))))
+      latest-most (n + wait) _ _ (near .by _ (omega arith))
+      (cons (near .by _ (omega arith))
+      (cons (near .by _ (omega arith))
+      (cons (near .by _ (omega arith))
+      (cons (near .by _ (omega arith))
+      (cons (near .by _ (omega arith)) nil)))))
 
   module _ (b : ℕ) (lb : b < 4) where
     pub active-most : activeSoonest d b ≤ n + wait
     unfolding activeSoonest
     active-most =
-        latest-most (n + wait) _ _ (near .by BUSY (omega arith))
-        (cons (near .by (REST + b) (omega arith))
-        (cons (near .by (AGAIN + b) (omega arith))
+        latest-most (n + wait) _ _ (near .by _ (omega arith))
+        (cons (near .by _ (omega arith))
+        (cons (near .by _ (omega arith))
         (cons (other-most b 0 (omega arith))
         (cons (other-most b 1 (omega arith))
         (cons (other-most b 2 (omega arith))
@@ -162,12 +158,12 @@ module _ {n : ℕ} {d : List ℕ} (near : Near n d) where
     pub burst-most : (write : Bool) → burstSoonest write d b ≤ n + wait
     unfolding readSoonest writeSoonest
     burst-most true =
-        latest-most (n + wait) _ _ (near .by BUSY (omega arith))
-        (cons (near .by (COLUMN + b) (omega arith))
-        (cons (near .by DATA (omega arith))
-        (cons (near .by WRITES (omega arith)) nil)))
+        latest-most (n + wait) _ _ (near .by _ (omega arith))
+        (cons (near .by _ (omega arith))
+        (cons (near .by _ (omega arith))
+        (cons (near .by _ (omega arith)) nil)))
     burst-most false =
-        latest-most (n + wait) _ _ (near .by BUSY (omega arith))
-        (cons (near .by (COLUMN + b) (omega arith))
-        (cons (near .by END (omega arith))
-        (cons (near .by READS (omega arith)) nil)))
+        latest-most (n + wait) _ _ (near .by _ (omega arith))
+        (cons (near .by _ (omega arith))
+        (cons (near .by _ (omega arith))
+        (cons (near .by _ (omega arith)) nil)))
