@@ -17,15 +17,12 @@ LAWS = os.path.join("crates", "demands", "proofs", "Settled.antt")
 # They print for the programs.
 PRINTING = ("console", "wording")
 
-# What a public function is lent and no contract settles.
-UNSETTLED = {("judge", "walk"): ["d", "pace"]}
-
 # What the laws and their proofs are written with.
 BROUGHT = """\
 use mathlib.Core.Path.{_≡_, sym, _∙_}
 use denote.Ref.{now}
 use Rattle.settings.proofs.Unique as settings
-use Rattle.capture.proofs.Unique as capture
+use Rattle.part.proofs.Unique as part
 use Rattle.cells.proofs.Unique as cells
 use Rattle.schedule.proofs.Unique as schedule
 use Rattle.demands.proofs.Finding as finding
@@ -88,8 +85,7 @@ def claims(function):
     """What the law says of two results z, z′ and of two contents e, e′ of what is lent."""
     said = ["z ≡ z′"] if function.answers else []
     for place, parameter in enumerate(function.parameters):
-        name = parameter.split(":")[0].strip()
-        if re.search(r"&\s*('\w+ )?mut\b", parameter) and name not in UNSETTLED.get((function.crate, *function.path), []):
+        if re.search(r"&\s*('\w+ )?mut\b", parameter):
             at = " .1" * place + " .0"
             said.append("now (e%s) ≡ now (e′%s)" % (at, at))
     return said

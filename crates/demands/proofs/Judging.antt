@@ -3,6 +3,7 @@ use Prim.Native.Nat.{ℕ}
 use mathlib.Core.List.{List}
 use mathlib.Core.Logic.{_↔_}
 use mathlib.Core.Path.{_≡_, refl, sym, ap, _∙_}
+use native.Mathlib.Omega.{arith}
 use lib.ListN.{length}
 use Rattle.reading.specs.Settings.{Settings}
 use Rattle.reading.specs.Capture.{Event, eventCount, eventsOf}
@@ -37,8 +38,21 @@ one-answer capture r q a b = sym (back r) ∙ ap reportOf (a ∙ sym b) ∙ back
 
 -- a capture whose every event was judged and kept the rules, of however many events
 pub judged-clean : (capture : List ℕ) (n : ℕ) (r : Verdict) → Judges capture r →
-    judgeAnswer capture ≡ answered (record { events = n; judged = n; verdict = is.clean }) → r ≡ Clean n n
-judged-clean capture n r a h = one-answer capture r (Clean n n) a (sym h)
+    judgeAnswer capture ≡ answered (record { events = n; judged = n; verdict = is.clean }) →
+    r ≡ Clean (eventCount capture) (eventCount capture)
+unfolding judgeAnswer
+judged-clean capture n r a h =
+    one-answer capture r (Clean n n) a (sym h) ∙ ap (λ (k : ℕ). Clean k k) (sym (counted (accepted capture (answered (tt {0}))) refl))
+  where
+    eventsOfAnswer : Answer Report → ℕ
+    eventsOfAnswer (refused number place) = 0
+    eventsOfAnswer (answered r) = r .events
+
+    counted : (a : Answer (Unit {0})) → accepted capture (answered tt) ≡ a → eventCount capture ≡ n
+    counted (refused number place) e =
+        let z : _≡_ {A = Answer Report} (refused number place) (answered _) = sym (refused-rest capture _ e) ∙ h in
+        let k : _≡_ {A = ℕ} 0 1 = cc in absurd (omega arith)
+    counted (answered tt) e = ap eventsOfAnswer (sym (accepted-rest capture _ e) ∙ h)
 
 verdictOfAnswer : Answer Report → is.Verdict
 verdictOfAnswer (refused number place) = is.clean

@@ -107,7 +107,7 @@ module _ (ws qs out left : List ℕ) (n : ℕ) (allowed : Schedules ws qs out (s
   e = sym (allowed .0)
 
   -- Demand 3: what was written is a capture that the judge calls clean, with every event judged.
-  pub schedule-is-clean : (r : Verdict) → Judges (take n left) r → r ≡ Clean (eventCount (take n left))
+  pub schedule-is-clean : (r : Verdict) → Judges (take n left) r → r ≡ Clean (eventCount (take n left)) (eventCount (take n left))
   schedule-is-clean r a =
       judged-clean (take n left) (length (written ws qs out n e .events)) r a (ap (λ b. judgeAnswer (take n b)) (allowed .1) ∙ outcome-clean ws qs out n e)
 

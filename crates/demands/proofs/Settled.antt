@@ -4,7 +4,7 @@
 use mathlib.Core.Path.{_≡_, sym, _∙_}
 use denote.Ref.{now}
 use Rattle.settings.proofs.Unique as settings
-use Rattle.capture.proofs.Unique as capture
+use Rattle.part.proofs.Unique as part
 use Rattle.cells.proofs.Unique as cells
 use Rattle.schedule.proofs.Unique as schedule
 use Rattle.demands.proofs.Finding as finding
@@ -106,7 +106,7 @@ pub capture-pins-at-settles : (κs : _) (a : _) (z z′ : _) (e e′ : _) → ca
 capture-pins-at-settles κs a z z′ e e′ p q = p ∙ sym q
 
 pub capture-open-settles : (κs : _) (a : _) (z z′ : _) (e e′ : _) → capture-open.Post κs a z e → capture-open.Post κs a z′ e′ → z ≡ z′
-capture-open-settles κs a z z′ e e′ p q = capture.one-answer z z′ (p ∙ sym q)
+capture-open-settles κs a z z′ e e′ p q = settings.one-answer z z′ (p ∙ sym q)
 
 -- ---- deadlines
 
@@ -201,12 +201,12 @@ effects-start-settles κs a z z′ e e′ p q = p ∙ sym q
 -- ---- part
 
 pub part-step-settles : (κs : _) (a : _) (z z′ : _) (e e′ : _) → part-step.Post κs a z e → part-step.Post κs a z′ e′ → (z ≡ z′) × ((now (e .1 .0) ≡ now (e′ .1 .0)) × (now (e .1 .1 .0) ≡ now (e′ .1 .1 .0)))
-part-step-settles κs a z z′ e e′ p q = (p .0 ∙ sym (q .0), (p .1 .0 ∙ sym (q .1 .0), p .1 .1 ∙ sym (q .1 .1)))
+part-step-settles κs a z z′ e e′ p q = (part.one-answer z z′ (p .0 ∙ sym (q .0)), (p .1 .0 ∙ sym (q .1 .0), p .1 .1 ∙ sym (q .1 .1)))
 
 -- ---- judge
 
-pub judge-walk-settles : (κs : _) (a : _) (z z′ : _) (e e′ : _) → judge-walk.Post κs a z e → judge-walk.Post κs a z′ e′ → z ≡ z′
-judge-walk-settles κs a z z′ e e′ p q = p ∙ sym q
+pub judge-walk-settles : (κs : _) (a : _) (z z′ : _) (e e′ : _) → judge-walk.Post κs a z e → judge-walk.Post κs a z′ e′ → (z ≡ z′) × ((now (e .1 .0) ≡ now (e′ .1 .0)) × (now (e .1 .1 .0) ≡ now (e′ .1 .1 .0)))
+judge-walk-settles κs a z z′ e e′ p q = (p .0 ∙ sym (q .0), (p .1 .0 ∙ sym (q .1 .0), p .1 .1 ∙ sym (q .1 .1)))
 
 pub judge-judge-settles : (κs : _) (a : _) (z z′ : _) (e e′ : _) → judge-judge.Post κs a z e → judge-judge.Post κs a z′ e′ → z ≡ z′
 judge-judge-settles κs a z z′ e e′ p q = judging.one-answer (now (a .0)) z z′ p q

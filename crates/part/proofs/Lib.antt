@@ -1,3 +1,4 @@
 -- Laws that callers of the step use.
 pub mod Codes
 pub mod Pins
+pub mod Unique
