@@ -1,28 +1,198 @@
--- Demand 1, for the calls that fill a lent buffer: a refused call leaves it as it was.
-use Prim.Native.Nat.{ℕ}
-use mathlib.Core.Bool.{not}
+-- Demand 1: a call is refused exactly with the number and the place of document 01's table, and then leaves the buffer as it was.
+use Prim.Native.Nat.{ℕ, _≤_, _<_}
+use mathlib.Core.Bool.{Bool, true, false, not}
 use mathlib.Core.List.{List}
-use mathlib.Core.Path.{_≡_, refl, sym, _∙_}
+use mathlib.Core.Logic.{_↔_}
+use mathlib.Core.Option.{Option, none, some}
+use mathlib.Core.Path.{_≡_, refl, sym, ap, _∙_}
 use native.Mathlib.Omega.{arith}
-use lib.Dec.{eqb}
+use borrow.Author.Tests.{eqb-true, eqb-false, ne-eqb, eq-eqb, ltb-true, lt-ltb, not-false}
+use lib.Dec.{ltb, eqb}
 use lib.ListN.{length}
 use Rattle.reading.specs.Search.{given}
 use Rattle.reading.specs.Settings.{settingsOf, badSetting}
-use Rattle.reading.specs.Schedule.{badRequest, scheduleOf, captureOf}
-use Rattle.reading.specs.Answers.{Answer, refused, answered, unless, accepted, verdictIn, notClean, cellsIn, keptUp, fitting, leaves, cellsOutcome, scheduleOutcome}
+use Rattle.reading.specs.Capture.{Event, eventsOf}
+use Rattle.reading.specs.Part.{start}
+use Rattle.reading.specs.Schedule.{Schedule, planned, late, badRequest, scheduleOf, captureOf}
+use Rattle.reading.specs.Verdict as is
+use Rattle.reading.specs.Answers.{Answer, Report, refused, answered, unless, accepted, settingsIn, verdictIn, notClean, judgeAnswer, cellsIn, keptUp, fitting, leaves, cellsOutcome, scheduleOutcome}
+use Rattle.reading.proofs.Meaning.{verdict-clean, verdict-broken}
+use Rattle.capture.proofs.Accepted.{accepted-rest, refused-rest}
+use Rattle.judge.specs.declared.Verdict.{Verdict}
+use Rattle.judge.specs.declared.Verdict.the-variants as judged
+use Rattle.judge.specs.Meaning as judge
+use Rattle.cells.specs.declared.Listed.{Listed}
 use Rattle.cells.specs.declared.Listed.the-variants as listed
+use Rattle.cells.specs.Meaning as list
+use Rattle.cells.proofs.Unique as one-list
+use Rattle.schedule.specs.declared.Scheduled.{Scheduled}
 use Rattle.schedule.specs.declared.Scheduled.the-variants as scheduled
-use Rattle.demands.specs.Allowed.{Lists, Schedules}
+use Rattle.schedule.specs.Meaning as schedule
+use Rattle.schedule.proofs.Unique as one-schedule
+use Rattle.demands.specs.Allowed.{Judges, Lists, Schedules}
+use Rattle.demands.specs.Refused.{opened, Accepted, Clean, ListRefused, unaccepted, unclean, ScheduleRefused}
+use Rattle.demands.specs.Refused as case
+use Rattle.demands.proofs.Judging.{one-answer}
+
+other : {B : Type 0} {A : Type 0} {x : A} {number place : ℕ} → _≡_ {A = Answer A} (answered x) (refused number place) → B
+other e = let z : _≡_ {A = ℕ} 0 1 = cc in absurd (omega arith)
+
+-- ---- the judge
+
+pub judge-refused : (capture : List ℕ) (r : Verdict) → Judges capture r → (number place : ℕ) →
+    r ≡ judged.Refused number place ↔ opened capture ≡ refused number place
+unfolding judgeAnswer
+judge-refused capture r a number place = (
+  λ e. go (opened capture) refl (sym a ∙ ap judge.means e),
+  λ h. one-answer capture r (judged.Refused number place) a (sym (refused-rest capture _ h)),
+)
+  where
+    go : (x : Answer (Unit {0})) → opened capture ≡ x → judgeAnswer capture ≡ refused number place → opened capture ≡ refused number place
+    go (refused k p) h e =
+        let so : _≡_ {A = Answer Report} (refused k p) (refused number place) = sym (refused-rest capture _ h) ∙ e in
+        let n : k ≡ number = cc in
+        let q : p ≡ place = cc in
+        h ∙ (λ i. refused (n i) (q i))
+    go (answered tt) h e = other (sym (accepted-rest capture _ h) ∙ e)
+
+-- ---- buffers
 
 leaves-refused : (a : Answer (List ℕ)) (out : List ℕ) (number place : ℕ) → leaves a out .answer ≡ refused number place → leaves a out .buffer ≡ out
 leaves-refused (refused number place) out k p e = refl
-leaves-refused (answered xs) out k p e = let z : _≡_ {A = ℕ} 0 1 = cc in absurd (omega arith)
+leaves-refused (answered xs) out k p e = other e
+
+-- what is refused for want of room, and what is not
+module _ (out xs : List ℕ) where
+  room : (number place : ℕ) → leaves (fitting out xs) out .answer ≡ refused number place → (number ≡ 7) × (place ≡ length xs) × (length out < length xs)
+  room number place e = go (ltb (length out) (length xs)) refl e
+    where
+      go : (v : Bool) → ltb (length out) (length xs) ≡ v → leaves (unless 7 (given (length xs) v) (answered xs)) out .answer ≡ refused number place →
+          (number ≡ 7) × (place ≡ length xs) × (length out < length xs)
+      go true f k = (cc, cc, ltb-true (length out) (length xs) f)
+      go false f k = other k
+
+  too-long : length out < length xs → leaves (fitting out xs) out .answer ≡ refused 7 (length xs)
+  too-long l = rw (lt-ltb (length out) (length xs) l)
+
+-- ---- burst lists
+
+module _ (capture out : List ℕ) where
+  abbrev rest : Answer (List ℕ)
+  rest = unless 8 (notClean (verdictIn capture)) (fitting out (cellsIn capture))
+
+  answers : {x : Answer (List ℕ)} → accepted capture rest ≡ x → cellsOutcome capture out .answer ≡ leaves x out .answer
+  unfolding cellsOutcome
+  answers e = ap (λ (x : Answer (List ℕ)). leaves x out .answer) e
+
+  judged-as : (v : is.Verdict) → verdictIn capture ≡ v → Accepted capture →
+      cellsOutcome capture out .answer ≡ leaves (unless 8 (notClean v) (fitting out (cellsIn capture))) out .answer
+  judged-as v e h = answers (accepted-rest capture rest h) ∙ ap (λ (v : is.Verdict). leaves (unless 8 (notClean v) (fitting out (cellsIn capture))) out .answer) e
+
+  list-case : (number place : ℕ) → cellsOutcome capture out .answer ≡ refused number place → ListRefused capture out number place
+  unfolding verdictIn
+  list-case number place k = go (opened capture) refl
+    where
+      decided : Accepted capture → (v : is.Verdict) → verdictIn capture ≡ v → ListRefused capture out number place
+      decided h is.clean e =
+          let (n, p, l) = room out (cellsIn capture) number place (sym (judged-as is.clean e h) ∙ k) in
+          case.ListRefused.short h (verdict-clean (settingsIn capture) (eventsOf capture) .0 e) n p (rw p l)
+      decided h (is.broken rule event cycle) e =
+          let so : _≡_ {A = Answer ℕ} (refused 8 event) (refused number place) = sym (judged-as (is.broken rule event cycle) e h) ∙ k in
+          let n : 8 ≡ number = cc in
+          let p : event ≡ place = cc in
+          unclean h (sym n) rule cycle (verdict-broken (settingsIn capture) (eventsOf capture) rule place cycle .0 (e ∙ ap (λ (i : ℕ). is.broken rule i cycle) p))
+
+      go : (x : Answer (Unit {0})) → opened capture ≡ x → ListRefused capture out number place
+      go (refused n p) h =
+          let so : _≡_ {A = Answer ℕ} (refused n p) (refused number place) = sym (answers (refused-rest capture rest h)) ∙ k in
+          let e : n ≡ number = cc in
+          let f : p ≡ place = cc in
+          unaccepted (h ∙ (λ i. refused (e i) (f i)))
+      go (answered tt) h = decided h (verdictIn capture) refl
+
+  case-list : (number place : ℕ) → ListRefused capture out number place → cellsOutcome capture out .answer ≡ refused number place
+  unfolding verdictIn
+  case-list number place (unaccepted h) = answers (refused-rest capture rest h)
+  case-list number place (unclean h n rule cycle b) =
+      judged-as (is.broken rule place cycle) (verdict-broken (settingsIn capture) (eventsOf capture) rule place cycle .1 b) h
+      ∙ ap (λ (k : ℕ). refused k place) (sym n)
+  case-list number place (case.ListRefused.short h c n p l) =
+      judged-as is.clean (verdict-clean (settingsIn capture) (eventsOf capture) .1 c) h ∙ too-long out (cellsIn capture) (omega (arith, p, l))
+      ∙ (λ i. refused (sym n i) (sym p i))
+
+pub list-refused-exactly : (capture out : List ℕ) (r : Listed) (left : List ℕ) → Lists capture out r left → (number place : ℕ) →
+    r ≡ listed.Refused number place ↔ ListRefused capture out number place
+list-refused-exactly capture out r left a number place = (
+  λ e. list-case capture out number place (sym (a .0) ∙ ap list.means e),
+  λ c. one-list.one-answer r (listed.Refused number place) (a .0 ∙ case-list capture out number place c),
+)
 
 pub list-refused : (capture out left : List ℕ) (number place : ℕ) → Lists capture out (listed.Refused number place) left → left ≡ out
 unfolding cellsOutcome
 list-refused capture out left number place a =
     a .1 ∙
     leaves-refused (accepted capture (unless 8 (notClean (verdictIn capture)) (fitting out (cellsIn capture)))) out number place (sym (a .0))
+
+-- ---- schedules
+
+module _ (ws qs out : List ℕ) where
+  -- the answer, by what each test says
+  abbrev by : Option ℕ → Option ℕ → Option ℕ → Schedule → Answer ℕ
+  by a b c x = leaves (unless 2 a (unless 3 b (unless 5 c (keptUp x (λ es. fitting out (captureOf ws es)))))) out .answer
+
+  tested : {a b c : Option ℕ} {x : Schedule} → given 0 (not (eqb (length ws) 14)) ≡ a → badSetting ws ≡ b → badRequest (settingsOf ws) qs ≡ c →
+      scheduleOf (settingsOf ws) qs ≡ x → scheduleOutcome ws qs out .answer ≡ by a b c x
+  unfolding scheduleOutcome
+  tested f g h k i = by (f i) (g i) (h i) (k i)
+
+  counted : length ws ≡ 14 → given 0 (not (eqb (length ws) 14)) ≡ none
+  counted e = rw (eq-eqb (length ws) 14 e)
+
+  module _ (number place : ℕ) where
+    schedule-case : scheduleOutcome ws qs out .answer ≡ refused number place → ScheduleRefused ws qs out number place
+    schedule-case k = go (eqb (length ws) 14) (badSetting ws) (badRequest (settingsOf ws) qs) (scheduleOf (settingsOf ws) qs) refl refl refl refl
+      where
+        go : (a : Bool) (b c : Option ℕ) (x : Schedule) → eqb (length ws) 14 ≡ a → badSetting ws ≡ b → badRequest (settingsOf ws) qs ≡ c →
+            scheduleOf (settingsOf ws) qs ≡ x → ScheduleRefused ws qs out number place
+        go false b c x f g h z =
+            let so : _≡_ {A = Answer ℕ} (refused 2 0) (refused number place) = sym (tested (ap (λ (v : Bool). given 0 (not v)) f) g h z) ∙ k in
+            let n : 2 ≡ number = cc in
+            let e : 0 ≡ place = cc in
+            case.ScheduleRefused.count (eqb-false (length ws) 14 f) (sym n) (sym e)
+        go true (some i) c x f g h z =
+            let so : _≡_ {A = Answer ℕ} (refused 3 i) (refused number place) = sym (tested (ap (λ (v : Bool). given 0 (not v)) f) g h z) ∙ k in
+            let n : 3 ≡ number = cc in
+            let e : i ≡ place = cc in
+            case.ScheduleRefused.setting (eqb-true (length ws) 14 f) (sym n) (g ∙ ap some e)
+        go true none (some i) x f g h z =
+            let so : _≡_ {A = Answer ℕ} (refused 5 i) (refused number place) = sym (tested (ap (λ (v : Bool). given 0 (not v)) f) g h z) ∙ k in
+            let n : 5 ≡ number = cc in
+            let e : i ≡ place = cc in
+            case.ScheduleRefused.request (record { count = eqb-true (length ws) 14 f; each = g }) (sym n) (h ∙ ap some e)
+        go true none none (late i) f g h z =
+            let so : _≡_ {A = Answer ℕ} (refused 6 i) (refused number place) = sym (tested (ap (λ (v : Bool). given 0 (not v)) f) g h z) ∙ k in
+            let n : 6 ≡ number = cc in
+            let e : i ≡ place = cc in
+            case.ScheduleRefused.untimely (record { count = eqb-true (length ws) 14 f; each = g }) h (sym n) (z ∙ ap late e)
+        go true none none (planned es) f g h z =
+            let (n, p, l) = room out (captureOf ws es) number place (sym (tested (ap (λ (v : Bool). given 0 (not v)) f) g h z) ∙ k) in
+            case.ScheduleRefused.short (record { count = eqb-true (length ws) 14 f; each = g }) h es z n p (rw p l)
+
+    case-schedule : ScheduleRefused ws qs out number place → scheduleOutcome ws qs out .answer ≡ refused number place
+    case-schedule (case.ScheduleRefused.count f n p) =
+        tested (ap (λ (v : Bool). given 0 (not v)) (ne-eqb (length ws) 14 f)) refl refl refl ∙ (λ i. refused (sym n i) (sym p i))
+    case-schedule (case.ScheduleRefused.setting f n b) = tested (counted f) b refl refl ∙ ap (λ (k : ℕ). refused k place) (sym n)
+    case-schedule (case.ScheduleRefused.request f n b) = tested (counted (f .count)) (f .each) b refl ∙ ap (λ (k : ℕ). refused k place) (sym n)
+    case-schedule (case.ScheduleRefused.untimely f b n l) = tested (counted (f .count)) (f .each) b l ∙ ap (λ (k : ℕ). refused k place) (sym n)
+    case-schedule (case.ScheduleRefused.short f b es e n p l) =
+        tested (counted (f .count)) (f .each) b e ∙ too-long out (captureOf ws es) (omega (arith, p, l)) ∙ (λ i. refused (sym n i) (sym p i))
+
+pub schedule-refused-exactly : (ws qs out : List ℕ) (r : Scheduled) (left : List ℕ) → Schedules ws qs out r left → (number place : ℕ) →
+    r ≡ scheduled.Refused number place ↔ ScheduleRefused ws qs out number place
+schedule-refused-exactly ws qs out r left a number place = (
+  λ e. schedule-case ws qs out number place (sym (a .0) ∙ ap schedule.means e),
+  λ c. one-schedule.one-answer r (scheduled.Refused number place) (a .0 ∙ case-schedule ws qs out number place c),
+)
 
 pub schedule-refused : (ws qs out left : List ℕ) (number place : ℕ) → Schedules ws qs out (scheduled.Refused number place) left → left ≡ out
 unfolding scheduleOutcome

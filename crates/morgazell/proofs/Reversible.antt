@@ -41,7 +41,7 @@ pub judge-tells : (a b : List ℕ) → packed (judgeTold (judgeAnswer a)) ≡ pa
     judgeTold (judgeAnswer a) ≡ judgeTold (judgeAnswer b)
 judge-tells a b e = sym (unpacked-packed _ (judge-fits a)) ∙ ap unpacked e ∙ unpacked-packed _ (judge-fits b)
 
-at-count : {A : Type 0} (f : ℕ → A) (x : A) (from n i : ℕ) → i < n → getD (map f (search.count from n)) i x ≡ f (from + i)
+pub at-count : {A : Type 0} (f : ℕ → A) (x : A) (from n i : ℕ) → i < n → getD (map f (search.count from n)) i x ≡ f (from + i)
 at-count f x from zero i l = absurd (omega arith)
 at-count f x from (suc n) zero l = ap f (sym (add-zero from))
 at-count f x from (suc n) (suc i) l = at-count f x (suc from) n i (omega arith) ∙ ap f (suc-add from i ∙ sym (add-suc from i))

@@ -1,0 +1,53 @@
+-- When a call is refused, and with which number and place: every case of document 01's table, said out in full.
+use Prim.Native.Nat.{ℕ, _<_}
+use mathlib.Core.List.{List}
+use mathlib.Core.Option.{none, some}
+use mathlib.Core.Path.{_≡_}
+use lib.ListN.{length}
+use Rattle.reading.specs.Settings.{settingsOf, badSetting}
+use Rattle.reading.specs.Capture.{Event, eventsOf}
+use Rattle.reading.specs.Part.{start}
+use Rattle.reading.specs.Schedule.{planned, late, badRequest, scheduleOf, captureOf}
+use Rattle.reading.specs.Answers.{Answer, refused, answered, accepted, settingsIn, cellsIn}
+use Rattle.reading.proofs.Meaning.{Unbroken, BrokenAt}
+
+-- what refusals 1 to 4 say of a capture, and none of them
+abbrev pub opened : List ℕ → Answer (Unit {0})
+opened capture = accepted capture (answered tt)
+
+abbrev pub Accepted : List ℕ → Type 0
+Accepted capture = opened capture ≡ answered tt
+
+-- every event, after the events before it, breaks no rule
+abbrev pub Clean : List ℕ → Type 0
+Clean capture = Unbroken (settingsIn capture) (start (settingsIn capture)) (eventsOf capture) (length (eventsOf capture))
+
+-- a burst list that is asked for
+pub data ListRefused (capture out : List ℕ) (number place : ℕ) : Type 0 where
+  -- 1 to 4
+  unaccepted : opened capture ≡ refused number place → ListRefused capture out number place
+  -- 8: the first event that breaks a rule
+  unclean : Accepted capture → number ≡ 8 → (rule cycle : ℕ) →
+      BrokenAt (settingsIn capture) (start (settingsIn capture)) (eventsOf capture) place rule cycle → ListRefused capture out number place
+  -- 7: the cells that there are
+  short : Accepted capture → Clean capture → number ≡ 7 → place ≡ length (cellsIn capture) → length out < place → ListRefused capture out number place
+
+-- settings that fit
+pub record Fine (ws : List ℕ) : Type 0 where
+  pub count : length ws ≡ 14
+  pub each : badSetting ws ≡ none
+
+-- a schedule that is asked for
+pub data ScheduleRefused (ws qs out : List ℕ) (number place : ℕ) : Type 0 where
+  -- 2
+  count : (length ws ≡ 14 → ⊥) → number ≡ 2 → place ≡ 0 → ScheduleRefused ws qs out number place
+  -- 3: the lowest such setting
+  setting : length ws ≡ 14 → number ≡ 3 → badSetting ws ≡ some place → ScheduleRefused ws qs out number place
+  -- 5: the lowest such request, or 2,000
+  request : Fine ws → number ≡ 5 → badRequest (settingsOf ws) qs ≡ some place → ScheduleRefused ws qs out number place
+  -- 6: the request at which refresh cannot be kept
+  untimely : Fine ws → badRequest (settingsOf ws) qs ≡ none → number ≡ 6 → scheduleOf (settingsOf ws) qs ≡ late place →
+      ScheduleRefused ws qs out number place
+  -- 7: the bytes of the schedule
+  short : Fine ws → badRequest (settingsOf ws) qs ≡ none → (es : List Event) → scheduleOf (settingsOf ws) qs ≡ planned es → number ≡ 7 →
+      place ≡ length (captureOf ws es) → length out < place → ScheduleRefused ws qs out number place
