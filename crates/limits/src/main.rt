@@ -2,8 +2,8 @@
 // table of refusals gives it, or 0 and 0 where it is accepted. A line is written for each: what was tried and what was
 // answered, and "WRONG" where 01 says otherwise.
 use capture::Opened;
-use console::print;
-use console::say;
+use console::plain::print;
+use console::plain::say;
 use libc::STDOUT_FILENO;
 use settings::Checked;
 ghost use Prim.Native.Nat.{_<_};
