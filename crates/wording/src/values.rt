@@ -5,11 +5,14 @@ use console::say_number;
 use console::say_word;
 ghost use mathlib.Core.Path.{_≡_};
 ghost use Rattle.reading.specs.Mode.{BL, interleaved as isInterleaved, CL};
+ghost use Rattle.wording.specs.Values.{shown};
 
 const MODE: u32 = 3;
 
 // The fourteen settings; zeros where there is no room for them, as in no capture whose settings were looked at.
-pub fn settings_of(capture: &[u8]) -> [u32; 14] {
+pub fn settings_of(capture: &[u8]) -> [u32; 14]
+    ensures { λ r. ⌜ r ≡ shown (now (capture .entry)) ⌝ }
+{
     if capture.len() < 80 {
         return [0; 14];
     }
