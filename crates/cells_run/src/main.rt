@@ -1,8 +1,8 @@
 // Cells of small captures: case k of document 01 ("01" below), refusals 8 and 7, and every row of the published burst
 // tables, written as the tables have it: length, starting column, type, order of the columns.
 use cells::Listed;
-use console::print;
-use console::say;
+use console::plain::print;
+use console::plain::say;
 ghost use Prim.Native.Nat.{_≤_};
 
 // The settings of 01's cases; the mode word is setting 3, at byte 36.

@@ -1,9 +1,8 @@
 // Captures and lists of settings at the limits of document 01 ("01" below), each with the number and the place that 01's
 // table of refusals gives it, or 0 and 0 where it is accepted. A line is written for each: what was tried and what was
 // answered, and "WRONG" where 01 says otherwise.
-use capture::Opened;
-use console::print;
-use console::say;
+use console::plain::print;
+use console::plain::say;
 use libc::STDOUT_FILENO;
 use settings::Checked;
 ghost use Prim.Native.Nat.{_<_};
@@ -56,21 +55,10 @@ const SETTINGS: [u32; 14] = [1, 13, 10, 0x32, 3, 3, 7, 10, 2, 3, 1, 12, 2, 1000]
 // A number of 01's table and a place; 0 and 0 for what is accepted.
 struct Answer(u32, u32);
 
-fn of_opened(o: Opened) -> Answer {
-    match o {
-        Opened::Accepted => Answer(0, 0),
-        Opened::Length => Answer(1, 0),
-        Opened::Header => Answer(2, 0),
-        Opened::Setting(i) => Answer(3, i),
-        Opened::Event(i) => Answer(4, i),
-    }
-}
-
 fn of_checked(c: Checked) -> Answer {
     match c {
         Checked::Fine => Answer(0, 0),
-        Checked::Count => Answer(2, 0),
-        Checked::Setting(i) => Answer(3, i),
+        Checked::Refused { number, place } => Answer(number, place),
     }
 }
 
@@ -128,7 +116,7 @@ fn opened(size: u32, at: u32, word: u32, other: u32, second: u32) -> Answer {
     store(&mut buffer, at, word);
     store(&mut buffer, other, second);
     let n = io::count(size as isize, &buffer);
-    of_opened(capture::open(&buffer[..n]))
+    of_checked(capture::open(&buffer[..n]))
 }
 
 // ---- lines

@@ -1,9 +1,10 @@
 // The lines of events.
+use console::Out;
 use console::say;
 use console::say_number;
 use console::say_word;
 ghost use mathlib.Core.Path.{_≡_};
-ghost use Prim.Native.Nat.{_+_, _-_, _/_, _%_, _<_, min};
+ghost use Prim.Native.Nat.{_+_, _-_, _%_, _<_, min};
 ghost use lib.ListN.{length};
 ghost use Rattle.part.specs.Steps.{codeOf, addressOf, tenOf};
 ghost use Rattle.listing.specs.Kinds.{kindOf};
@@ -19,17 +20,6 @@ struct Event {
 }
 
 // ---- events of a capture
-
-// N of an accepted capture: its events are all that follows byte 80, eight bytes each.
-pub fn count_in(capture: &[u8]) -> u32
-    ensures { λ r. ⌜ r ≡ (length (now (capture .entry)) - 80) / 8 % 65536 ⌝ }
-{
-    let size = capture.len();
-    if size < 80 {
-        return 0;
-    }
-    ((size - 80) / 8 % 65_536) as u32
-}
 
 // Event i; zeros where there is none.
 fn event_at(capture: &[u8], i: u32) -> Event {
@@ -78,92 +68,92 @@ fn column(settings: &[u32; 14], pins: u32) -> u32 {
 
 // ---- commands in words
 
-fn say_active(pins: u32) {
-    say_number(b"ACTIVE bank ", beats::bank(pins));
-    say_number(b" row ", address(pins));
+fn say_active(out: &mut Out, pins: u32) {
+    say_number(out, b"ACTIVE bank ", beats::bank(pins));
+    say_number(out, b" row ", address(pins));
 }
 
-fn say_burst(settings: &[u32; 14], pins: u32) {
-    say_number(b" bank ", beats::bank(pins));
-    say_number(b" column ", column(settings, pins));
+fn say_burst(out: &mut Out, settings: &[u32; 14], pins: u32) {
+    say_number(out, b" bank ", beats::bank(pins));
+    say_number(out, b" column ", column(settings, pins));
     if ten(pins) {
-        say(b" auto precharge");
+        say(out, b" auto precharge");
     }
 }
 
-fn say_read(settings: &[u32; 14], pins: u32) {
-    say(b"READ");
-    say_burst(settings, pins);
+fn say_read(out: &mut Out, settings: &[u32; 14], pins: u32) {
+    say(out, b"READ");
+    say_burst(out, settings, pins);
 }
 
-fn say_write(settings: &[u32; 14], pins: u32) {
-    say(b"WRITE");
-    say_burst(settings, pins);
+fn say_write(out: &mut Out, settings: &[u32; 14], pins: u32) {
+    say(out, b"WRITE");
+    say_burst(out, settings, pins);
 }
 
-fn say_precharge(pins: u32) {
+fn say_precharge(out: &mut Out, pins: u32) {
     if ten(pins) {
-        say(b"PRECHARGE ALL");
+        say(out, b"PRECHARGE ALL");
         return;
     }
-    say_number(b"PRECHARGE bank ", beats::bank(pins));
+    say_number(out, b"PRECHARGE bank ", beats::bank(pins));
 }
 
 // BA1,BA0 as document 01 writes them.
-fn say_register(pins: u32) {
+fn say_register(out: &mut Out, pins: u32) {
     match beats::bank(pins) {
-        0 => say(b"00"),
-        1 => say(b"01"),
-        2 => say(b"10"),
-        _ => say(b"11"),
+        0 => say(out, b"00"),
+        1 => say(out, b"01"),
+        2 => say(out, b"10"),
+        _ => say(out, b"11"),
     }
 }
 
-fn say_mode_set(pins: u32) {
-    say(b"MODE REGISTER SET register ");
-    say_register(pins);
-    say_word(b" value ", address(pins), 4);
+fn say_mode_set(out: &mut Out, pins: u32) {
+    say(out, b"MODE REGISTER SET register ");
+    say_register(out, pins);
+    say_word(out, b" value ", address(pins), 4);
 }
 
-fn say_command(settings: &[u32; 14], pins: u32) {
+fn say_command(out: &mut Out, settings: &[u32; 14], pins: u32) {
     match code(pins) {
-        12 => say_active(pins),
-        10 => say_read(settings, pins),
-        2 => say_write(settings, pins),
-        4 => say_precharge(pins),
-        6 => say(b"BURST TERMINATE"),
-        8 => say(b"AUTO REFRESH"),
-        0 => say_mode_set(pins),
-        14 => say(b"NOP"),
-        _ => say(b"DESELECT"),
+        12 => say_active(out, pins),
+        10 => say_read(out, settings, pins),
+        2 => say_write(out, settings, pins),
+        4 => say_precharge(out, pins),
+        6 => say(out, b"BURST TERMINATE"),
+        8 => say(out, b"AUTO REFRESH"),
+        0 => say_mode_set(out, pins),
+        14 => say(out, b"NOP"),
+        _ => say(out, b"DESELECT"),
     }
 }
 
 // ---- lines
 
-fn print_event(settings: &[u32; 14], mark: &[u8], i: u32, event: Event) {
-    say(mark);
-    say_number(b" event ", i);
-    say_number(b" cycle ", event.cycle);
-    say(b" ");
-    say_command(settings, event.pins);
-    say(b"\n");
+fn print_event(out: &mut Out, settings: &[u32; 14], mark: &[u8], i: u32, event: Event) {
+    say(out, mark);
+    say_number(out, b" event ", i);
+    say_number(out, b" cycle ", event.cycle);
+    say(out, b" ");
+    say_command(out, settings, event.pins);
+    say(out, b"\n");
 }
 
-fn print_words(mark: &[u8], i: u32, event: Event) {
-    say(mark);
-    say_number(b" event ", i);
-    say_word(b" words ", event.cycle, 8);
-    say_word(b" ", event.pins, 8);
-    say(b"\n");
+fn print_words(out: &mut Out, mark: &[u8], i: u32, event: Event) {
+    say(out, mark);
+    say_number(out, b" event ", i);
+    say_word(out, b" words ", event.cycle, 8);
+    say_word(out, b" ", event.pins, 8);
+    say(out, b"\n");
 }
 
 // The event that was refused, and the one that its cycle has to be above.
-pub fn print_refused(capture: &[u8], i: u32) {
+pub fn print_refused(out: &mut Out, capture: &[u8], i: u32) {
     if 0 < i {
-        print_words(b" ", i - 1, event_at(capture, i - 1));
+        print_words(out, b" ", i - 1, event_at(capture, i - 1));
     }
-    print_words(b">", i, event_at(capture, i));
+    print_words(out, b">", i, event_at(capture, i));
 }
 
 // ---- the events before those listed
@@ -197,21 +187,21 @@ fn last_of_each(capture: &[u8], end: u32) -> [u32; 7] {
     last
 }
 
-fn print_if_last(settings: &[u32; 14], capture: &[u8], last: &[u32; 7], i: u32) {
+fn print_if_last(out: &mut Out, settings: &[u32; 14], capture: &[u8], last: &[u32; 7], i: u32) {
     let event = event_at(capture, i);
     let k = kind(event.pins);
     if k == 6 {
         return;
     }
     if last[k] == i {
-        print_event(settings, b"^", i, event);
+        print_event(out, settings, b"^", i, event);
     }
 }
 
-fn print_earlier(settings: &[u32; 14], capture: &[u8], end: u32) {
+fn print_earlier(out: &mut Out, settings: &[u32; 14], capture: &[u8], end: u32) {
     let last = last_of_each(capture, end);
     for i in 0..end {
-        print_if_last(settings, capture, &last, i);
+        print_if_last(out, settings, capture, &last, i);
     }
 }
 
@@ -238,20 +228,20 @@ fn end_listed(broken: u32, n: u32) -> u32
     broken + FROM_BROKEN
 }
 
-fn print_listed(settings: &[u32; 14], capture: &[u8], broken: u32, i: u32) {
+fn print_listed(out: &mut Out, settings: &[u32; 14], capture: &[u8], broken: u32, i: u32) {
     let event = event_at(capture, i);
     if i == broken {
-        print_event(settings, b">", i, event);
+        print_event(out, settings, b">", i, event);
         return;
     }
-    print_event(settings, b" ", i, event);
+    print_event(out, settings, b" ", i, event);
 }
 
-pub fn print_around(settings: &[u32; 14], capture: &[u8], broken: u32, n: u32) {
+pub fn print_around(out: &mut Out, settings: &[u32; 14], capture: &[u8], broken: u32, n: u32) {
     let first = first_listed(broken);
-    print_earlier(settings, capture, first);
+    print_earlier(out, settings, capture, first);
     let end = end_listed(broken, n);
     for i in first..end {
-        print_listed(settings, capture, broken, i);
+        print_listed(out, settings, capture, broken, i);
     }
 }

@@ -11,7 +11,7 @@
 // Lane code 1, two lanes, every cell ccdd at first: the low halves, where bits 0 and 1 of the mask decide. So cell 1 becomes
 // cc54, cell 2 becomes 6314, cell 3 becomes 7374, and cell 0 stays cc34.
 use cells::Listed;
-use console::say;
+use console::plain::say;
 use schedule::Scheduled;
 
 const REQUESTS: [u32; 4] = [0x8000_0002, 1, 0x8000_0001, 0];
@@ -44,10 +44,10 @@ const MASKS: [u32; 8] = [
 fn print_word(lane_code: u32, word: u32) {
     say(b" ");
     if lane_code == 1 {
-        console::print_word(word, 4);
+        console::plain::print_word(word, 4);
         return;
     }
-    console::print_word(word, 8);
+    console::plain::print_word(word, 8);
 }
 
 // ---- the part

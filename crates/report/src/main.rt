@@ -1,68 +1,62 @@
 // The report: a capture on standard input, what document 01 says of it on standard output.
-use console::at_end;
+use console::Input;
+use console::Out;
+use console::complain;
+use console::read_input;
 use console::say;
 use console::say_number;
 use judge::Verdict;
-use libc::STDERR_FILENO;
-use libc::STDIN_FILENO;
 
 // One byte more than the longest capture, so that a longer input is seen to be too long and nothing is judged in part.
 const ROOM: usize = 64_081;
 
-fn print_counts(events: u32, judged: u32) {
-    say_number(b"events ", events);
-    say_number(b"\njudged ", judged);
+fn print_counts(out: &mut Out, events: u32, judged: u32) {
+    say_number(out, b"events ", events);
+    say_number(out, b"\njudged ", judged);
 }
 
-fn print_verdict(events: u32, v: Verdict) {
+fn print_verdict(out: &mut Out, v: Verdict) {
     match v {
         Verdict::Refused { number, place } => {
-            say_number(b"refused ", number);
-            say_number(b" place ", place);
+            say_number(out, b"refused ", number);
+            say_number(out, b" place ", place);
         }
-        Verdict::Clean { judged } => {
-            print_counts(events, judged);
-            say(b"\nclean");
+        Verdict::Clean { events, judged } => {
+            print_counts(out, events, judged);
+            say(out, b"\nclean");
         }
         Verdict::Broken {
+            events,
+            judged,
             rule,
             event,
             cycle,
-            judged,
         } => {
-            print_counts(events, judged);
-            say_number(b"\nbroken rule ", rule);
-            say_number(b" event ", event);
-            say_number(b" cycle ", cycle);
+            print_counts(out, events, judged);
+            say_number(out, b"\nbroken rule ", rule);
+            say_number(out, b" event ", event);
+            say_number(out, b" cycle ", cycle);
         }
     }
-    say(b"\n");
+    say(out, b"\n");
 }
 
-// N of an accepted capture: its events are all that follows byte 80, eight bytes each.
-fn events_in(capture: &[u8]) -> u32 {
-    let n = capture.len();
-    if n < 80 {
-        return 0;
-    }
-    ((n - 80) / 8 % 65_536) as u32
-}
-
-fn report(capture: &[u8]) {
-    print_verdict(events_in(capture), judge::judge(capture));
+fn report(out: &mut Out, capture: &[u8]) {
+    print_verdict(out, judge::judge(capture));
 }
 
 fn main() {
-    let mut buffer = [0u8; 64_081];
-    let n = io::read_full(STDIN_FILENO, &mut buffer);
-    if n < ROOM {
-        if !at_end() {
-            io::write_all(
-                STDERR_FILENO,
-                b"report: standard input could not be read to its end; nothing was judged\n",
-            );
-            return;
-        }
+    let mut buffer = [0u8; ROOM];
+    let input = read_input(&mut buffer);
+    let Input::Whole(n) = input else {
+        complain(b"report: standard input could not be read to its end; nothing was judged\n");
+        return;
+    };
+    let mut out: Out = true;
+    report(&mut out, &buffer[..n]);
+    if !out {
+        complain(
+            b"report: standard output could not be written to its end; what was printed is not whole\n",
+        );
     }
-    report(&buffer[..n]);
 }

@@ -1,7 +1,7 @@
 // Schedules of small and of the longest lists, each judged by the judge: case m of document 01 ("01" below), and lists
 // whose schedules are worked out beside them, for 01's settings: tRCD 3, tRP 3, tRAS 7, tRC 10, tRFC 12, bursts of 2 pairs.
-use console::print;
-use console::say;
+use console::plain::print;
+use console::plain::say;
 use judge::Verdict;
 use schedule::Scheduled;
 
@@ -76,16 +76,11 @@ fn print_judged(capture: &[u8]) {
     let verdict = judge::judge(capture);
     match verdict {
         Verdict::Refused { number, place } => say(b", WRONG: refused"),
-        Verdict::Clean { judged } => {
+        Verdict::Clean { judged, .. } => {
             say(b", clean, judged ");
             print(judged);
         }
-        Verdict::Broken {
-            rule,
-            event,
-            cycle,
-            judged,
-        } => say(b", WRONG: broken"),
+        Verdict::Broken { .. } => say(b", WRONG: broken"),
     }
 }
 

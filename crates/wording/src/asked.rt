@@ -1,50 +1,59 @@
 // What a broken rule asks, in a sentence with the settings that it looks at.
+use console::Out;
 use console::say;
 use console::say_number;
 
-fn ask(before: &[u8], setting: u32, after: &[u8]) {
-    say_number(before, setting);
-    say(after);
+fn ask(out: &mut Out, before: &[u8], setting: u32, after: &[u8]) {
+    say_number(out, before, setting);
+    say(out, after);
 }
 
-fn ask_after_refresh_and_mode_set(settings: &[u32; 14]) {
+fn ask_after_refresh_and_mode_set(out: &mut Out, settings: &[u32; 14]) {
     ask(
+        out,
         b"a command at least tRFC (",
         settings[11],
         b") cycles after the last AUTO REFRESH",
     );
     ask(
+        out,
         b" and tMRD (",
         settings[12],
         b") after the last MODE REGISTER SET",
     );
 }
 
-fn ask_of_rows(settings: &[u32; 14], rule: u32) {
+fn ask_of_rows(out: &mut Out, settings: &[u32; 14], rule: u32) {
     match rule {
         1 => ask(
+            out,
             b"the row of an ACTIVE fits in the row bits (",
             settings[1],
             b"); its pins above them are low",
         ),
         2 => say(
+            out,
             b"MODE REGISTER SET writes a burst length of 2 to 16 and a CAS latency of 2 or 3, with A7 to A13 low, to register 00, or anything to register 10",
         ),
         3 => say(
+            out,
             b"ACTIVE finds its bank idle, READ and WRITE find theirs open, AUTO REFRESH and MODE REGISTER SET find all idle",
         ),
-        4 => ask_after_refresh_and_mode_set(settings),
+        4 => ask_after_refresh_and_mode_set(out, settings),
         5 => ask(
+            out,
             b"ACTIVE at least tRP (",
             settings[5],
             b") cycles after its bank's precharge; AUTO REFRESH and MODE REGISTER SET after every bank's",
         ),
         6 => ask(
+            out,
             b"ACTIVE at least tRC (",
             settings[7],
             b") cycles after the bank's last ACTIVE",
         ),
         _ => ask(
+            out,
             b"ACTIVE at least tRRD (",
             settings[8],
             b") cycles after the last ACTIVE of another bank",
@@ -52,35 +61,42 @@ fn ask_of_rows(settings: &[u32; 14], rule: u32) {
     }
 }
 
-fn ask_of_bursts(settings: &[u32; 14], rule: u32) {
+fn ask_of_bursts(out: &mut Out, settings: &[u32; 14], rule: u32) {
     match rule {
         8 => ask(
+            out,
             b"READ or WRITE at least tRCD (",
             settings[4],
             b") cycles after the bank's ACTIVE",
         ),
         9 => ask(
+            out,
             b"PRECHARGE at least tRAS (",
             settings[6],
             b") cycles after the ACTIVE of each row that it closes",
         ),
         10 => ask(
+            out,
             b"PRECHARGE at least tWR (",
             settings[9],
             b") cycles after the last write data of each row that it closes",
         ),
         11 => ask(
+            out,
             b"READ at least tWTR (",
             settings[10],
             b") cycles after the last write data, of whatever bank",
         ),
         12 => say(
+            out,
             b"WRITE, AUTO REFRESH or MODE REGISTER SET not before the data of the last READ has left the bus",
         ),
         13 => say(
+            out,
             b"READ does not cut a read with auto precharge, WRITE not a write with auto precharge, BURST TERMINATE neither such a read nor any write",
         ),
         _ => ask(
+            out,
             b"every event at most GAP (",
             settings[13],
             b") cycles after the last AUTO REFRESH, or after cycle 0 if there was none",
@@ -88,13 +104,13 @@ fn ask_of_bursts(settings: &[u32; 14], rule: u32) {
     }
 }
 
-pub fn print_rule(settings: &[u32; 14], rule: u32) {
-    say_number(b"rule ", rule);
-    say(b": ");
+pub fn print_rule(out: &mut Out, settings: &[u32; 14], rule: u32) {
+    say_number(out, b"rule ", rule);
+    say(out, b": ");
     if rule < 8 {
-        ask_of_rows(settings, rule);
+        ask_of_rows(out, settings, rule);
     } else {
-        ask_of_bursts(settings, rule);
+        ask_of_bursts(out, settings, rule);
     }
-    say(b"\n");
+    say(out, b"\n");
 }

@@ -1,48 +1,52 @@
 // The lines of the settings.
+use console::Out;
 use console::say;
 use console::say_number;
 use console::say_word;
 ghost use mathlib.Core.Path.{_≡_};
 ghost use Rattle.reading.specs.Mode.{BL, interleaved as isInterleaved, CL};
+ghost use Rattle.wording.specs.Values.{shown};
 
 const MODE: u32 = 3;
 
 // The fourteen settings; zeros where there is no room for them, as in no capture whose settings were looked at.
-pub fn settings_of(capture: &[u8]) -> [u32; 14] {
+pub fn settings_of(capture: &[u8]) -> [u32; 14]
+    ensures { λ r. ⌜ r ≡ shown (now (capture .entry)) ⌝ }
+{
     if capture.len() < 80 {
         return [0; 14];
     }
     capture::setting_words(capture)
 }
 
-fn say_name(i: u32) {
+fn say_name(out: &mut Out, i: u32) {
     match i {
-        0 => say(b"lane code"),
-        1 => say(b"row bits"),
-        2 => say(b"column bits"),
-        3 => say(b"mode word"),
-        4 => say(b"tRCD"),
-        5 => say(b"tRP"),
-        6 => say(b"tRAS"),
-        7 => say(b"tRC"),
-        8 => say(b"tRRD"),
-        9 => say(b"tWR"),
-        10 => say(b"tWTR"),
-        11 => say(b"tRFC"),
-        12 => say(b"tMRD"),
-        _ => say(b"GAP"),
+        0 => say(out, b"lane code"),
+        1 => say(out, b"row bits"),
+        2 => say(out, b"column bits"),
+        3 => say(out, b"mode word"),
+        4 => say(out, b"tRCD"),
+        5 => say(out, b"tRP"),
+        6 => say(out, b"tRAS"),
+        7 => say(out, b"tRC"),
+        8 => say(out, b"tRRD"),
+        9 => say(out, b"tWR"),
+        10 => say(out, b"tWTR"),
+        11 => say(out, b"tRFC"),
+        12 => say(out, b"tMRD"),
+        _ => say(out, b"GAP"),
     }
 }
 
-fn say_setting(i: u32, word: u32) {
-    say_number(b"setting ", i);
-    say(b" ");
-    say_name(i);
+fn say_setting(out: &mut Out, i: u32, word: u32) {
+    say_number(out, b"setting ", i);
+    say(out, b" ");
+    say_name(out, i);
     if i == MODE {
-        say_word(b" ", word, 2);
+        say_word(out, b" ", word, 2);
         return;
     }
-    say_number(b" ", word);
+    say_number(out, b" ", word);
 }
 
 fn burst_length(mode: u32) -> u32
@@ -63,36 +67,36 @@ fn latency(mode: u32) -> u32
     mode / 16 % 8
 }
 
-fn say_mode(mode: u32) {
-    say_number(b", burst length ", burst_length(mode));
+fn say_mode(out: &mut Out, mode: u32) {
+    say_number(out, b", burst length ", burst_length(mode));
     if interleaved(mode) {
-        say(b", interleaved");
+        say(out, b", interleaved");
     } else {
-        say(b", sequential");
+        say(out, b", sequential");
     }
-    say_number(b", CAS latency ", latency(mode));
+    say_number(out, b", CAS latency ", latency(mode));
 }
 
-fn print_setting(i: u32, word: u32) {
-    say_setting(i, word);
+fn print_setting(out: &mut Out, i: u32, word: u32) {
+    say_setting(out, i, word);
     if i == MODE {
-        say_mode(word);
+        say_mode(out, word);
     }
-    say(b"\n");
+    say(out, b"\n");
 }
 
-pub fn print_settings(settings: &[u32; 14]) {
+pub fn print_settings(out: &mut Out, settings: &[u32; 14]) {
     for i in 0..14 {
-        print_setting(i as u32, settings[i]);
+        print_setting(out, i as u32, settings[i]);
     }
 }
 
 // The setting that was refused.
-pub fn print_refused(capture: &[u8], i: u32) {
+pub fn print_refused(out: &mut Out, capture: &[u8], i: u32) {
     let settings = settings_of(capture);
     if 14 <= i {
         return;
     }
-    say_setting(i, settings[i as usize]);
-    say(b"\n");
+    say_setting(out, i, settings[i as usize]);
+    say(out, b"\n");
 }

@@ -4,10 +4,10 @@ use Rattle.listing.proofs.events.print_around.Statement.{statement}
 use Rattle.listing.proofs.events.print_around.Tie as tie
 
 abbrev Inv-loop : tie.InvT-loop
-Inv-loop settings capture broken n first end i₀ i = Unit {0}
+Inv-loop out₀ settings capture broken n first end i₀ out i = Unit {0}
 
 abbrev μ-loop : tie.MeasureT-loop
-μ-loop settings capture broken n first end i₀ i = end - i
+μ-loop out₀ settings capture broken n first end i₀ out i = end - i
 
 first-listed-requires : tie.Need-first-listed-requires Inv-loop μ-loop
 first-listed-requires c κs = tt

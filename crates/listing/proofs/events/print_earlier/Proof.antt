@@ -4,10 +4,10 @@ use Rattle.listing.proofs.events.print_earlier.Statement.{statement}
 use Rattle.listing.proofs.events.print_earlier.Tie as tie
 
 abbrev Inv-loop : tie.InvT-loop
-Inv-loop settings capture end last i₀ i = i ≤ end
+Inv-loop out₀ settings capture end last i₀ out i = i ≤ end
 
 abbrev μ-loop : tie.MeasureT-loop
-μ-loop settings capture end last i₀ i = end - i
+μ-loop out₀ settings capture end last i₀ out i = end - i
 
 last-of-each-requires : tie.Need-last-of-each-requires Inv-loop μ-loop
 last-of-each-requires c κs = tt

@@ -4,10 +4,10 @@ use Rattle.wording.proofs.values.print_settings.Statement.{statement}
 use Rattle.wording.proofs.values.print_settings.Tie as tie
 
 abbrev Inv-loop : tie.InvT-loop
-Inv-loop settings i₀ i = i ≤ 14
+Inv-loop out₀ settings i₀ out i = i ≤ 14
 
 abbrev μ-loop : tie.MeasureT-loop
-μ-loop settings i₀ i = 14 - i
+μ-loop out₀ settings i₀ out i = 14 - i
 
 loop-holds : tie.Need-loop-holds Inv-loop μ-loop
 loop-holds c = omega arith

@@ -1,0 +1,11 @@
+-- The settings that are shown.
+use Prim.Native.Nat.{ℕ}
+use mathlib.Core.Bool.{cond}
+use mathlib.Core.List.{List}
+use lib.Dec.{ltb}
+use lib.ListN.{length, replicate}
+use Rattle.reading.specs.Capture.{settingWords}
+
+-- the fourteen of a capture; zeros where there is no room for them
+abbrev pub shown : List ℕ → List ℕ
+shown capture = cond (ltb (length capture) 80) (replicate 14 0) (settingWords capture)

@@ -1,0 +1,243 @@
+#!/usr/bin/env python3
+"""Runs the report and the listing with reads and writes that fail. Where all can be read and written, they have to print
+the right text and no complaint; where standard input fails, nothing and a complaint; where standard output fails, the right
+text up to some byte, and a complaint.
+
+`stub.c` fails each read and each write in turn, in every way; the rest are failures that systems have: a connection that is
+reset, a pipe that is nearly full, a disk that is, and streams that are closed."""
+import errno
+import fcntl
+import functools
+import os
+import resource
+import socket
+import subprocess
+import sys
+import tempfile
+
+HERE = os.path.dirname(os.path.abspath(__file__))
+ROOT = os.path.join(HERE, "..", "..")
+sys.path[:0] = [os.path.join(HERE, ".."), os.path.join(HERE, "..", "listing")]
+import rendering
+from captures import ACTIVE, NOP, READ, USUAL, capture, setting
+from running import program
+
+STUB = os.path.join(ROOT, "target", "faults", "stub.so")
+INPUT, OUTPUT, ERRORS = 0, 1, 2
+
+CLEAN = [(0, ACTIVE), (3, READ)]
+BROKEN = [(12, ACTIVE), (13, READ), (20, NOP)]
+REFUSED = capture([], setting(1, 15))
+
+# Each program on each capture, and the right text.
+RUNS = [
+    ("report", capture(CLEAN), "events 2\njudged 2\nclean\n"),
+    ("report", capture(BROKEN), "events 3\njudged 1\nbroken rule 8 event 1 cycle 13\n"),
+    ("report", REFUSED, "refused 3 place 1\n"),
+    ("listing", capture(CLEAN), rendering.clean(CLEAN, USUAL)),
+    ("listing", capture(BROKEN), rendering.broken(BROKEN, USUAL, 8, 1)),
+    ("listing", REFUSED, rendering.refused(REFUSED, 3, 1)),
+]
+
+# How a call fails: with what, how often in a row, and whether the program has to go on. 0 is a call that moves one byte.
+WAYS = [
+    ("an error", errno.EIO, 1, False),
+    ("would block", errno.EAGAIN, 1, False),
+    ("interrupted for ever", errno.EINTR, 1 << 30, False),
+    ("interrupted once", errno.EINTR, 1, True),
+    ("one byte", 0, 1, True),
+]
+
+held = []
+
+
+def expect(holds, what, run):
+    held.append(holds)
+    if not holds:
+        print(f"WRONG {what}: {run.stdout!r} {run.stderr!r}")
+
+
+def complaint(name, descriptor):
+    if descriptor == INPUT:
+        return f"{name}: standard input could not be read to its end; nothing was judged\n".encode()
+    return f"{name}: standard output could not be written to its end; what was printed is not whole\n".encode()
+
+
+def expect_right(what, text, run):
+    expect(run.stdout == text.encode() and run.stderr == b"", what, run)
+
+
+def expect_nothing(what, name, run):
+    expect(run.stdout == b"" and run.stderr == complaint(name, INPUT), what, run)
+
+
+def expect_start(what, name, text, run):
+    """Some of the text and not all."""
+    starts = run.stdout != text.encode() and text.encode().startswith(run.stdout)
+    expect(starts and run.stderr == complaint(name, OUTPUT), what, run)
+
+
+def expect_start_or_all(what, name, text, run):
+    if run.stdout == text.encode():
+        expect_right(what, text, run)
+    else:
+        expect_start(what, name, text, run)
+
+
+# ---- ways to run a program
+
+@functools.cache
+def command(name, preload=""):
+    """What tests/program runs, asked once, since the programs are started some thousand times."""
+    environment = dict(os.environ, SHOW="1", PRELOAD=preload)
+    return subprocess.run(program(name), env=environment, stdout=subprocess.PIPE, text=True, check=True).stdout.splitlines()
+
+
+def given(words, source, **streams):
+    """A run of a command with the file behind a descriptor as standard input."""
+    os.lseek(source, 0, os.SEEK_SET)
+    streams = {"stdout": subprocess.PIPE, **streams}
+    return subprocess.run(words, stdin=source, stderr=subprocess.PIPE, timeout=60, **streams)
+
+
+def changed(name, source, descriptor, at, error, times, piece=0):
+    """A run with the stub, and how many calls it changed."""
+    noted, note = os.pipe()
+    asked = {"FD": descriptor, "AT": at, "ERRNO": error, "TIMES": times, "PIECE": piece, "NOTE": note}
+    environment = dict(os.environ, **{"FAULT_" + key: str(value) for key, value in asked.items()})
+    run = given(command(name, STUB), source, env=environment, pass_fds=[note])
+    os.close(note)
+    with open(noted, "rb") as notes:
+        return run, len(notes.read())
+
+
+def printed(run, reading):
+    """The run with what was read behind its standard output."""
+    return subprocess.CompletedProcess(run.args, run.returncode, reading, run.stderr)
+
+
+# ---- every call in turn
+
+def every_read(name, source, size, text):
+    """Pieces of 40 bytes: a read fails before the first, between two, and in place of the end."""
+    for way, error, times, goes_on in WAYS:
+        at, count = 0, 1
+        while count:
+            run, count = changed(name, source, INPUT, at, error, times, piece=40)
+            what = f"{name}, read {at} of {size} bytes, {way}"
+            if goes_on or not count:
+                expect_right(what, text, run)
+            else:
+                expect_nothing(what, name, run)
+            at += 1
+        expect(at - 1 > size / 40, f"{name}, {way}: {at - 1} reads of {size} bytes", run)
+
+
+def every_write(name, source, text, piece):
+    for way, error, times, goes_on in WAYS:
+        at, count, before = 0, 1, -1
+        while count:
+            run, count = changed(name, source, OUTPUT, at, error, times, piece)
+            what = f"{name}, write {at} of {text.splitlines()[-1]!r}, {way}"
+            if goes_on or not count:
+                expect_right(what, text, run)
+            else:
+                expect_start(what, name, text, run)
+                expect(before < len(run.stdout), what + ": no more than before", run)
+                before = len(run.stdout)
+            at += 1
+        expect(at > 5, f"{name}, {way}: {at - 1} writes of {text.splitlines()[-1]!r}", run)
+
+
+def complaint_goes_on(name):
+    """A folder cannot be read; the complaint is interrupted, or goes out a byte first."""
+    folder = os.open(HERE, os.O_RDONLY)
+    for way, error, times, goes_on in WAYS:
+        if goes_on:
+            run, count = changed(name, folder, ERRORS, 0, error, times)
+            expect_nothing(f"{name}, the complaint, {way}", name, run)
+            expect(count == 1, f"{name}, the complaint, {way}: {count} calls changed", run)
+    os.close(folder)
+
+
+# ---- failures that systems have
+
+def reset(name, data, pair, kind):
+    """The peer closes while something sent to it is unread: what it sent arrives, one read fails, and then comes the end."""
+    ours, theirs = pair
+    theirs.sendall(b"never read")
+    ours.recv(1)
+    ours.sendall(data)
+    ours.close()
+    run = subprocess.run(command(name), stdin=theirs, capture_output=True, timeout=60)
+    theirs.close()
+    expect_nothing(f"{name}, {kind} reset behind {len(data)} bytes", name, run)
+
+
+def connection():
+    with socket.create_server(("127.0.0.1", 0)) as server:
+        theirs = socket.create_connection(server.getsockname())
+        return server.accept()[0], theirs
+
+
+def nearly_full_pipe(name, source, text, room):
+    reading, writing = os.pipe()
+    size = fcntl.fcntl(writing, fcntl.F_SETPIPE_SZ, 4096)
+    os.set_blocking(writing, False)
+    os.write(writing, b"." * (size - room))
+    run = given(command(name), source, stdout=writing)
+    os.close(writing)
+    with open(reading, "rb") as pipe:
+        run = printed(run, pipe.read()[size - room:])
+    expect_start_or_all(f"{name}, a pipe with room for {room} of {len(text)} bytes", name, text, run)
+
+
+def nearly_full_disk(name, source, text, room):
+    """A limit on the size of files: a write goes as far as it, and the next fails."""
+    def limit():
+        resource.setrlimit(resource.RLIMIT_FSIZE, (room, room))
+    with tempfile.TemporaryFile() as f:
+        run = given(command(name), source, stdout=f, preexec_fn=limit, restore_signals=False)
+        f.seek(0)
+        run = printed(run, f.read())
+    what = f"{name}, a file that takes {room} of {len(text)} bytes"
+    expect_start(what, name, text, run)
+    expect(len(run.stdout) == room, what + ": not all that it takes", run)
+
+
+def full_and_closed(name, source, text):
+    with open("/dev/full", "wb") as full:
+        run = given(command(name), source, stdout=full)
+    expect_start(f"{name}, /dev/full", name, text, printed(run, b""))
+    run = given(["sh", "-c", 'exec "$0" "$@" >&-'] + command(name), source)
+    expect_start(f"{name}, standard output closed", name, text, run)
+
+
+def everything(name, data, text):
+    reset(name, data, socket.socketpair(), "a socket pair")
+    reset(name, data, connection(), "a connection")
+    with tempfile.TemporaryFile() as f:
+        f.write(data)
+        f.flush()
+        source = f.fileno()
+        every_read(name, source, len(data), text)
+        every_write(name, source, text, 1 if len(text) < 100 else 0)
+        for room in range(0, len(text) + 2, len(text) // 30 + 1):
+            nearly_full_pipe(name, source, text, room)
+        for room in range(0, len(text), len(text) // 10):
+            nearly_full_disk(name, source, text, room)
+        full_and_closed(name, source, text)
+
+
+def main():
+    os.makedirs(os.path.dirname(STUB), exist_ok=True)
+    subprocess.run([os.path.join(ROOT, "tests", "x86"), "library", "-o", STUB, os.path.join(HERE, "stub.c")], check=True)
+    for name, data, text in RUNS:
+        everything(name, data, text)
+    for name in ("report", "listing"):
+        complaint_goes_on(name)
+    print(f"faults: {len(held)} expectations, {held.count(False)} wrong")
+    return 0 if all(held) else 1
+
+
+sys.exit(main())
