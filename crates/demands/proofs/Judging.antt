@@ -58,12 +58,6 @@ verdictOfAnswer : Answer Report → is.Verdict
 verdictOfAnswer (refused number place) = is.clean
 verdictOfAnswer (answered r) = r .verdict
 
--- Demand 1: a capture is refused exactly with the number and the place of document 01's table.
-pub refused-so : (capture : List ℕ) (number place : ℕ) → accepted capture (answered (tt {0})) ≡ refused number place →
-    (r : Verdict) → Judges capture r → r ≡ Refused number place
-unfolding judgeAnswer
-refused-so capture number place h r a = one-answer capture r (Refused number place) a (sym (refused-rest capture _ h))
-
 module _ (capture : List ℕ) (open-to : accepted capture (answered (tt {0})) ≡ answered tt) (r : Verdict) (allowed : Judges capture r) where
   abbrev s : Settings
   s = settingsIn capture

@@ -4,8 +4,7 @@ use console::say;
 use console::say_number;
 use console::say_word;
 ghost use mathlib.Core.Path.{_≡_};
-ghost use Prim.Native.Nat.{_+_, _-_, _%_, _<_, min};
-ghost use lib.ListN.{length};
+ghost use Prim.Native.Nat.{_+_, _-_, _<_, min};
 ghost use Rattle.part.specs.Steps.{codeOf, addressOf, tenOf};
 ghost use Rattle.listing.specs.Kinds.{kindOf};
 
