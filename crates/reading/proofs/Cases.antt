@@ -1,7 +1,8 @@
 -- Worked cases: pin words and captures as a person would write them, and what is said of a capture.
 -- The cases stand below in Cases/: each list is one statement, and holds by computation.
-use Prim.Native.Nat.{ℕ, _*_}
-use mathlib.Core.List.{List, [], _∷_}
+use Prim.Native.Nat.{ℕ, _+_, _*_}
+use mathlib.Core.List.{List, [], _∷_, map}
+use mathlib.Core.Path.{_≡_}
 use Rattle.reading.specs.Words.{wordAt, wordBytes, bytesOf}
 use Rattle.reading.specs.Settings.{settingFits, badSetting}
 use Rattle.reading.specs.Capture.{Event, settingWords, eventsOf, badLength, goodHeader, eventFits, badEvent}
@@ -12,7 +13,11 @@ use Rattle.reading.specs.Schedule.{captureOf, eventWords}
 use Rattle.reading.specs.Answers.{Answer, refused, answered, Report, accepted, judgeAnswer, verdictIn, cellsIn}
 mod Document
 mod Readings
+mod Clauses
+mod Effects
 mod Refusals
+mod Limits
+mod Bytes
 mod Schedules
 mod Memories
 
@@ -60,6 +65,10 @@ at t w = record { cycle = t; pins = w }
 abbrev usual : List ℕ
 usual = 1 ∷ 13 ∷ 10 ∷ 0x32 ∷ 3 ∷ 3 ∷ 7 ∷ 10 ∷ 2 ∷ 3 ∷ 1 ∷ 12 ∷ 2 ∷ 1000 ∷ []
 
+-- the cells of an uncut burst of four that starts with its block
+abbrev four : ℕ → List ℕ
+four c = c ∷ (c + 1) ∷ (c + 2) ∷ (c + 3) ∷ []
+
 -- what is said of a capture
 data Said : Type 0 where
   -- number, place
@@ -95,3 +104,7 @@ under settings es o = record { capture = captureOf settings es; says = o }
 
 abbrev bytes : List ℕ → Said → Case
 bytes capture o = record { capture = capture; says = o }
+
+-- of each capture is said what its case says
+abbrev Hold : List Case → Type 0
+Hold cases = map (λ x. said (x .capture)) cases ≡ map (λ x. x .says) cases
