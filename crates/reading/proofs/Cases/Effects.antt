@@ -16,6 +16,9 @@ autoPrecharges =
     -- a burst of eight: 3 + 1 + 4 + 3, and tRP
     ∷ lineUnder (set usual 3 0x33) (at 0 ACTIVE ∷ at 3 (WRITE + A10) ∷ at 13 ACTIVE ∷ []) (breaks 2 5 2 13)
     ∷ lineUnder (set usual 3 0x33) (at 0 ACTIVE ∷ at 3 (WRITE + A10) ∷ at 14 ACTIVE ∷ []) (touches 3 (four 0 ++ four 4))
+    -- so it is where the length was set before: 5 + 1 + 4 + 3, and tRP
+    ∷ line (at 0 (MODE + 0x33) ∷ at 2 ACTIVE ∷ at 5 (WRITE + A10) ∷ at 15 ACTIVE ∷ []) (breaks 3 5 3 15)
+    ∷ line (at 0 (MODE + 0x33) ∷ at 2 ACTIVE ∷ at 5 (WRITE + A10) ∷ at 16 ACTIVE ∷ []) (touches 4 (four 0 ++ four 4))
     -- a read that ends after tRAS: 6 + 2, and tRP
     ∷ line (at 0 ACTIVE ∷ at 6 (READ + A10) ∷ at 10 ACTIVE ∷ []) (breaks 2 5 2 10)
     ∷ line (at 0 ACTIVE ∷ at 6 (READ + A10) ∷ at 11 ACTIVE ∷ []) (touches 3 (four 0))
