@@ -1,25 +1,28 @@
 -- Every limit of a capture and of a setting, from both sides. A capture of 64,080 bytes is too long to compute, so what its
 -- length and its 8,000 events mean is two laws.
 use Prim.Native.Nat.{ℕ, _+_, _-_}
-use mathlib.Core.List.{List, [], _∷_, _++_}
+use mathlib.Core.List.{List, [], _∷_, _++_, map}
+use mathlib.Core.Option.{Option, none, some}
 use mathlib.Core.Path.{_≡_, refl}
 use lib.ListN.{length, set, take}
 use Rattle.reading.specs.Words.{bytesOf}
-use Rattle.reading.specs.Settings.{badSetting}
+use Rattle.reading.specs.Settings.{settingFits, badSetting}
 use Rattle.reading.specs.Capture.{headerWord, eventCount, settingWords, eventPart, badLength, goodHeader, badEvent}
 use Rattle.reading.specs.Answers.{Answer, refused, unless, accepted}
-use Rattle.reading.proofs.Cases.{NOP, at, usual, refuses, touches, said, Case, case, under, bytes, Hold}
+use Rattle.reading.proofs.Cases.{NOP, at, usual, refuses, touches, said, Case, case, bytes, Hold}
 
--- one row of the table: no event is needed to be refused
-abbrev row : ℕ → ℕ → ℕ → List Case
-row i least most =
-    under (set usual i (least - 1)) [] (refuses 3 i)
-    ∷ under (set usual i least) [] (touches 0 [])
-    ∷ under (set usual i most) [] (touches 0 [])
-    ∷ under (set usual i (most + 1)) [] (refuses 3 i)
-    ∷ []
+-- the usual settings with one word changed, and the lowest that does not fit
+record Fit : Type 0 where
+  settings : List ℕ
+  lacks : Option ℕ
 
-table : List Case
+abbrev word : ℕ → ℕ → Option ℕ → Fit
+word i w o = record { settings = set usual i w; lacks = o }
+
+abbrev row : ℕ → ℕ → ℕ → List Fit
+row i least most = word i (least - 1) (some i) ∷ word i least none ∷ word i most none ∷ word i (most + 1) (some i) ∷ []
+
+table : List Fit
 table =
     row 0 1 2
     ++ row 1 12 14
@@ -34,27 +37,20 @@ table =
     ++ row 11 1 10000
     ++ row 12 1 10000
     ++ row 13 1 1000000
+    -- row 3: the least and the greatest mode word, and words beside each of its fields
+    ++ (word 3 0x21 none
+    ∷ word 3 0x3c none
+    ∷ word 3 0x20 (some 3)
+    ∷ word 3 0x25 (some 3)
+    ∷ word 3 0x14 (some 3)
+    ∷ word 3 0x41 (some 3)
+    ∷ word 3 0x61 (some 3)
+    ∷ word 3 0xa1 (some 3)
+    ∷ [])
 
-each-limit : Hold table
-unfolding table said
+each-limit : map (λ x. badSetting (x .settings)) table ≡ map (λ x. x .lacks) table
+unfolding table badSetting settingFits
 each-limit = refl
-
--- row 3: the least and the greatest mode word, and words beside each of its fields
-modeWords : List Case
-modeWords =
-    under (set usual 3 0x21) [] (touches 0 [])
-    ∷ under (set usual 3 0x3c) [] (touches 0 [])
-    ∷ under (set usual 3 0x20) [] (refuses 3 3)
-    ∷ under (set usual 3 0x25) [] (refuses 3 3)
-    ∷ under (set usual 3 0x14) [] (refuses 3 3)
-    ∷ under (set usual 3 0x41) [] (refuses 3 3)
-    ∷ under (set usual 3 0x61) [] (refuses 3 3)
-    ∷ under (set usual 3 0xa1) [] (refuses 3 3)
-    ∷ []
-
-mode-words : Hold modeWords
-unfolding modeWords said
-mode-words = refl
 
 shapes : List Case
 shapes =
