@@ -1,18 +1,24 @@
 -- Worked cases: pin words and captures as a person would write them, and what is said of a capture.
 -- The cases stand below in Cases/: each list is one statement, and holds by computation.
-use Prim.Native.Nat.{ℕ, _*_}
-use mathlib.Core.List.{List, [], _∷_}
+use Prim.Native.Nat.{ℕ, _+_, _*_}
+use mathlib.Core.List.{List, [], _∷_, map}
+use mathlib.Core.Path.{_≡_}
+use lib.ListN.{length}
 use Rattle.reading.specs.Words.{wordAt, wordBytes, bytesOf}
-use Rattle.reading.specs.Settings.{settingFits, badSetting}
+use Rattle.reading.specs.Settings.{Settings, settingsOf, settingFits, badSetting}
 use Rattle.reading.specs.Capture.{Event, settingWords, eventsOf, badLength, goodHeader, eventFits, badEvent}
 use Rattle.reading.specs.Bursts.{burstCells, beatCell, beatColumn, place}
-use Rattle.reading.specs.Verdict.{Verdict, clean, broken, verdictOf, judgeFrom}
+use Rattle.reading.specs.Verdict.{Verdict, clean, broken, verdictOf, judgeFrom, judgedOf}
 use Rattle.reading.specs.Cells.{burstsOf, cellsOf}
 use Rattle.reading.specs.Schedule.{captureOf, eventWords}
 use Rattle.reading.specs.Answers.{Answer, refused, answered, Report, accepted, judgeAnswer, verdictIn, cellsIn}
 mod Document
 mod Readings
+mod Clauses
+mod Effects
 mod Refusals
+mod Limits
+mod Bytes
 mod Schedules
 mod Memories
 
@@ -60,6 +66,10 @@ at t w = record { cycle = t; pins = w }
 abbrev usual : List ℕ
 usual = 1 ∷ 13 ∷ 10 ∷ 0x32 ∷ 3 ∷ 3 ∷ 7 ∷ 10 ∷ 2 ∷ 3 ∷ 1 ∷ 12 ∷ 2 ∷ 1000 ∷ []
 
+-- the cells of an uncut burst of four that starts with its block
+abbrev four : ℕ → List ℕ
+four c = c ∷ (c + 1) ∷ (c + 2) ∷ (c + 3) ∷ []
+
 -- what is said of a capture
 data Said : Type 0 where
   -- number, place
@@ -95,3 +105,27 @@ under settings es o = record { capture = captureOf settings es; says = o }
 
 abbrev bytes : List ℕ → Said → Case
 bytes capture o = record { capture = capture; says = o }
+
+-- of each capture is said what its case says
+abbrev Hold : List Case → Type 0
+Hold cases = map (λ x. said (x .capture)) cases ≡ map (λ x. x .says) cases
+
+-- ---- lists of events that no capture is written of, which takes a fifth of the time: for the many cases of single clauses
+
+saidOf : Settings → List Event → Said
+unfolding verdictSaid verdictOf judgeFrom cellsOf burstsOf burstCells beatCell beatColumn place
+saidOf s es = let v = verdictOf s es in verdictSaid (judgedOf (length es) v) (cellsOf s (burstsOf s es)) v
+
+record Line : Type 0 where
+  settings : List ℕ
+  events : List Event
+  says : Said
+
+abbrev line : List Event → Said → Line
+line es o = record { settings = usual; events = es; says = o }
+
+abbrev lineUnder : List ℕ → List Event → Said → Line
+lineUnder settings es o = record { settings = settings; events = es; says = o }
+
+abbrev HoldLines : List Line → Type 0
+HoldLines lines = map (λ x. saidOf (settingsOf (x .settings)) (x .events)) lines ≡ map (λ x. x .says) lines

@@ -1,9 +1,9 @@
 -- Cases a to l of document 01, every line of each.
 use Prim.Native.Nat.{_+_}
-use mathlib.Core.List.{List, [], _∷_, map}
-use mathlib.Core.Path.{_≡_, refl}
+use mathlib.Core.List.{List, [], _∷_}
+use mathlib.Core.Path.{refl}
 use lib.ListN.{set}
-use Rattle.reading.proofs.Cases.{ACTIVE, READ, WRITE, TERMINATE, PRECHARGE, REFRESH, NOP, A10, bank, at, usual, touches, breaks, said, Case, case, under}
+use Rattle.reading.proofs.Cases.{ACTIVE, READ, WRITE, TERMINATE, PRECHARGE, REFRESH, NOP, A10, bank, at, usual, touches, breaks, said, Case, case, under, Hold}
 
 cases : List Case
 cases =
@@ -46,6 +46,6 @@ cases =
     ∷ case (at 0 ACTIVE ∷ at 3 WRITE ∷ at 4 TERMINATE ∷ []) (breaks 2 13 2 4)
     ∷ []
 
-a-to-l : map (λ x. said (x .capture)) cases ≡ map (λ x. x .says) cases
+a-to-l : Hold cases
 unfolding cases said
 a-to-l = refl

@@ -79,19 +79,104 @@ cases =
             left = [];
           };
     }
+    -- four lanes, a different one masked in each beat
+    ∷ record {
+      settings = set usual 0 2;
+      events = at 0 ACTIVE ∷ at 3 WRITE ∷ [];
+      supply = masked 0b0100 0x12345678 ∷ masked 0b0010 0x12345678 ∷ masked 0b1000 0x12345678 ∷ masked 0b0001 0x12345678 ∷ [];
+      sees = record { words = []; cells = 0x12bb5678 ∷ 0x1234cc78 ∷ 0xaa345678 ∷ 0x123456dd ∷ []; left = [] };
+    }
+    -- events in order: a read before the write, and two after it
+    ∷ record {
+      settings = set usual 0 2;
+      events = at 0 ACTIVE ∷ at 3 READ ∷ at 8 WRITE ∷ at 12 READ ∷ at 14 (READ + 1) ∷ [];
+      supply = four;
+      sees =
+          record {
+            words =
+                0xaabbccdd ∷ 0xaabbccdd ∷ 0xaabbccdd ∷ 0xaabbccdd
+                ∷ 0x11111111 ∷ 0x222222dd ∷ 0xaabbcc33 ∷ 0xaabbccdd
+                ∷ 0x222222dd ∷ 0xaabbcc33 ∷ 0xaabbccdd ∷ 0x11111111 ∷ [];
+            cells = 0x11111111 ∷ 0x222222dd ∷ 0xaabbcc33 ∷ 0xaabbccdd ∷ [];
+            left = [];
+          };
+    }
+    -- interleaved from cell 1: cells 1, 0, 3, 2
+    ∷ record {
+      settings = set (set usual 0 2) 3 0x3a;
+      events = at 0 ACTIVE ∷ at 3 (WRITE + 1) ∷ [];
+      supply = four;
+      sees = record { words = []; cells = 0x222222dd ∷ 0x11111111 ∷ 0xaabbccdd ∷ 0xaabbcc33 ∷ []; left = [] };
+    }
     ∷ []
 
 replays : map (λ x. seen (replay (settingsOf (x .settings)) (x .events) (fresh (x .supply)))) cases ≡ map (λ x. x .sees) cases
 unfolding cases four seen said replay replayBursts play storeBeats store load merged
 replays = refl
 
--- the plain memory does a write from cell 2 and a read from cell 1 the same way
-plain-memory :
-    seen (plain (settingsOf (set usual 0 2)) ((0x80000000 + 2) ∷ 1 ∷ []) (fresh four)) ≡
+-- ---- the plain memory, asked by requests
+
+record Asked : Type 0 where
+  settings : List ℕ
+  requests : List ℕ
+  supply : List Datum
+  sees : Seen
+
+asked : List Asked
+asked =
+    -- a write from cell 2 and a read from cell 1
     record {
-      words = 0xaabbccdd ∷ 0x11111111 ∷ 0x222222dd ∷ 0xaabbcc33 ∷ [];
-      cells = 0xaabbcc33 ∷ 0xaabbccdd ∷ 0x11111111 ∷ 0x222222dd ∷ [];
-      left = [];
+      settings = set usual 0 2;
+      requests = (0x80000000 + 2) ∷ 1 ∷ [];
+      supply = four;
+      sees =
+          record {
+            words = 0xaabbccdd ∷ 0x11111111 ∷ 0x222222dd ∷ 0xaabbcc33 ∷ [];
+            cells = 0xaabbcc33 ∷ 0xaabbccdd ∷ 0x11111111 ∷ 0x222222dd ∷ [];
+            left = [];
+          };
     }
-unfolding four seen said plain play storeBeats store load merged
+    -- a write to bank 1, and reads of bank 0, of row 1 and of bank 1
+    ∷ record {
+      settings = set usual 0 2;
+      requests = (0x80000000 + 8388608) ∷ 0 ∷ 1024 ∷ 8388608 ∷ [];
+      supply = four;
+      sees =
+          record {
+            words =
+                0xaabbccdd ∷ 0xaabbccdd ∷ 0xaabbccdd ∷ 0xaabbccdd
+                ∷ 0xaabbccdd ∷ 0xaabbccdd ∷ 0xaabbccdd ∷ 0xaabbccdd
+                ∷ 0x11111111 ∷ 0x222222dd ∷ 0xaabbcc33 ∷ 0xaabbccdd ∷ [];
+            cells = 0xaabbccdd ∷ 0xaabbccdd ∷ 0xaabbccdd ∷ 0xaabbccdd ∷ [];
+            left = [];
+          };
+    }
+    -- a write to row 1, and reads of rows 0 and 1
+    ∷ record {
+      settings = set usual 0 2;
+      requests = (0x80000000 + 1024) ∷ 0 ∷ 1024 ∷ [];
+      supply = four;
+      sees =
+          record {
+            words = 0xaabbccdd ∷ 0xaabbccdd ∷ 0xaabbccdd ∷ 0xaabbccdd ∷ 0x11111111 ∷ 0x222222dd ∷ 0xaabbcc33 ∷ 0xaabbccdd ∷ [];
+            cells = 0xaabbccdd ∷ 0xaabbccdd ∷ 0xaabbccdd ∷ 0xaabbccdd ∷ [];
+            left = [];
+          };
+    }
+    -- interleaved bursts of two: cells 1 and 0, and two words are left; lane code 1
+    ∷ record {
+      settings = set usual 3 0x39;
+      requests = (0x80000000 + 1) ∷ 1 ∷ [];
+      supply = four;
+      sees =
+          record {
+            words = 0x1111 ∷ 0x22dd ∷ [];
+            cells = 0xaabb22dd ∷ 0xaabb1111 ∷ 0xaabbccdd ∷ 0xaabbccdd ∷ [];
+            left = masked 0b1110 0x33333333 ∷ masked 0b1111 0x44444444 ∷ [];
+          };
+    }
+    ∷ []
+
+plain-memory : map (λ x. seen (plain (settingsOf (x .settings)) (x .requests) (fresh (x .supply)))) asked ≡ map (λ x. x .sees) asked
+unfolding asked four seen said plain play storeBeats store load merged
 plain-memory = refl

@@ -1,9 +1,9 @@
 -- What is easy to get wrong, and the readings of document 01 that change some capture's answer (docs/DECISIONS.md).
 use Prim.Native.Nat.{ℕ, _+_}
-use mathlib.Core.List.{List, [], _∷_, map}
-use mathlib.Core.Path.{_≡_, refl}
+use mathlib.Core.List.{List, [], _∷_}
+use mathlib.Core.Path.{refl}
 use lib.ListN.{set}
-use Rattle.reading.proofs.Cases.{ACTIVE, READ, WRITE, TERMINATE, PRECHARGE, REFRESH, MODE, NOP, DESELECT, A10, A11, bank, at, usual, touches, breaks, said, Case, case, under}
+use Rattle.reading.proofs.Cases.{ACTIVE, READ, WRITE, TERMINATE, PRECHARGE, REFRESH, MODE, NOP, DESELECT, A10, A11, bank, at, usual, touches, breaks, said, Case, case, under, Hold}
 
 -- every time 1, BL 2
 abbrev quick : List ℕ
@@ -35,7 +35,7 @@ easyToGetWrong =
     ∷ under (set usual 3 0x3b) (at 0 ACTIVE ∷ at 3 (READ + 14) ∷ []) (touches 2 (14 ∷ 15 ∷ 12 ∷ 13 ∷ 10 ∷ 11 ∷ 8 ∷ 9 ∷ []))
     ∷ []
 
-easy-to-get-wrong : map (λ x. said (x .capture)) easyToGetWrong ≡ map (λ x. x .says) easyToGetWrong
+easy-to-get-wrong : Hold easyToGetWrong
 unfolding easyToGetWrong said
 easy-to-get-wrong = refl
 
@@ -102,6 +102,6 @@ readings =
     ∷ under (set usual 13 12) (at 1 REFRESH ∷ at 14 READ ∷ []) (breaks 1 3 1 14)
     ∷ []
 
-each-reading : map (λ x. said (x .capture)) readings ≡ map (λ x. x .says) readings
+each-reading : Hold readings
 unfolding readings said
 each-reading = refl

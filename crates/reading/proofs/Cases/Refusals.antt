@@ -1,10 +1,10 @@
 -- Refusals 1 to 4: each alone, and several faults at once.
 use Prim.Native.Nat.{ℕ, _+_}
-use mathlib.Core.List.{List, [], _∷_, _++_, map}
-use mathlib.Core.Path.{_≡_, refl}
+use mathlib.Core.List.{List, [], _∷_, _++_}
+use mathlib.Core.Path.{refl}
 use lib.ListN.{set, replicate}
 use Rattle.reading.specs.Words.{bytesOf}
-use Rattle.reading.proofs.Cases.{ACTIVE, READ, NOP, at, usual, refuses, touches, breaks, said, Case, case, under, bytes}
+use Rattle.reading.proofs.Cases.{ACTIVE, READ, NOP, at, usual, refuses, touches, breaks, said, Case, case, under, bytes, Hold}
 
 -- a header word is wrong: the usual settings behind it, and no events
 abbrev wrong : List ℕ → ℕ → ℕ → Case
@@ -51,6 +51,6 @@ refusals =
     ∷ under (set usual 13 0) (at 0 (NOP + 0x100000) ∷ []) (refuses 3 13)
     ∷ []
 
-each-refusal : map (λ x. said (x .capture)) refusals ≡ map (λ x. x .says) refusals
+each-refusal : Hold refusals
 unfolding refusals said
 each-refusal = refl

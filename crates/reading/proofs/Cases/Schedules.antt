@@ -2,9 +2,10 @@
 use Prim.Native.Nat.{ℕ, _+_}
 use mathlib.Core.List.{List, [], _∷_, _++_, map}
 use mathlib.Core.Path.{_≡_, refl}
-use lib.ListN.{set, replicate}
+use lib.ListN.{set, take, replicate}
+use Rattle.reading.specs.Settings.{settingsOf}
 use Rattle.reading.specs.Capture.{Event}
-use Rattle.reading.specs.Schedule.{captureOf, requestFits, badRequest, passes, earliest, freeFrom, placed, send, sendRequest, refreshInTime, served, scheduleFrom, scheduleOf}
+use Rattle.reading.specs.Schedule.{captureOf, activePins, burstPins, requestFits, badRequest, passes, earliest, freeFrom, placed, send, sendRequest, refreshInTime, served, scheduleFrom, scheduleOf}
 use Rattle.reading.specs.Answers.{Outcome, refused, answered, cellsOutcome, scheduleOutcome}
 use Rattle.reading.proofs.Cases.{ACTIVE, READ, WRITE, REFRESH, A10, A11, bank, at, usual, said}
 
@@ -47,14 +48,41 @@ cases =
     ∷ writing usual [] 80 1 []
     -- column bit 10 goes to A11, the row to A0-A13
     ∷ writing (set (set usual 1 14) 2 11) (0x800fff ∷ []) 96 0 (at 0 (ACTIVE + 0x1001) ∷ at 3 (READ + A10 + A11 + 0x3ff) ∷ [])
+    -- the last cell of the usual part and of the largest, and (2 x 4096 + 7) x 256 + 9
+    ∷ writing usual (0x1ffffff ∷ []) 96 0 (at 0 (ACTIVE + bank 3 + 0x1fff) ∷ at 3 (READ + A10 + bank 3 + 0x3ff) ∷ [])
+    ∷ writing (set (set usual 1 14) 2 11) (0x7ffffff ∷ []) 96 0
+    (at 0 (ACTIVE + bank 3 + 0x3fff) ∷ at 3 (READ + A10 + A11 + bank 3 + 0x3ff) ∷ [])
+    ∷ writing (set (set usual 1 12) 2 8) ((0x80000000 + 2098953) ∷ []) 96 0
+    (at 0 (ACTIVE + bank 2 + 7) ∷ at 3 (WRITE + A10 + bank 2 + 9) ∷ [])
+    -- bursts of sixteen wait for their like: 3 + 8
+    ∷ writing (set usual 3 0x34) (0 ∷ 8388608 ∷ []) 112 0
+    (at 0 ACTIVE ∷ at 3 (READ + A10) ∷ at 4 (ACTIVE + bank 1) ∷ at 11 (READ + A10 + bank 1) ∷ [])
+    -- an AUTO REFRESH after the read could come at 0 + 7 + 3, after the write at 3 + 1 + 2 + 3 + 3: GAP just so, and one less
+    ∷ writing (set usual 13 10) (5 ∷ []) 96 0 (at 0 ACTIVE ∷ at 3 (READ + A10 + 5) ∷ [])
+    ∷ refusing (set usual 13 9) (5 ∷ []) [] 6 0
+    ∷ writing (set usual 13 12) (0x80000000 ∷ []) 96 0 (at 0 ACTIVE ∷ at 3 (WRITE + A10) ∷ [])
+    ∷ refusing (set usual 13 11) (0x80000000 ∷ []) [] 6 0
+    -- tRFC 5: after a second read at 10 + 7 + 3, and with an AUTO REFRESH at 10 before it at 15 + 7 + 3
+    ∷ writing (set (set usual 11 5) 13 20) (5 ∷ 5 ∷ []) 112 0 (at 0 ACTIVE ∷ at 3 (READ + A10 + 5) ∷ at 10 ACTIVE ∷ at 13 (READ + A10 + 5) ∷ [])
+    ∷ writing (set (set usual 11 5) 13 19) (5 ∷ 5 ∷ []) 120 0
+    (at 0 ACTIVE ∷ at 3 (READ + A10 + 5) ∷ at 10 REFRESH ∷ at 15 ACTIVE ∷ at 18 (READ + A10 + 5) ∷ [])
+    ∷ writing (set (set usual 11 5) 13 15) (5 ∷ 5 ∷ []) 120 0
+    (at 0 ACTIVE ∷ at 3 (READ + A10 + 5) ∷ at 10 REFRESH ∷ at 15 ACTIVE ∷ at 18 (READ + A10 + 5) ∷ [])
+    ∷ refusing (set (set usual 11 5) 13 14) (5 ∷ 5 ∷ []) [] 6 1
     -- 2, 3, 5: settings, then requests, all of them before any is placed
     ∷ refusing [] [] [] 2 0
+    ∷ refusing (take 13 usual) [] [] 2 0
     ∷ refusing (usual ++ (0 ∷ [])) (0x78000000 ∷ []) [] 2 0
     ∷ refusing (set usual 4 0) (0x78000000 ∷ []) [] 3 4
     ∷ refusing usual (5 ∷ 0x08000000 ∷ []) [] 5 1
+    ∷ refusing usual (0x10000000 ∷ []) [] 5 0
+    ∷ refusing usual (0x20000000 ∷ []) [] 5 0
     ∷ refusing usual (0x40000000 ∷ []) [] 5 0
     ∷ refusing usual (0x1ffffff ∷ 0x2000000 ∷ []) [] 5 1
+    ∷ refusing (set (set usual 1 12) 2 8) (0x3fffff ∷ 0x400000 ∷ []) [] 5 1
     ∷ refusing (set usual 13 16) (5 ∷ 8388608 ∷ 0x2000000 ∷ []) [] 5 2
+    -- 2,000 requests are looked at, one more is too many
+    ∷ refusing usual (replicate 2000 0x78000000) [] 5 0
     ∷ refusing usual (replicate 2001 0x78000000) [] 5 2000
     -- 6 before 7, and 7 with the bytes that are needed
     ∷ refusing (set usual 13 1) (5 ∷ []) [] 6 0
@@ -64,6 +92,13 @@ cases =
 schedules : map (λ x. scheduleOutcome (x .settings) (x .requests) (x .buffer)) cases ≡ map (λ x. x .leaves) cases
 unfolding cases requestsM said scheduleOutcome scheduleOf scheduleFrom served refreshInTime sendRequest send placed freeFrom earliest passes badRequest requestFits
 schedules = refl
+
+-- the pins of a read and of a write: without auto precharge the bank would stay open and no AUTO REFRESH come at all
+request-pins :
+    activePins (settingsOf usual) 5 ∷ burstPins (settingsOf usual) 5 ∷ burstPins (settingsOf usual) (0x80000000 + 8388608)
+    ∷ burstPins (settingsOf (set usual 2 11)) 0x7ff ∷ [] ≡
+    ACTIVE ∷ (READ + A10 + 5) ∷ (WRITE + A10 + bank 1) ∷ (READ + A10 + A11 + 0x3ff) ∷ []
+request-pins = refl
 
 -- ---- burst cells: 8 before 7, and what lies behind them stays
 

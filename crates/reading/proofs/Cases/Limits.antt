@@ -1,0 +1,98 @@
+-- Every limit of a capture and of a setting, from both sides. A capture of 64,080 bytes is too long to compute, so what its
+-- length and its 8,000 events mean is two laws.
+use Prim.Native.Nat.{ℕ, _+_, _-_}
+use mathlib.Core.List.{List, [], _∷_, _++_, map}
+use mathlib.Core.Option.{Option, none, some}
+use mathlib.Core.Path.{_≡_, refl}
+use lib.ListN.{length, set, take}
+use Rattle.reading.specs.Words.{bytesOf}
+use Rattle.reading.specs.Settings.{settingFits, badSetting}
+use Rattle.reading.specs.Capture.{headerWord, eventCount, settingWords, eventPart, badLength, goodHeader, badEvent}
+use Rattle.reading.specs.Answers.{Answer, refused, unless, accepted}
+use Rattle.reading.proofs.Cases.{NOP, at, usual, refuses, touches, said, Case, case, bytes, Hold}
+
+-- the usual settings with one word changed, and the lowest that does not fit
+record Fit : Type 0 where
+  settings : List ℕ
+  lacks : Option ℕ
+
+abbrev word : ℕ → ℕ → Option ℕ → Fit
+word i w o = record { settings = set usual i w; lacks = o }
+
+abbrev row : ℕ → ℕ → ℕ → List Fit
+row i least most = word i (least - 1) (some i) ∷ word i least none ∷ word i most none ∷ word i (most + 1) (some i) ∷ []
+
+table : List Fit
+table =
+    row 0 1 2
+    ++ row 1 12 14
+    ++ row 2 8 11
+    ++ row 4 1 10000
+    ++ row 5 1 10000
+    ++ row 6 1 10000
+    ++ row 7 1 10000
+    ++ row 8 1 10000
+    ++ row 9 1 10000
+    ++ row 10 1 10000
+    ++ row 11 1 10000
+    ++ row 12 1 10000
+    ++ row 13 1 1000000
+    -- row 3: the least and the greatest mode word, and words beside each of its fields
+    ++ (word 3 0x21 none
+    ∷ word 3 0x3c none
+    ∷ word 3 0x20 (some 3)
+    ∷ word 3 0x25 (some 3)
+    ∷ word 3 0x14 (some 3)
+    ∷ word 3 0x41 (some 3)
+    ∷ word 3 0x61 (some 3)
+    ∷ word 3 0xa1 (some 3)
+    ∷ [])
+
+each-limit : map (λ x. badSetting (x .settings)) table ≡ map (λ x. x .lacks) table
+unfolding table badSetting settingFits
+each-limit = refl
+
+shapes : List Case
+shapes =
+    -- 79 bytes that state 79, and 81 that state 81
+    bytes (take 79 (bytesOf ((79 ∷ 14 ∷ 24 ∷ 0 ∷ 80 ∷ 0 ∷ []) ++ usual))) (refuses 1 0)
+    ∷ bytes (bytesOf ((81 ∷ 14 ∷ 24 ∷ 0 ∷ 80 ∷ 0 ∷ []) ++ usual) ++ (0 ∷ [])) (refuses 2 0)
+    -- header words below what they should be
+    ∷ bytes (bytesOf ((80 ∷ 13 ∷ 24 ∷ 0 ∷ 80 ∷ 0 ∷ []) ++ usual)) (refuses 2 0)
+    ∷ bytes (bytesOf ((80 ∷ 14 ∷ 20 ∷ 0 ∷ 80 ∷ 0 ∷ []) ++ usual)) (refuses 2 0)
+    ∷ bytes (bytesOf ((80 ∷ 14 ∷ 24 ∷ 0 ∷ 72 ∷ 0 ∷ []) ++ usual)) (refuses 2 0)
+    -- an event that is there and not counted
+    ∷ bytes (bytesOf ((88 ∷ 14 ∷ 24 ∷ 0 ∷ 80 ∷ 0 ∷ []) ++ usual ++ (0 ∷ NOP ∷ []))) (refuses 2 0)
+    -- a cycle above the first and not above the one before, below it or the same
+    ∷ case (at 5 NOP ∷ at 7 NOP ∷ at 6 NOP ∷ []) (refuses 4 2)
+    ∷ case (at 5 NOP ∷ at 7 NOP ∷ at 7 NOP ∷ []) (refuses 4 2)
+    ∷ case (at 5 NOP ∷ at 7 NOP ∷ at 8 NOP ∷ []) (touches 3 [])
+    -- the lowest of two events, and pin bits between 20 and 31
+    ∷ case (at 0 NOP ∷ at 1 (NOP + 0x200000) ∷ at 2 (NOP + 0x100000) ∷ []) (refuses 4 1)
+    ∷ case (at 0 (NOP + 0x8000000) ∷ []) (refuses 4 0)
+    ∷ []
+
+each-shape : Hold shapes
+unfolding shapes said
+each-shape = refl
+
+-- ---- 64,080 bytes and N = 8,000, whatever is asked of the capture
+
+module _ {A : Type 0} (capture : List ℕ) (rest : Answer A) where
+  -- no header saves a longer one
+  too-long : length capture ≡ 64081 → accepted capture rest ≡ refused 1 0
+  unfolding accepted badLength
+  too-long l = rw l
+
+  -- of such a one that its header states, only settings and events are left to ask
+  longest :
+      length capture ≡ 64080 →
+      headerWord capture 0 ≡ 64080 →
+      headerWord capture 1 ≡ 14 →
+      headerWord capture 2 ≡ 24 →
+      eventCount capture ≡ 8000 →
+      headerWord capture 4 ≡ 80 →
+      headerWord capture 5 ≡ 0 →
+      accepted capture rest ≡ unless 3 (badSetting (settingWords capture)) (unless 4 (badEvent (eventPart capture) 8000) rest)
+  unfolding accepted badLength goodHeader
+  longest l total settings from events onwards zeros = rw (l, total, settings, from, events, onwards, zeros)
