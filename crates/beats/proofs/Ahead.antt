@@ -9,7 +9,7 @@ use Rattle.reading.specs.Commands.{commandOf}
 use Rattle.reading.specs.Bursts.{Burst, keep, columnOf, cutBy, beatCell, burstCells}
 use Rattle.reading.specs.Part.{Part, start, burstGiven, burstsAfter, step, run}
 use Rattle.reading.specs.Cells.{burstsOf, cellsOf}
-use Rattle.part.specs.Steps.{bankOf, addressOf}
+use Rattle.pins.specs.Pins.{bankOf, addressOf}
 use Rattle.beats.specs.Kept.{gives, keptOf}
 use Rattle.beats.specs.Rows.{firstCell, beatCells}
 use Rattle.beats.proofs.Commands.{gives-is}

@@ -1,68 +1,19 @@
--- The command of a pin word, by the four command pins as a number with CS# lowest.
+-- What the command of a pin word is to a burst, to the mode word and to the rows.
 use Prim.Native.Nat.{ℕ}
-use mathlib.Core.Bool.{Bool, true, false, cond, not, _&&_, _||_}
+use mathlib.Core.Bool.{Bool, true, false, cond, _&&_, _||_}
 use mathlib.Core.List.{[], _∷_}
-use mathlib.Core.Option.{none}
-use mathlib.Core.Path.{_≡_, refl, sym, ap, _∙_}
-use native.Mathlib.Omega.{arith}
-use borrow.Author.Tests.{not-false}
+use mathlib.Core.Path.{_≡_, refl, _∙_}
 use lib.Dec.{eqb}
-use Rattle.reading.specs.Search.{lowest}
-use Rattle.reading.specs.Commands.{Op, Command, ACTIVE, READ, WRITE, BURST-TERMINATE, PRECHARGE, MODE-REGISTER-SET, code, opOf, commandOf, is, among, names}
+use Rattle.reading.specs.Commands.{Command, ACTIVE, READ, WRITE, PRECHARGE, commandOf, is, among, names}
 use Rattle.reading.specs.Settings.{Settings}
 use Rattle.reading.specs.Capture.{Event}
 use Rattle.reading.specs.Bursts.{Burst, cuts}
 use Rattle.reading.specs.Part.{Part, Bank, openOn, idleFrom, autoPrecharge, step}
-use Rattle.words.proofs.Search.{none-below}
-use Rattle.part.specs.Steps.{codeOf, bankOf, addressOf, modeAfter}
-use Rattle.part.proofs.Pins.{turned, op-is}
+use Rattle.pins.specs.Pins.{codeOf, bankOf, addressOf, modeAfter}
+use Rattle.pins.proofs.Commands.{active-is, read-is, write-is, terminate-is, precharge-is, mode-set-is}
 use Rattle.beats.specs.Kept.{gives, cutsBurst}
 
-same : Bool → Bool → Bool
-same true b = b
-same false b = not b
-
-same-is : (a b : Bool) → same a b ≡ true → a ≡ b
-unfolding same
-same-is true b e = sym e
-same-is false true e = e
-same-is false false e = refl
-
--- an op and its number agree at each of the sixteen
-agrees : Op → ℕ → ℕ → Bool
-agrees o k q = same (eqb (code o) (code (opOf (turned q)))) (eqb q k)
-
-agreed : (o : Op) (k : ℕ) → lowest (λ q. not (agrees o k q)) 16 ≡ none → (w : ℕ) → is o (commandOf w) ≡ eqb (codeOf w) k
-unfolding agrees
-agreed o k e w =
-    ap (λ (x : Op). eqb (code o) (code x)) (op-is w)
-    ∙ same-is _ _ (not-false _ (none-below (λ q. not (agrees o k q)) 16 e (codeOf w) (omega arith)))
-
 module _ (w : ℕ) where
-  active-is : is ACTIVE (commandOf w) ≡ eqb (codeOf w) 12
-  unfolding agrees same
-  active-is = agreed ACTIVE 12 refl w
-
-  read-is : is READ (commandOf w) ≡ eqb (codeOf w) 10
-  unfolding agrees same
-  read-is = agreed READ 10 refl w
-
-  pub write-is : is WRITE (commandOf w) ≡ eqb (codeOf w) 2
-  unfolding agrees same
-  write-is = agreed WRITE 2 refl w
-
-  terminate-is : is BURST-TERMINATE (commandOf w) ≡ eqb (codeOf w) 6
-  unfolding agrees same
-  terminate-is = agreed BURST-TERMINATE 6 refl w
-
-  precharge-is : is PRECHARGE (commandOf w) ≡ eqb (codeOf w) 4
-  unfolding agrees same
-  precharge-is = agreed PRECHARGE 4 refl w
-
-  mode-set-is : is MODE-REGISTER-SET (commandOf w) ≡ eqb (codeOf w) 0
-  unfolding agrees same
-  mode-set-is = agreed MODE-REGISTER-SET 0 refl w
-
   -- ---- what bursts ask of it
 
   either-none : (a b : Bool) → (a || (b || false)) ≡ (a || b)

@@ -14,10 +14,11 @@ use Rattle.reading.specs.Commands.{commandOf}
 use Rattle.reading.specs.Bursts.{Burst, keep, cuts, cutBy}
 use Rattle.reading.specs.Part.{Part, burstGiven}
 use Rattle.reading.proofs.Cuts.{auto-uncut}
-use Rattle.part.specs.Steps.{codeOf, bankOf, tenOf}
+use Rattle.pins.specs.Pins.{codeOf, bankOf, tenOf}
 use Rattle.beats.specs.Kept.{gives, cutsBurst, keptBy, keptAhead, keptOf}
 use Rattle.beats.proofs.Events.{Rises}
-use Rattle.beats.proofs.Commands.{write-is, cuts-is}
+use Rattle.pins.proofs.Commands.{write-is}
+use Rattle.beats.proofs.Commands.{cuts-is}
 
 -- a burst as the events behind it cut it
 abbrev pub cutByAll : List Event → Burst → Burst

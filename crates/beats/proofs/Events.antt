@@ -6,7 +6,7 @@ use mathlib.Core.Path.{_≡_}
 use native.Mathlib.Numerals.{add-one}
 use native.Mathlib.Omega.{arith}
 use Rattle.reading.specs.Search.{count}
-use Rattle.reading.specs.Capture.{Event, eventAt, eventFits}
+use Rattle.reading.specs.Capture.{Event, eventAt, cycleFits}
 use Rattle.words.proofs.Search.{one-less, none-left}
 use Rattle.capture.proofs.Accepted.{cycles-rise}
 use Rattle.beats.specs.Kept.{Fit, eventsFrom}
@@ -23,7 +23,7 @@ abbrev pub Rises : ℕ → List Event → Type 0
 Rises from [] = Unit {0}
 Rises from (e ∷ es) = (from ≤ e .cycle) × Rises (suc (e .cycle)) es
 
-rising : (part : List ℕ) (n : ℕ) → ((i : ℕ) → i < n → eventFits part i ≡ true) → (left i from : ℕ) → i + left ≤ n →
+rising : (part : List ℕ) (n : ℕ) → ((i : ℕ) → i < n → cycleFits part i ≡ true) → (left i from : ℕ) → i + left ≤ n →
     (i < n → from ≤ eventAt part i .cycle) → Rises from (map (eventAt part) (count i left))
 rising part n f zero i from l above = tt
 rising part n f (suc left) i from l above = (

@@ -9,7 +9,7 @@ use lib.Dec.{leb, ltb}
 use Rattle.reading.specs.Search.{lesser}
 use Rattle.reading.specs.Mode.{h}
 use Rattle.reading.specs.Capture.{Event, eventAt}
-use Rattle.part.specs.Steps.{tenOf}
+use Rattle.pins.specs.Pins.{tenOf}
 use Rattle.beats.specs.Kept.{Fit, eventsFrom, gives, cutsBurst, keptBy, keptAhead, cutAhead, keptOf}
 use Rattle.beats.proofs.Columns.{half-le}
 use Rattle.beats.proofs.Events.{next-event, no-event, rise-behind}

@@ -7,14 +7,14 @@ use lib.ListN.{length}
 use lib.Dec.{ltb, eqb}
 use Rattle.reading.specs.Search.{count, lesser}
 use Rattle.reading.specs.Mode.{h}
-use Rattle.reading.specs.Capture.{Event, eventAt, eventFits}
-use Rattle.part.specs.Steps.{codeOf, bankOf, tenOf}
+use Rattle.reading.specs.Capture.{Event, eventAt, cycleFits}
+use Rattle.pins.specs.Pins.{codeOf, bankOf, tenOf}
 
 -- n events that fit
 pub record Fit (part : List ℕ) (n : ℕ) : Type 0 where
   pub few : n ≤ 8000
   pub long : 8 * n ≤ length part
-  pub events : (i : ℕ) → i < n → eventFits part i ≡ true
+  pub events : (i : ℕ) → i < n → cycleFits part i ≡ true
 
 -- of n events those from event i on
 abbrev pub eventsFrom : List ℕ → ℕ → ℕ → List Event

@@ -8,7 +8,7 @@ use lib.Bits.{bitXor}
 use Rattle.reading.specs.Search.{count}
 use Rattle.reading.specs.Settings.{Settings}
 use Rattle.reading.specs.Bursts.{beatColumn}
-use Rattle.part.specs.Steps.{codeOf, bankOf, addressOf}
+use Rattle.pins.specs.Pins.{codeOf, bankOf, addressOf}
 
 -- the bits that a part of this kind may have
 pub record Sized (s : Settings) : Type 0 where

@@ -1,4 +1,7 @@
 // Bursts by arithmetic: the columns and cells of their beats, and the pairs that they keep, found by looking ahead.
+use settings::Settings;
+use settings::places::COLUMN_BITS;
+use settings::places::ROW_BITS;
 ghost use mathlib.Core.Path.{_≡_};
 ghost use mathlib.Core.Bool.{true, false};
 ghost use Prim.Native.Nat.{_+_, _*_, _^_, _%_, _≤_, _<_};
@@ -8,81 +11,55 @@ ghost use Rattle.reading.specs.Mode.{BL};
 ghost use Rattle.reading.specs.Settings.{settingsOf};
 ghost use Rattle.reading.specs.Capture.{eventAt};
 ghost use Rattle.reading.specs.Bursts.{columnOf};
-ghost use Rattle.part.specs.Steps.{codeOf, bankOf, addressOf, tenOf, modeAfter};
+ghost use Rattle.pins.specs.Pins.{addressOf, modeAfter};
 ghost use Rattle.beats.specs.Kept.{Fit, gives, cutsBurst, eventsFrom, cutAhead, keptOf};
 ghost use Rattle.beats.specs.Rows.{Sized, InRow, InBlock, firstCell, firstCells, cellsOpened, blockCells, beatCells};
 
-// ---- what the pins of an event ask for
+// ---- what the pins of an event are to a burst
 
-// CS#, RAS#, CAS#, WE#, CS# the lowest.
-fn code(pins: u32) -> u32
-    ensures { λ r. ⌜ r ≡ codeOf pins ⌝ }
+pub fn gives_burst(w: u32) -> bool
+    ensures { λ r. ⌜ r ≡ gives w ⌝ }
 {
-    pins / 65_536 % 16
-}
-
-pub fn bank(pins: u32) -> u32
-    ensures { λ r. ⌜ (r ≡ bankOf pins) × (r < 4) ⌝ }
-{
-    pins / 16_384 % 4
-}
-
-fn address(pins: u32) -> u32
-    ensures { λ r. ⌜ (r ≡ addressOf pins) × (r < 16384) ⌝ }
-{
-    pins % 16_384
-}
-
-// A10: on READ and WRITE it asks for auto precharge, on PRECHARGE it means all banks.
-fn ten(pins: u32) -> bool
-    ensures { λ r. ⌜ r ≡ tenOf pins ⌝ }
-{
-    pins / 1024 % 2 == 1
-}
-
-pub fn gives_burst(pins: u32) -> bool
-    ensures { λ r. ⌜ r ≡ gives pins ⌝ }
-{
-    let asked = code(pins);
-    if asked == 10 {
+    let asked = pins::code(w);
+    if asked == pins::READ {
         return true;
     }
-    asked == 2
+    asked == pins::WRITE
 }
 
-fn cuts_burst(burst: u32, pins: u32) -> bool
-    ensures { λ r. ⌜ r ≡ cutsBurst burst pins ⌝ }
+fn cuts_burst(burst: u32, w: u32) -> bool
+    ensures { λ r. ⌜ r ≡ cutsBurst burst w ⌝ }
 {
-    let asked = code(pins);
-    if code(burst) == 2 {
-        return asked == 2;
+    let asked = pins::code(w);
+    if pins::code(burst) == pins::WRITE {
+        return asked == pins::WRITE;
     }
-    if asked == 10 {
+    if asked == pins::READ {
         return true;
     }
-    if asked == 6 {
+    if asked == pins::TERMINATE {
         return true;
     }
-    if asked != 4 {
+    if asked != pins::PRECHARGE {
         return false;
     }
-    if ten(pins) {
+    if pins::ten(w) {
         return true;
     }
-    bank(burst) == bank(pins)
+    pins::bank(burst) == pins::bank(w)
 }
 
 // MODE REGISTER SET with 00 replaces the mode word at once.
-pub fn mode_after(mode: u32, pins: u32) -> u32
-    ensures { λ r. ⌜ r ≡ modeAfter mode pins ⌝ }
+pub fn mode_after(mode: u32, w: u32) -> u32
+    ensures { λ r. ⌜ r ≡ modeAfter mode w ⌝ }
 {
-    if code(pins) != 0 {
+    if pins::code(w) != pins::MODE_SET {
         return mode;
     }
-    if bank(pins) != 0 {
+    if pins::bank(w) != 0 {
         return mode;
     }
-    address(pins)
+    pins::address(w)
 }
 
 // ---- columns and cells
@@ -102,24 +79,24 @@ fn power(bits: u32) -> u32
 }
 
 // A0-A9, cut to the column bits; with 11 column bits, A11 is column bit 10.
-pub fn column(s: &[u32; 14], pins: u32) -> u32
+pub fn column(s: &Settings, w: u32) -> u32
     requires { ⌜ Sized (settingsOf (now s)) ⌝ }
-    ensures { λ r. ⌜ r ≡ columnOf (settingsOf (now (s .entry))) (addressOf pins) ⌝ }
+    ensures { λ r. ⌜ r ≡ columnOf (settingsOf (now (s .entry))) (addressOf w) ⌝ }
 {
-    let a = address(pins);
-    (a % 1024 + 1024 * (a / 2048 % 2)) % power(s[2])
+    let a = pins::address(w);
+    (a % 1024 + 1024 * (a / 2048 % 2)) % power(s[COLUMN_BITS])
 }
 
 // The number of a row's first cell.
-pub fn first_cell(s: &[u32; 14], bank: u32, row: u32) -> u32
+pub fn first_cell(s: &Settings, bank: u32, row: u32) -> u32
     requires { ⌜ Sized (settingsOf (now s)) × ((bank < 4) × (row < 16384)) ⌝ }
     ensures { λ r. ⌜ r ≡ firstCell (settingsOf (now (s .entry))) bank row ⌝ }
 {
-    (bank * power(s[1]) + row) * power(s[2])
+    (bank * power(s[ROW_BITS]) + row) * power(s[COLUMN_BITS])
 }
 
 // The first cell of each bank's row, before any ACTIVE.
-pub fn first_cells(s: &[u32; 14]) -> [u32; 4]
+pub fn first_cells(s: &Settings) -> [u32; 4]
     requires { ⌜ Sized (settingsOf (now s)) ⌝ }
     ensures { λ r. ⌜ r ≡ firstCells (settingsOf (now (s .entry))) 0 0 0 0 ⌝ }
 {
@@ -131,16 +108,16 @@ pub fn first_cells(s: &[u32; 14]) -> [u32; 4]
 }
 
 // ACTIVE opens its bank on its row.
-pub fn open_row(s: &[u32; 14], firsts: &mut [u32; 4], pins: u32)
+pub fn open_row(s: &Settings, firsts: &mut [u32; 4], w: u32)
     requires { ⌜ Sized (settingsOf (now s)) ⌝ }
-    ensures { λ _. ⌜ now (firsts .exit) ≡ cellsOpened (settingsOf (now (s .entry))) (now (firsts .entry)) pins ⌝ }
+    ensures { λ _. ⌜ now (firsts .exit) ≡ cellsOpened (settingsOf (now (s .entry))) (now (firsts .entry)) w ⌝ }
 {
-    if code(pins) != 12 {
+    if pins::code(w) != pins::ACTIVE {
         return;
     }
-    let bank = bank(pins);
-    let row = address(pins);
-    firsts[bank as usize] = first_cell(s, bank, row);
+    let bank = pins::bank(w);
+    let row = pins::address(w);
+    firsts[bank] = first_cell(s, bank as u32, row);
 }
 
 // Writes the cells of 2 x `pairs` beats in sequential order from out[at] on; `block` is the first cell of their block.
@@ -207,8 +184,8 @@ fn look_ahead(part: &[u8], n: u32, i: u32, mode: u32) -> u32
         if end <= t {
             return half;
         }
-        let pins = capture::pins_at(part, behind);
-        if cuts_burst(burst, pins) {
+        let w = capture::pins_at(part, behind);
+        if cuts_burst(burst, w) {
             return t - k;
         }
         j += 1;
@@ -221,11 +198,11 @@ pub fn kept(part: &[u8], n: u32, i: u32, mode: u32) -> u32
     requires { ⌜ Fit (now part) n × (i < n) ⌝ }
     ensures { λ r. ⌜ r ≡ keptOf mode (eventAt (now (part .entry)) i) (eventsFrom (now (part .entry)) n (i + 1)) ⌝ }
 {
-    let pins = capture::pins_at(part, i as usize);
-    if !gives_burst(pins) {
+    let w = capture::pins_at(part, i as usize);
+    if !gives_burst(w) {
         return 0;
     }
-    if ten(pins) {
+    if pins::ten(w) {
         return length_of(mode) / 2;
     }
     look_ahead(part, n, i, mode)

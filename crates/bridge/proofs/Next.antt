@@ -12,12 +12,12 @@ use borrow.Author.Tests.{leb-true, leb-false, le-leb, lt-leb, lt-ltb, eqb-true, 
 use Rattle.reading.specs.Search.{ever, find, lesser, later, orZero}
 use Rattle.reading.specs.Mode.{h, CL}
 use Rattle.reading.specs.Settings.{Settings}
+use Rattle.reading.specs.RefreshClock.{clockAfterRefresh}
 use Rattle.reading.specs.Commands.{ACTIVE, READ, WRITE, BURST-TERMINATE, PRECHARGE, AUTO-REFRESH, MODE-REGISTER-SET, NOP, DESELECT, Command, is}
 use Rattle.reading.specs.Bursts.{Burst, reads, dataEnd, cuts, cutBy}
-use Rattle.reading.specs.Part.{Part, Bank, openOn, idleFrom, burstGiven, partAfter}
-use Rattle.reading.specs.Rules.{bankWrite}
+use Rattle.reading.specs.Part.{Part, Bank, openOn, idleFrom, burstGiven, partAfter, bankWrite}
 use Rattle.reading.proofs.Cuts.{All, nil, cons, auto-uncut}
-use Rattle.deadlines.specs.Deadlines.{paceOf, activeAfter, readAfter, writeAfter, cutRead, closeAfter, closeAllAfter, restAll, restAfter, refreshAfter, modeSetAfter, cutWrite, newWrite, autoAfter}
+use Rattle.deadlines.specs.Deadlines.{paceOf, activeAfter, readAfter, writeAfter, cutRead, closeAfter, closeAllAfter, restAll, restAfter, refreshAfter, modeSetAfter, cutWrite, newWrite, autoAfter, dueAfterRefresh}
 use Rattle.bridge.specs.Summary.{Held, laid, summary, from, ended, cleared, readerOf, writerOf}
 use Rattle.bridge.proofs.Laid.{put, put-same, activated, banked, readGiven, writeGiven, timed, active-laid, auto-laid, cut-laid, new-laid, rest-laid}
 use Rattle.bridge.proofs.Bursts.{blind, uncut, find-same, find-map, held-cut, Given, Late, nothing, read, write, Over, held-over, find-all, find-holds, lesser-low, lesser-add, later-low, later-high, later-add}
@@ -102,20 +102,20 @@ module _ (s : Settings) (p : Part) (from₀ t : ℕ) (l : from₀ ≤ t) (g : So
 
   pub quiet-next : (b a : ℕ) (ten : Bool) → laid (after (does NOP b a ten)) ≡ laid X
   quiet-next b a ten =
-      ap (λ (zs : List Burst). laid (summary s (record { banks = p .banks; mode = p .mode; refreshed = p .refreshed; modeSet = p .modeSet; bursts = zs })))
+      ap (λ (zs : List Burst). laid (summary s (record { banks = p .banks; mode = p .mode; refreshed = p .refreshed; modeSet = p .modeSet; clock = p .clock; bursts = zs })))
       (whole (does NOP b a ten) (λ x. none-cut (x .writes)))
 
   pub deselect-next : (b a : ℕ) (ten : Bool) → laid (after (does DESELECT b a ten)) ≡ laid X
   deselect-next b a ten =
-      ap (λ (zs : List Burst). laid (summary s (record { banks = p .banks; mode = p .mode; refreshed = p .refreshed; modeSet = p .modeSet; bursts = zs })))
+      ap (λ (zs : List Burst). laid (summary s (record { banks = p .banks; mode = p .mode; refreshed = p .refreshed; modeSet = p .modeSet; clock = p .clock; bursts = zs })))
       (whole (does DESELECT b a ten) (λ x. none-cut (x .writes)))
 
   pub refresh-next : (b a : ℕ) (ten : Bool) → X .busy ≤ t → laid (after (does AUTO-REFRESH b a ten)) ≡ refreshAfter s (laid X) t
   unfolding refreshAfter
   refresh-next b a ten busy =
-      ap (λ (zs : List Burst). laid (summary s (record { banks = p .banks; mode = p .mode; refreshed = some t; modeSet = p .modeSet; bursts = zs })))
+      ap (λ (zs : List Burst). laid (summary s (record { banks = p .banks; mode = p .mode; refreshed = some t; modeSet = p .modeSet; clock = clockAfterRefresh s t (p .clock); bursts = zs })))
       (whole (does AUTO-REFRESH b a ten) (λ x. none-cut (x .writes)))
-      ∙ ap (λ (v : ℕ). laid (timed v (t + s .GAP) X)) (later-high (t + s .tRFC) (from (p .modeSet) (s .tMRD)) (omega (arith, busy, later-least)))
+      ∙ ap (λ (v : ℕ). laid (timed v (dueAfterRefresh s t) X)) (later-high (t + s .tRFC) (from (p .modeSet) (s .tMRD)) (omega (arith, busy, later-least)))
     where
       later-least : from (p .modeSet) (s .tMRD) ≤ X .busy
       later-least = go (leb (from (p .refreshed) (s .tRFC)) (from (p .modeSet) (s .tMRD))) refl
@@ -128,7 +128,7 @@ module _ (s : Settings) (p : Part) (from₀ t : ℕ) (l : from₀ ≤ t) (g : So
   pub mode-next : (b a : ℕ) (ten : Bool) → X .busy ≤ t → laid (after (does MODE-REGISTER-SET b a ten)) ≡ modeSetAfter s (laid X) t
   unfolding modeSetAfter
   mode-next b a ten busy =
-      ap (λ (zs : List Burst). laid (summary s (record { banks = p .banks; mode = cond (eqb b 0) a (p .mode); refreshed = p .refreshed; modeSet = some t; bursts = zs })))
+      ap (λ (zs : List Burst). laid (summary s (record { banks = p .banks; mode = cond (eqb b 0) a (p .mode); refreshed = p .refreshed; modeSet = some t; clock = p .clock; bursts = zs })))
       (whole (does MODE-REGISTER-SET b a ten) (λ x. none-cut (x .writes)))
       ∙ ap (λ (v : ℕ). laid (timed v (X .due) X)) (later-low (from (p .refreshed) (s .tRFC)) (t + s .tMRD) (omega (arith, busy, later-least)))
     where

@@ -10,8 +10,8 @@ use Rattle.reading.specs.Search.{implies, ever, find}
 use Rattle.reading.specs.Settings.{Settings}
 use Rattle.reading.specs.Commands.{Op, ACTIVE, READ, WRITE, BURST-TERMINATE, PRECHARGE, AUTO-REFRESH, MODE-REGISTER-SET, NOP, DESELECT, Command}
 use Rattle.reading.specs.Bursts.{reads, dataEnd}
-use Rattle.reading.specs.Part.{Part}
-use Rattle.reading.specs.Rules.{everyBank, after, bankWrite, lowestBroken}
+use Rattle.reading.specs.Part.{Part, bankWrite}
+use Rattle.reading.specs.Rules.{everyBank, after, rules, lowestBroken}
 use Rattle.reading.proofs.Cuts.{All}
 use Rattle.deadlines.specs.Deadlines.{orElse, dueBreaks, activeBreaks, readBreaks, writeBreaks, terminateBreaks, closeBreaks, closeAllBreaks, refreshBreaks, modeBreaks}
 use Rattle.bridge.specs.Summary.{heldBy, laid, summary}
@@ -49,7 +49,7 @@ does o b a ten = record { op = o; bank = b; address = a; A10 = ten }
 
 module _ (s : Settings) (p : Part) (t : ℕ) where
   abbrev pub says : Op → ℕ → ℕ → Bool → ℕ
-  says o b a ten = num (lowestBroken s p t (does o b a ten))
+  says o b a ten = num (lowestBroken rules s p t (does o b a ten))
 
   pub quiet : (b a : ℕ) (ten : Bool) → says NOP b a ten ≡ dueBreaks (laid (summary s p)) t
   quiet b a ten = simp num-cond

@@ -17,9 +17,10 @@ use Rattle.reading.specs.Rules.{after, keeps, rules, lowestBroken}
 use Rattle.reading.proofs.Cuts.{nil}
 use Rattle.reading.proofs.Found.{find-none}
 use Rattle.deadlines.specs.Deadlines.{paceOf, startOf}
-use Rattle.part.specs.Steps.{codeOf, bankOf, addressOf, tenOf, stepBreaks, stepAfter, paceAfter}
+use Rattle.pins.specs.Pins.{codeOf, bankOf, addressOf, tenOf}
+use Rattle.part.specs.Steps.{stepBreaks, stepAfter, paceAfter}
 use Rattle.part.proofs.Codes as codes
-use Rattle.part.proofs.Pins.{turned, op-is}
+use Rattle.pins.proofs.Pins.{turned, op-is}
 use Rattle.bridge.specs.Summary.{Held, laid, summary, from}
 use Rattle.bridge.proofs.Tests.{num, first-of, after-is, leb-later, held-is, cleared-is}
 use Rattle.bridge.proofs.Bursts.{terminate-is, nothing}
@@ -40,11 +41,11 @@ module _ (s : Settings) (wide : s .rowBits < 32) (p : Part) (from₀ t : ℕ) (l
     pub sound : Sound (suc t) (partAfter s p t c)
 
   pub record Turned (c : Command) : Type 0 where
-    pub breaks : stepBreaks s (laid (summary s p)) t w ≡ num (lowestBroken s p t c)
-    pub onward : lowestBroken s p t c ≡ none → Onward c
+    pub breaks : stepBreaks s (laid (summary s p)) t w ≡ num (lowestBroken rules s p t c)
+    pub onward : lowestBroken rules s p t c ≡ none → Onward c
 
   -- a rule that an unbroken event keeps
-  kept : (c : Command) → lowestBroken s p t c ≡ none → (r : ℕ) → List·Memᴰ r rules → keeps r s p t c ≡ true
+  kept : (c : Command) → lowestBroken rules s p t c ≡ none → (r : ℕ) → List·Memᴰ r rules → keeps r s p t c ≡ true
   kept c e r m = not-false (keeps r s p t c) (find-none (λ q. not (keeps q s p t c)) rules e r m)
 
   abbrev here : {r : ℕ} {rs : List ℕ} → List·Memᴰ r (r ∷ rs)
@@ -77,8 +78,8 @@ module _ (s : Settings) (wide : s .rowBits < 32) (p : Part) (from₀ t : ℕ) (l
 
   -- a command by its pins, once its laws are in hand
   turn : (q : ℕ) (c : Command) → commandOf w ≡ c → {rule : ℕ} {left pace : List ℕ} → codes.Does s (laid X) (paceOf (p .mode)) t w rule left pace →
-      num (lowestBroken s p t c) ≡ rule → (lowestBroken s p t c ≡ none → laid (summary s (partAfter s p t c)) ≡ left) →
-      pace ≡ paceOf (partAfter s p t c .mode) → (lowestBroken s p t c ≡ none → Sound (suc t) (partAfter s p t c)) → Turned (commandOf w)
+      num (lowestBroken rules s p t c) ≡ rule → (lowestBroken rules s p t c ≡ none → laid (summary s (partAfter s p t c)) ≡ left) →
+      pace ≡ paceOf (partAfter s p t c .mode) → (lowestBroken rules s p t c ≡ none → Sound (suc t) (partAfter s p t c)) → Turned (commandOf w)
   turn q c e d agrees next pace sound =
       subst (λ (k : Command). Turned k) (sym e)
       (record {
@@ -102,7 +103,7 @@ module _ (s : Settings) (wide : s .rowBits < 32) (p : Part) (from₀ t : ℕ) (l
   turn-active : codeOf w ≡ 12 → Turned (commandOf w)
   unfolding b a ten
   turn-active e =
-      turn 12 (does ACTIVE b a ten) (carries w 12 e) (codes.active s (laid X) (paceOf (p .mode)) t w refl e) (active-agrees s p t b a ten small wide)
+      turn 12 (does ACTIVE b a ten) (carries w 12 e) (codes.active s (laid X) (paceOf (p .mode)) t w refl refl e) (active-agrees s p t b a ten small wide)
       (λ z. active-next s p from₀ t l g b a ten small) refl (λ z. kept-plain s p from₀ t l g (does ACTIVE b a ten) refl refl refl)
 
   turn-read : codeOf w ≡ 10 → Turned (commandOf w)
@@ -124,7 +125,7 @@ module _ (s : Settings) (wide : s .rowBits < 32) (p : Part) (from₀ t : ℕ) (l
       c : Command
       c = does WRITE b a ten
 
-      held : lowestBroken s p t c ≡ none → X .writes ≤ t
+      held : lowestBroken rules s p t c ≡ none → X .writes ≤ t
       held z = leb-true (X .writes) t (sym (held-is (λ x. x .writes) t (p .bursts)) ∙ kept c z 13 thirteenth)
 
   turn-close : codeOf w ≡ 4 → Turned (commandOf w)
@@ -150,7 +151,7 @@ module _ (s : Settings) (wide : s .rowBits < 32) (p : Part) (from₀ t : ℕ) (l
       c : Command
       c = does BURST-TERMINATE b a ten
 
-      held : lowestBroken s p t c ≡ none → X .reads ≤ t
+      held : lowestBroken rules s p t c ≡ none → X .reads ≤ t
       held z =
           leb-true (X .reads) t
           (first-of (leb (X .reads) t) _ (sym (terminate-is from₀ t l (s .tWTR) (g .bursts) (g .late)) ∙ kept c z 13 thirteenth))
@@ -167,7 +168,7 @@ module _ (s : Settings) (wide : s .rowBits < 32) (p : Part) (from₀ t : ℕ) (l
   turn-mode : codeOf w ≡ 0 → Turned (commandOf w)
   unfolding b a ten
   turn-mode e =
-      turn 0 c (carries w 0 e) (codes.mode-set s (laid X) (paceOf (p .mode)) t w refl e) (mode-agrees s p t b a ten)
+      turn 0 c (carries w 0 e) (codes.mode-set s (laid X) (paceOf (p .mode)) t w refl refl e) (mode-agrees s p t b a ten)
       (λ z. mode-next s p from₀ t l g b a ten (both-after (kept c z 4 fourth))) (which (eqb b 0))
       (λ z. kept-mode s p from₀ t l g b a ten (leb-true (X .bus) t (sym (cleared-is (find reads (p .bursts)) t) ∙ kept c z 12 twelfth)))
     where
@@ -178,37 +179,29 @@ module _ (s : Settings) (wide : s .rowBits < 32) (p : Part) (from₀ t : ℕ) (l
       which true = refl
       which false = refl
 
-  turn-quiet : (q : ℕ) → codeOf w ≡ q → codes.Quiet s (laid X) (paceOf (p .mode)) t w → opOf (turned q) ≡ NOP → Turned (commandOf w)
+  turn-quiet : (q : ℕ) → codeOf w ≡ q → codes.Quiet s (laid X) (paceOf (p .mode)) t w q → opOf (turned q) ≡ NOP → Turned (commandOf w)
   unfolding b a ten
   turn-quiet q e n o =
-      turn q c (carries w q e ∙ ap (λ (k : Op). does k b a ten) o) (codes.quiet s (laid X) (paceOf (p .mode)) t w n) (quiet s p t b a ten)
+      turn q c (carries w q e ∙ ap (λ (k : Op). does k b a ten) o) (codes.quiet s (laid X) (paceOf (p .mode)) t w (sym e) n) (quiet s p t b a ten)
       (λ z. quiet-next s p from₀ t l g b a ten) refl (λ z. kept-plain s p from₀ t l g c refl refl refl)
     where
       c : Command
       c = does NOP b a ten
 
-  turn-deselect : (q : ℕ) → codeOf w ≡ q → codes.Quiet s (laid X) (paceOf (p .mode)) t w → opOf (turned q) ≡ DESELECT → Turned (commandOf w)
+  turn-deselect : (q : ℕ) → codeOf w ≡ q → codes.Quiet s (laid X) (paceOf (p .mode)) t w q → opOf (turned q) ≡ DESELECT → Turned (commandOf w)
   unfolding b a ten
   turn-deselect q e n o =
-      turn q c (carries w q e ∙ ap (λ (k : Op). does k b a ten) o) (codes.quiet s (laid X) (paceOf (p .mode)) t w n) (deselect s p t b a ten)
+      turn q c (carries w q e ∙ ap (λ (k : Op). does k b a ten) o) (codes.quiet s (laid X) (paceOf (p .mode)) t w (sym e) n) (deselect s p t b a ten)
       (λ z. deselect-next s p from₀ t l g b a ten) refl (λ z. kept-plain s p from₀ t l g c refl refl refl)
     where
       c : Command
       c = does DESELECT b a ten
 
   -- none of the seven commands: by omega, once the number is known
-  silent : (q : ℕ) → codeOf w ≡ q → (q ≡ 12 → ⊥) → (q ≡ 10 → ⊥) → (q ≡ 2 → ⊥) → (q ≡ 4 → ⊥) → (q ≡ 6 → ⊥) → (q ≡ 8 → ⊥) → (q ≡ 0 → ⊥) →
-      codes.Quiet s (laid X) (paceOf (p .mode)) t w
-  silent q e f₁ f₂ f₃ f₄ f₅ f₆ f₇ =
-      record {
-        no-active = λ f. f₁ (sym e ∙ f);
-        no-read = λ f. f₂ (sym e ∙ f);
-        no-write = λ f. f₃ (sym e ∙ f);
-        no-close = λ f. f₄ (sym e ∙ f);
-        no-terminate = λ f. f₅ (sym e ∙ f);
-        no-refresh = λ f. f₆ (sym e ∙ f);
-        no-mode-set = λ f. f₇ (sym e ∙ f);
-      }
+  silent : (q : ℕ) → (q ≡ 12 → ⊥) → (q ≡ 10 → ⊥) → (q ≡ 2 → ⊥) → (q ≡ 4 → ⊥) → (q ≡ 6 → ⊥) → (q ≡ 8 → ⊥) → (q ≡ 0 → ⊥) →
+      codes.Quiet s (laid X) (paceOf (p .mode)) t w q
+  silent q f₁ f₂ f₃ f₄ f₅ f₆ f₇ =
+      record { no-active = f₁; no-read = f₂; no-write = f₃; no-close = f₄; no-terminate = f₅; no-refresh = f₆; no-mode-set = f₇ }
 
   -- an odd code has CS# high
   pub turned-event : Turned (commandOf w)
@@ -216,11 +209,11 @@ module _ (s : Settings) (wide : s .rowBits < 32) (p : Part) (from₀ t : ℕ) (l
     where
       high : (q : ℕ) → codeOf w ≡ q → (q % 2 ≡ 1) → opOf (turned q) ≡ DESELECT → Turned (commandOf w)
       high q e n o =
-          turn-deselect q e (silent q e (λ f. omega arith) (λ f. omega arith) (λ f. omega arith) (λ f. omega arith) (λ f. omega arith) (λ f. omega arith) (λ f. omega arith)) o
+          turn-deselect q e (silent q (λ f. omega arith) (λ f. omega arith) (λ f. omega arith) (λ f. omega arith) (λ f. omega arith) (λ f. omega arith) (λ f. omega arith)) o
 
       quiet-14 : codeOf w ≡ 14 → Turned (commandOf w)
       quiet-14 e =
-          turn-quiet 14 e (silent 14 e (λ f. omega arith) (λ f. omega arith) (λ f. omega arith) (λ f. omega arith) (λ f. omega arith) (λ f. omega arith) (λ f. omega arith)) refl
+          turn-quiet 14 e (silent 14 (λ f. omega arith) (λ f. omega arith) (λ f. omega arith) (λ f. omega arith) (λ f. omega arith) (λ f. omega arith) (λ f. omega arith)) refl
 
       go : (q : ℕ) → codeOf w ≡ q → q < 16 → Turned (commandOf w)
       go zero e m = turn-mode e

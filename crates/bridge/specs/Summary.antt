@@ -4,12 +4,11 @@ use Prim.Native.Nat.{ℕ, _+_}
 use mathlib.Core.Bool.{Bool, cond, _&&_}
 use mathlib.Core.List.{List, [], _∷_}
 use mathlib.Core.Option.{Option, none, some}
-use Rattle.reading.specs.Search.{orZero, find, later}
-use Rattle.reading.specs.Mode.{h, CL}
+use Rattle.reading.specs.Search.{orZero, later}
 use Rattle.reading.specs.Settings.{Settings}
-use Rattle.reading.specs.Bursts.{Burst, reads, dataEnd}
-use Rattle.reading.specs.Part.{Part}
-use Rattle.reading.specs.Rules.{bankWrite}
+use Rattle.reading.specs.RefreshClock.{Clock}
+use Rattle.reading.specs.Bursts.{Burst, reads, wholeEnd, readEnd, dataEnd}
+use Rattle.reading.specs.Part.{Part, lastRead, lastWrite, lastBankWrite}
 
 -- so long after it, 0 where it has not happened
 abbrev pub from : Option ℕ → ℕ → ℕ
@@ -20,15 +19,19 @@ abbrev pub ended : Option Burst → ℕ → ℕ
 ended none wait = 0
 ended (some x) wait = dataEnd x + wait
 
+-- the last cycle that the refresh clock lets through
+abbrev pub dueBy : Settings → Clock → ℕ
+dueBy s c = c .since + s .GAP
+
 -- the bus is free of a read's data
 abbrev pub cleared : Option Burst → ℕ
 cleared none = 0
-cleared (some x) = x .k + CL (x .mode) + x .n
+cleared (some x) = readEnd x
 
 -- the latest k + h of the auto precharge bursts of a kind
 abbrev pub heldBy : (Burst → Bool) → List Burst → ℕ
 heldBy kind [] = 0
-heldBy kind (x ∷ xs) = later (cond (kind x && x .auto) (x .k + h (x .mode)) 0) (heldBy kind xs)
+heldBy kind (x ∷ xs) = later (cond (kind x && x .auto) (wholeEnd x) 0) (heldBy kind xs)
 
 -- the bank of the last read, 4 if nothing can cut it
 abbrev pub readerOf : Option Burst → ℕ
@@ -82,14 +85,14 @@ summary s p =
       rest = λ b. from (p .banks b .precharged) (s .tRP);
       column = λ b. from (p .banks b .active) (s .tRCD);
       close = λ b. from (p .banks b .active) (s .tRAS);
-      written = λ b. ended (find (bankWrite p b) (p .bursts)) (s .tWR);
+      written = λ b. ended (lastBankWrite p b) (s .tWR);
       locked = λ b. orZero (p .banks b .active) + s .tRAS + s .tRP;
       busy = later (from (p .refreshed) (s .tRFC)) (from (p .modeSet) (s .tMRD));
-      due = orZero (p .refreshed) + s .GAP;
-      bus = cleared (find reads (p .bursts));
+      due = dueBy s (p .clock);
+      bus = cleared (lastRead p);
       reads = heldBy reads (p .bursts);
       writes = heldBy (λ x. x .writes) (p .bursts);
-      end = ended (find (λ x. x .writes) (p .bursts)) (s .tWTR);
-      reader = readerOf (find reads (p .bursts));
-      writer = writerOf (find (λ x. x .writes) (p .bursts));
+      end = ended (lastWrite p) (s .tWTR);
+      reader = readerOf (lastRead p);
+      writer = writerOf (lastWrite p);
     }

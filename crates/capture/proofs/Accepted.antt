@@ -7,11 +7,12 @@ use mathlib.Core.Path.{_≡_, refl, sym, ap, _∙_}
 use native.Mathlib.Decide.{decLt}
 use native.Mathlib.Omega.{arith}
 use borrow.Author.Tests.{eqb-true, leb-true, ltb-true, ltb-false, not-false, ne-eqb}
-use lib.ListN.{length, getD}
+use lib.ListN.{length, getD, length-map}
 use lib.Dec.{leb, ltb, eqb}
-use Rattle.reading.specs.Search.{given}
+use Rattle.reading.specs.Search.{given, count}
+use Rattle.reading.specs.Words.{wordAt}
 use Rattle.reading.specs.Settings.{settingFits, badSetting}
-use Rattle.reading.specs.Capture.{headerWord, eventCount, settingWords, eventPart, eventAt, badLength, goodHeader, lastCycle, eventFits, badEvent}
+use Rattle.reading.specs.Capture.{headerWord, eventCount, settingWords, eventPart, eventAt, badLength, goodHeader, lastCycle, pinBits, cycleFits, eventFits, badEvent}
 use Rattle.reading.specs.Answers.{Answer, refused, answered, unless, accepted}
 use Rattle.words.proofs.Search.{none-below}
 
@@ -33,7 +34,7 @@ followed {A} capture rest =
     let o1 = given 0 (badLength capture) in
     let o2 = given 0 (not (goodHeader capture)) in
     let o3 = badSetting (settingWords capture) in
-    let o4 = badEvent (eventPart capture) (eventCount capture) in
+    let o4 = badEvent (pinBits capture) (eventPart capture) (eventCount capture) in
     let a4 : Answer (Unit {0}) = unless 4 o4 (answered tt) in
     let a3 : Answer (Unit {0}) = unless 3 o3 a4 in
     let a2 : Answer (Unit {0}) = unless 2 o2 a3 in
@@ -58,7 +59,7 @@ pub record Sized (capture : List ℕ) : Type 0 where
 pub record Sound (capture : List ℕ) : Type 0 where
   pub sized : Sized capture
   pub settings : (i : ℕ) → i < 14 → settingFits i (getD (settingWords capture) i 0) ≡ true
-  pub events : (i : ℕ) → i < eventCount capture → eventFits (eventPart capture) i ≡ true
+  pub events : (i : ℕ) → i < eventCount capture → cycleFits (eventPart capture) i ≡ true
 
 nothing-wrong : (o1 o2 o3 o4 : Option ℕ) →
     unless 1 o1 (unless 2 o2 (unless 3 o3 (unless 4 o4 (answered (tt {0}))))) ≡ answered tt →
@@ -107,38 +108,39 @@ module _ (capture : List ℕ) where
         few = leb-true _ _ (counts h .0);
       }
 
+  pub words-count : length (settingWords capture) ≡ 14
+  unfolding settingWords
+  words-count = length-map (count 0 14) (λ i. wordAt capture (24 + 4 * i))
+
   pub accepted-sound : accepted capture (answered (tt {0})) ≡ answered tt → Sound capture
-  unfolding accepted badSetting badEvent
+  unfolding accepted badSetting badEvent eventFits
   accepted-sound h =
-      let clear = nothing-wrong (given 0 (badLength capture)) (given 0 (not (goodHeader capture))) (badSetting (settingWords capture)) (badEvent (eventPart capture) (eventCount capture)) h in
+      let bits = pinBits capture in
+      let clear = nothing-wrong (given 0 (badLength capture)) (given 0 (not (goodHeader capture))) (badSetting (settingWords capture)) (badEvent bits (eventPart capture) (eventCount capture)) h in
+      let fits : (i : ℕ) → i < eventCount capture → eventFits bits (eventPart capture) i ≡ true =
+      λ i l. not-false _ (none-below (λ j. not (eventFits bits (eventPart capture) j)) (eventCount capture) (clear .3) i l) in
       record {
         sized = sized (not-given _ (clear .0)) (not-false _ (not-given _ (clear .1)));
-        settings = λ i l. not-false _ (none-below (λ j. not (settingFits j (getD (settingWords capture) j 0))) 14 (clear .2) i l);
-        events = λ i l. not-false _ (none-below (λ j. not (eventFits (eventPart capture) j)) (eventCount capture) (clear .3) i l);
+        settings = λ i l. not-false _ (none-below (λ j. not (settingFits j (getD (settingWords capture) j 0))) (length (settingWords capture)) (clear .2) i (omega (arith, words-count)));
+        events = λ i l. both (ltb (eventAt (eventPart capture) i .pins) (2 ^ bits)) _ (fits i l) .1;
       }
 
 -- ---- events that fit
 
-module _ (part : List ℕ) (i : ℕ) (h : eventFits part i ≡ true) where
-  fit : (ltb (eventAt part i .pins) (2 ^ 20) ≡ true) × (leb (eventAt part i .cycle) lastCycle ≡ true)
-  unfolding eventFits
-  fit = both _ _ (both (ltb (eventAt part i .pins) (2 ^ 20) && leb (eventAt part i .cycle) lastCycle) _ h .0)
-
-  pub pins-fit : eventAt part i .pins < 2 ^ 20
-  pins-fit = ltb-true _ _ (fit .0)
+module _ (part : List ℕ) (i : ℕ) (h : cycleFits part i ≡ true) where
+  fit : (leb (eventAt part i .cycle) lastCycle ≡ true) × ((eqb i 0 || ltb (eventAt part (i - 1) .cycle) (eventAt part i .cycle)) ≡ true)
+  fit = both (leb (eventAt part i .cycle) lastCycle) _ h
 
   pub cycle-fits : eventAt part i .cycle ≤ lastCycle
-  cycle-fits = leb-true _ _ (fit .1)
+  cycle-fits = leb-true _ _ (fit .0)
 
   pub cycle-rises : 0 < i → eventAt part (i - 1) .cycle < eventAt part i .cycle
-  unfolding eventFits
   cycle-rises l =
-      let rises = ltb (eventAt part (i - 1) .cycle) (eventAt part i .cycle) in
       let first : eqb i 0 ≡ false = ne-eqb i 0 (omega arith) in
-      ltb-true _ _ (rw first at (both (ltb (eventAt part i .pins) (2 ^ 20) && leb (eventAt part i .cycle) lastCycle) (eqb i 0 || rises) h .1))
+      ltb-true _ _ (rw first at (fit .1))
 
 -- cycles rise strictly
-pub cycles-rise : (part : List ℕ) (n : ℕ) → ((i : ℕ) → i < n → eventFits part i ≡ true) →
+pub cycles-rise : (part : List ℕ) (n : ℕ) → ((i : ℕ) → i < n → cycleFits part i ≡ true) →
     (i j : ℕ) → i < j → j < n → eventAt part i .cycle < eventAt part j .cycle
 cycles-rise part n f i zero l m = absurd (omega arith)
 cycles-rise part n f i (suc j) l m = go (decLt i j) (λ k. cycles-rise part n f i j k (omega arith))

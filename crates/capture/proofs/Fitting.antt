@@ -71,7 +71,7 @@ module _ (part : List ℕ) (n : ℕ) where
         let z : j + (i - 1 - j) ≡ i - 1 = omega arith in
         rw (b .latest, ← z) (climbs j (i - 1 - j) (omega arith))
 
-    fits : last ≤ lastCycle → (j : ℕ) → j < i → eventFits part j ≡ true
+    fits : last ≤ lastCycle → (j : ℕ) → j < i → eventFits 20 part j ≡ true
     unfolding eventFits
     fits m j l =
         rw (lt-ltb (eventAt part j .pins) (2 ^ 20) (b .low e j l), le-leb (eventAt part j .cycle) lastCycle (omega (arith, below-last j l))) (above j l)
@@ -82,12 +82,12 @@ module _ (part : List ℕ) (n : ℕ) where
             rw (ne-eqb (suc j) 0 (λ q. omega arith))
             (lt-ltb (eventAt part (suc j - 1) .cycle) (eventAt part (suc j) .cycle) (b .rise e (suc j) (omega arith) l))
 
-  pub ends : {fine r : Bool} {last i : ℕ} → Looked fine last i → n ≤ i → r ≡ (fine && leb last lastCycle) → r ≡ true → badEvent part n ≡ none
+  pub ends : {fine r : Bool} {last i : ℕ} → Looked fine last i → n ≤ i → r ≡ (fine && leb last lastCycle) → r ≡ true → badEvent 20 part n ≡ none
   unfolding badEvent
   ends {fine} {r} {last} {i} b l f e =
       let told = both fine (leb last lastCycle) (sym f ∙ e) in
       nothing-below _ n (λ j k. rw (fits b (told .0) (leb-true last lastCycle (told .1)) j (omega arith)))
 
-  pub no-events : n ≡ 0 → badEvent part n ≡ none
+  pub no-events : n ≡ 0 → badEvent 20 part n ≡ none
   unfolding badEvent
   no-events z = rw z

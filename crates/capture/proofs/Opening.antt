@@ -20,9 +20,8 @@ module _ (capture : List ℕ) where
   part-is = take-all (length capture - 80) (drop 80 capture) (omega (arith, length-drop 80 capture))
 
   pub events-within : Sized capture → {n : ℕ} → n ≡ eventCount capture →
-      (n ≤ 8000) × (8 * n ≤ length (take (length capture - 80) (drop 80 capture)))
-  events-within s {n} e =
-      (omega (arith, s .few), omega (arith, s .size, ap (length {A = ℕ}) part-is, length-drop 80 capture))
+      (n ≤ 8000) × (8 * n ≤ length (eventPart capture))
+  events-within s {n} e = (omega (arith, s .few), omega (arith, s .size, length-drop 80 capture))
 
   pub wrong-length : badLength capture ≡ true → refused 1 0 ≡ accepted capture (answered (tt {0}))
   unfolding accepted
@@ -39,8 +38,8 @@ module _ (capture : List ℕ) where
       wrong-setting e = rw (right-length, right-header, sym is-setting, e)
 
       pub right-settings : setting ≡ Nothing → (event : Found) {n : ℕ} → n ≡ eventCount capture →
-          placeOf event ≡ badEvent (take (length capture - 80) (drop 80 capture)) n →
+          placeOf event ≡ badEvent 20 (eventPart capture) n →
           unless 4 (placeOf event) (answered tt) ≡ accepted capture (answered (tt {0}))
       unfolding accepted
       right-settings e event c is-event =
-          rw (right-length, right-header, sym is-setting, e, is-event, part-is, c)
+          rw (right-length, right-header, sym is-setting, e, is-event, c)

@@ -50,10 +50,10 @@ above : (b : Bool) (before cycle : ℕ) → leb (cond b 0 (suc before)) cycle �
 above true before cycle = leb·zero cycle
 above false before cycle = refl
 
-fits-next : (part : List ℕ) (i : ℕ) → fitsFrom (nextCycle part i) (eventAt part i .cycle) (eventAt part i .pins) ≡ eventFits part i
+fits-next : (part : List ℕ) (i : ℕ) → fitsFrom (nextCycle part i) (eventAt part i .cycle) (eventAt part i .pins) ≡ eventFits 20 part i
 unfolding fitsFrom eventFits nextCycle
 fits-next part i =
-    ap (λ (b : Bool). ltb (eventAt part i .pins) (2 ^ 20) && leb (eventAt part i .cycle) lastCycle && b)
+    ap (λ (b : Bool). ltb (eventAt part i .pins) (2 ^ 20) && (leb (eventAt part i .cycle) lastCycle && b))
     (above (eqb i 0) (eventAt part (i - 1) .cycle) (eventAt part i .cycle))
 
 next-after : (part : List ℕ) (i : ℕ) → nextCycle part (i + 1) ≡ eventAt part i .cycle + 1
@@ -64,12 +64,12 @@ next-after part i =
     rw (first, e) (sym (add-one _))
 
 abbrev bad : List ℕ → ℕ → Bool
-bad part i = not (eventFits part i)
+bad part i = not (eventFits 20 part i)
 
 pub record Sought (part : List ℕ) (n next i : ℕ) : Type 0 where
   pub within : i ≤ n
   pub above : next ≡ nextCycle part i
-  pub same : foundFrom (bad part) n i ≡ badEvent part n
+  pub same : foundFrom (bad part) n i ≡ badEvent 20 part n
 
 pub begins : (part : List ℕ) (n : ℕ) → Sought part n 0 0
 unfolding badEvent nextCycle
@@ -77,7 +77,7 @@ begins part n = record { within = omega arith; above = refl; same = search.begin
 
 module _ {part : List ℕ} {n next i cycle pins : ℕ} (s : Sought part n next i) (l : i < n)
     (is-cycle : cycle ≡ eventAt part i .cycle) (is-pins : pins ≡ eventAt part i .pins) where
-  told : fitsFrom next cycle pins ≡ eventFits part i
+  told : fitsFrom next cycle pins ≡ eventFits 20 part i
   told = rw (s .above, is-cycle, is-pins) (fits-next part i)
 
   pub goes-on : fitsFrom next cycle pins ≡ true → Sought part n (cycle + 1) (i + 1)
@@ -88,14 +88,14 @@ module _ {part : List ℕ} {n next i cycle pins : ℕ} (s : Sought part n next i
         same = sym (search.goes-on (bad part) n i l (ap not (sym told ∙ e))) ∙ s .same;
       }
 
-  pub stops : fitsFrom next cycle pins ≡ false → some i ≡ badEvent part n
+  pub stops : fitsFrom next cycle pins ≡ false → some i ≡ badEvent 20 part n
   stops e = sym (search.stops (bad part) n i l (ap not (sym told ∙ e))) ∙ s .same
 
-pub ends : {part : List ℕ} {n next i : ℕ} → Sought part n next i → n ≤ i → none ≡ badEvent part n
+pub ends : {part : List ℕ} {n next i : ℕ} → Sought part n next i → n ≤ i → none ≡ badEvent 20 part n
 ends {part} {n} {next} {i} s l = sym (search.ends (bad part) n i l) ∙ s .same
 
 -- a cycle that fits leaves room for the next
 pub room : (next cycle pins : ℕ) → fitsFrom next cycle pins ≡ true → cycle ≤ lastCycle
 unfolding fitsFrom
 room next cycle pins h =
-    leb-true _ _ (both (ltb pins (2 ^ 20)) _ (both (ltb pins (2 ^ 20) && leb cycle lastCycle) _ h .0) .1)
+    leb-true _ _ (both (leb cycle lastCycle) _ (both (ltb pins (2 ^ 20)) _ h .1) .0)

@@ -6,4 +6,4 @@ use Rattle.reading.specs.Capture.{lastCycle}
 
 -- an event's words, where next is the first cycle that is above the one before
 unfoldable pub fitsFrom : ℕ → ℕ → ℕ → Bool
-fitsFrom next cycle pins = ltb pins (2 ^ 20) && leb cycle lastCycle && leb next cycle
+fitsFrom next cycle pins = ltb pins (2 ^ 20) && (leb cycle lastCycle && leb next cycle)

@@ -1,5 +1,7 @@
 // A capture in bytes: whether it is accepted, and its settings and events.
+use settings::COUNT;
 use settings::Checked;
+use settings::Settings;
 use words::Found;
 ghost use mathlib.Core.Path.{_≡_};
 ghost use mathlib.Core.Bool.{true, not, _&&_};
@@ -7,19 +9,36 @@ ghost use mathlib.Core.Option.{none};
 ghost use Prim.Native.Nat.{_+_, _*_, _≤_};
 ghost use lib.ListN.{length};
 ghost use Rattle.words.specs.Found.{placeOf};
-ghost use Rattle.reading.specs.Capture.{eventCount, settingWords, eventAt, badLength, goodHeader, badEvent};
+ghost use Rattle.reading.specs.Capture.{eventCount, settingWords, eventPart, eventAt, badLength, goodHeader, badEvent};
 ghost use Rattle.reading.specs.Answers.{answered, accepted};
 ghost use Rattle.settings.specs.Meaning.{means};
 ghost use Rattle.capture.specs.Meaning.{fitsFrom};
+
+// Where the settings start, and where the events do.
+const SETTINGS: usize = 24;
+
+const EVENTS: usize = SETTINGS + 4 * COUNT;
+
+const MOST_EVENTS: u32 = 8_000;
+
+// Of the shortest and of the longest capture.
+const LEAST: usize = EVENTS;
+
+const MOST: usize = EVENTS + 8 * (MOST_EVENTS as usize);
+
+// Pin words are below this: bits 20-31 are zero.
+const PINS: u32 = 1 << 20;
+
+const LAST_CYCLE: u32 = 2_000_000_000;
 
 fn bad_length(capture: &[u8]) -> bool
     ensures { λ r. ⌜ r ≡ badLength (now (capture .entry)) ⌝ }
 {
     let size = capture.len();
-    if size < 80 {
+    if size < LEAST {
         return true;
     }
-    if 64_080 < size {
+    if MOST < size {
         return true;
     }
     words::word_at(capture, 0) as usize != size
@@ -37,38 +56,46 @@ fn bad_header(capture: &[u8]) -> bool
     requires { ⌜ 24 ≤ length (now capture) ⌝ }
     ensures { λ r. ⌜ r ≡ not (goodHeader (now (capture .entry))) ⌝ }
 {
-    if words::word_at(capture, 4) != 14 {
+    if words::word_at(capture, 4) != COUNT as u32 {
         return true;
     }
-    if words::word_at(capture, 8) != 24 {
+    if words::word_at(capture, 8) != SETTINGS as u32 {
         return true;
     }
     let n = event_count(capture);
-    if 8_000 < n {
+    if MOST_EVENTS < n {
         return true;
     }
-    if words::word_at(capture, 16) != 80 {
+    if words::word_at(capture, 16) != EVENTS as u32 {
         return true;
     }
     if words::word_at(capture, 20) != 0 {
         return true;
     }
-    words::word_at(capture, 0) != 80 + 8 * n
+    words::word_at(capture, 0) != EVENTS as u32 + 8 * n
 }
 
-// The fourteen settings, as words.
-pub fn setting_words(capture: &[u8]) -> [u32; 14]
+// The settings, as words.
+pub fn setting_words(capture: &[u8]) -> Settings
     requires { ⌜ 80 ≤ length (now capture) ⌝ }
     ensures { λ r. ⌜ r ≡ settingWords (now (capture .entry)) ⌝ }
 {
-    let mut loaded = [0u32; 14];
-    for i in 0..14 {
-        loaded[i] = words::word_at(capture, 24 + 4 * i);
+    let mut loaded = [0u32; COUNT];
+    for i in 0..COUNT {
+        loaded[i] = words::word_at(capture, SETTINGS + 4 * i);
     }
     loaded
 }
 
-// The cycle of event i in the part of the capture that starts at byte 80.
+// The part of the capture that starts where the events do, where event i stands at byte 8 i.
+pub fn event_part(capture: &[u8]) -> &[u8]
+    requires { ⌜ 80 ≤ length (now capture) ⌝ }
+    ensures { λ r. ⌜ now r ≡ eventPart (now (capture .entry)) ⌝ }
+{
+    &capture[EVENTS..]
+}
+
+// The cycle of event i in that part.
 pub fn cycle_at(part: &[u8], i: usize) -> u32
     requires { ⌜ 8 * i + 8 ≤ length (now part) ⌝ }
     ensures { λ r. ⌜ r ≡ eventAt (now (part .entry)) i .cycle ⌝ }
@@ -87,10 +114,10 @@ pub fn pins_at(part: &[u8], i: usize) -> u32
 fn event_fits(next: u32, cycle: u32, pins: u32) -> bool
     ensures { λ r. ⌜ r ≡ fitsFrom next cycle pins ⌝ }
 {
-    if 1_048_576 <= pins {
+    if PINS <= pins {
         return false;
     }
-    if 2_000_000_000 < cycle {
+    if LAST_CYCLE < cycle {
         return false;
     }
     next <= cycle
@@ -105,25 +132,25 @@ fn both(a: bool, b: bool) -> bool
 // Told of a capture without a branch for each event, as most are: cycles that rise are not too large if the last is not.
 fn all_fit(part: &[u8], n: usize) -> bool
     requires { ⌜ (n ≤ 8000) × (8 * n ≤ length (now part)) ⌝ }
-    ensures { λ r. ⌜ (r ≡ true → badEvent (now (part .entry)) n ≡ none) ⌝ }
+    ensures { λ r. ⌜ (r ≡ true → badEvent 20 (now (part .entry)) n ≡ none) ⌝ }
 {
     if n == 0 {
         return true;
     }
-    let mut fine = pins_at(part, 0) < 1_048_576;
+    let mut fine = pins_at(part, 0) < PINS;
     let mut last = cycle_at(part, 0);
     for i in 1..n {
         let t = cycle_at(part, i);
         let w = pins_at(part, i);
-        fine = both(fine, both(last < t, w < 1_048_576));
+        fine = both(fine, both(last < t, w < PINS));
         last = t;
     }
-    both(fine, last <= 2_000_000_000)
+    both(fine, last <= LAST_CYCLE)
 }
 
 fn lowest_bad_event(part: &[u8], n: usize) -> Found
     requires { ⌜ (n ≤ 8000) × (8 * n ≤ length (now part)) ⌝ }
-    ensures { λ r. ⌜ placeOf r ≡ badEvent (now (part .entry)) n ⌝ }
+    ensures { λ r. ⌜ placeOf r ≡ badEvent 20 (now (part .entry)) n ⌝ }
 {
     if all_fit(part, n) {
         return Found::Nothing;
@@ -163,7 +190,7 @@ pub fn open(capture: &[u8]) -> Checked
         return Checked::Refused { number: 3, place };
     }
     let n = event_count(capture) as usize;
-    let Found::At(place) = lowest_bad_event(&capture[80..], n) else {
+    let Found::At(place) = lowest_bad_event(event_part(capture), n) else {
         return Checked::Fine;
     };
     Checked::Refused { number: 4, place }

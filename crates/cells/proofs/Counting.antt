@@ -10,7 +10,7 @@ use Rattle.reading.specs.Settings.{Settings, settingsOf}
 use Rattle.reading.specs.Capture.{Event, eventAt}
 use Rattle.reading.specs.Cells.{burstsOf, cellsOf}
 use Rattle.reading.specs.Part.{Part, start, step}
-use Rattle.part.specs.Steps.{modeAfter}
+use Rattle.pins.specs.Pins.{modeAfter}
 use Rattle.beats.specs.Kept as kept
 use Rattle.beats.specs.Kept.{eventsFrom, keptOf}
 use Rattle.beats.proofs.Events.{next-event, no-event, events-rise}

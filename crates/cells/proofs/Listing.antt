@@ -91,7 +91,7 @@ module _ (c : List ℕ) (buffer : List ℕ) (o : Checked) (opened : check.means 
       (refused-rest c (unless 8 (notClean (verdictIn c)) (fitting buffer (cellsIn c))) (sym opened ∙ ap check.means e)))
 
   module _ (fine : o ≡ checked.Fine) {settings : List ℕ} {n : ℕ} {part : List ℕ}
-      (e : settings ≡ settingWords c) (f : n ≡ eventCount c) (g : part ≡ drop 80 c) where
+      (e : settings ≡ settingWords c) (f : n ≡ eventCount c) (g : part ≡ eventPart c) where
     open-to : accepted c (answered (tt {0})) ≡ answered tt
     open-to = sym opened ∙ ap check.means fine
 

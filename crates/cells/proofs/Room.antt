@@ -18,7 +18,7 @@ use Rattle.reading.specs.Capture.{Event, eventAt}
 use Rattle.reading.specs.Commands.{MODE-REGISTER-SET, Command, commandOf, is}
 use Rattle.reading.specs.Part.{Part, start, step}
 use Rattle.reading.specs.Rules.{brokenBy}
-use Rattle.reading.specs.Verdict.{Verdict, clean, broken, onward, judgeFrom, verdictOf}
+use Rattle.reading.specs.Verdict.{Verdict, clean, broken, onward, judgeFrom, verdictOf, judgeBy, verdictBy}
 use Rattle.reading.specs.Answers.{notClean}
 use Rattle.reading.proofs.Meaning.{none-broken}
 use Rattle.judge.specs.Meaning.{eventsIn}
@@ -74,7 +74,7 @@ module _ (s : Settings) where
   given-cells p e es = length-cells _ _ _ _
 
   few-cells : (p : Part) (i : ℕ) (es : List Event) → modeWord (p .mode) ≡ true → judgeFrom s p i es ≡ clean → length (cellsFrom s p es) ≤ 16 * length es
-  unfolding judgeFrom
+  unfolding judgeBy
   few-cells p i [] v k = omega arith
   few-cells p i (e ∷ es) v k =
       let next = clean-rest (brokenBy s p e) i (e .cycle) (judgeFrom s (step s p e) (suc i) es) k in
@@ -93,7 +93,7 @@ is-clean (broken r i t) e = let z : _≡_ {A = ℕ} 0 1 = cc in absurd (omega ar
 
 module _ (settings part : List ℕ) (n : ℕ) (z : Listable settings part n) where
   sixteen-each : notClean (verdictOf (settingsOf settings) (eventsIn part n)) ≡ none → length (cellsOn (settingsOf settings) part n) ≤ 16 * n
-  unfolding verdictOf
+  unfolding verdictBy
   sixteen-each k =
       omega (
         arith,

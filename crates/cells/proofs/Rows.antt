@@ -10,7 +10,7 @@ use lib.ListN.{getD, set}
 use Rattle.reading.specs.Settings.{Settings}
 use Rattle.reading.specs.Capture.{Event}
 use Rattle.reading.specs.Part.{Part, step}
-use Rattle.part.specs.Steps.{codeOf, bankOf, addressOf, modeAfter}
+use Rattle.pins.specs.Pins.{codeOf, bankOf, addressOf, modeAfter}
 use Rattle.beats.specs.Kept.{gives}
 use Rattle.beats.specs.Rows.{firstCell, firstCells, cellsOpened}
 use Rattle.beats.proofs.Commands.{row-is}

@@ -9,7 +9,7 @@ use lib.ListN.{getD}
 use Rattle.reading.specs.Settings.{Settings}
 use Rattle.reading.specs.Capture.{Event, eventAt}
 use Rattle.reading.specs.Bursts.{columnOf}
-use Rattle.part.specs.Steps.{bankOf, addressOf}
+use Rattle.pins.specs.Pins.{bankOf, addressOf}
 use Rattle.beats.specs.Kept.{gives, eventsFrom, keptOf}
 use Rattle.cells.specs.declared.Given.{Given}
 use Rattle.cells.specs.declared.Given.the-variants.{Burst, Other}

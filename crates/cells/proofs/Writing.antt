@@ -12,7 +12,7 @@ use Rattle.reading.specs.Capture.{Event, eventAt}
 use Rattle.reading.specs.Bursts.{columnOf}
 use Rattle.reading.specs.Part.{Part, start, step}
 use Rattle.words.proofs.Runs.{sets-append}
-use Rattle.part.specs.Steps.{bankOf, addressOf, modeAfter}
+use Rattle.pins.specs.Pins.{bankOf, addressOf, modeAfter}
 use Rattle.beats.specs.Kept.{gives, eventsFrom, keptOf}
 use Rattle.beats.specs.Rows.{InRow, firstCell, firstCells, cellsOpened, beatCells}
 use Rattle.beats.proofs.Columns.{column-lt, first-lt}

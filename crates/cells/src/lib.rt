@@ -1,8 +1,9 @@
 // The burst list: the cells of every kept beat of a clean capture, written into a lent buffer.
-use deadlines::places::MODE;
 use deadlines::sums;
 use judge::Verdict;
 use settings::Checked;
+use settings::Settings;
+use settings::places::MODE;
 use words::Found;
 ghost use mathlib.Core.Path.{_≡_};
 ghost use mathlib.Core.Option.{none};
@@ -29,7 +30,7 @@ enum Given {
 }
 
 // The first event that breaks a rule.
-fn first_broken(s: &[u32; 14], part: &[u8], n: u32) -> Found
+fn first_broken(s: &Settings, part: &[u8], n: u32) -> Found
     requires { ⌜ Listable (now s) (now part) n ⌝ }
     ensures { λ r. ⌜ placeOf r ≡ notClean (verdictOf (settingsOf (now (s .entry))) (eventsIn (now (part .entry)) n)) ⌝ }
 {
@@ -43,7 +44,7 @@ fn first_broken(s: &[u32; 14], part: &[u8], n: u32) -> Found
 }
 
 // How many cells there are: two for each pair that a burst keeps.
-fn needed(s: &[u32; 14], part: &[u8], n: u32) -> u32
+fn needed(s: &Settings, part: &[u8], n: u32) -> u32
     requires { ⌜ Listable (now s) (now part) n ⌝ }
     ensures { λ r. ⌜ r ≡ length (cellsOn (settingsOf (now (s .entry))) (now (part .entry)) n) ⌝ }
 {
@@ -60,7 +61,7 @@ fn needed(s: &[u32; 14], part: &[u8], n: u32) -> u32
 
 // The cells that are needed, where the buffer has room for fewer. Sixteen a command are enough for a clean capture, and
 // then nothing is counted.
-fn lacking(s: &[u32; 14], part: &[u8], n: u32, room: usize) -> Found
+fn lacking(s: &Settings, part: &[u8], n: u32, room: usize) -> Found
     requires { ⌜ Listable (now s) (now part) n ⌝ }
     requires { ⌜ notClean (verdictOf (settingsOf (now s)) (eventsIn (now part) n)) ≡ none ⌝ }
     ensures { λ r. ⌜ placeOf r ≡ lackingIn room (length (cellsOn (settingsOf (now (s .entry))) (now (part .entry)) n)) ⌝ }
@@ -76,17 +77,17 @@ fn lacking(s: &[u32; 14], part: &[u8], n: u32, room: usize) -> Found
 }
 
 // Event i, by the first cells of the rows that the banks were opened on and the mode word before it.
-fn step(s: &[u32; 14], part: &[u8], n: u32, i: u32, firsts: &[u32; 4], mode: u32) -> Given
+fn step(s: &Settings, part: &[u8], n: u32, i: u32, firsts: &[u32; 4], mode: u32) -> Given
     requires { ⌜ Listable (now s) (now part) n × (i < n) ⌝ }
     ensures { λ r. ⌜ r ≡ givenAs (givenBy (settingsOf (now (s .entry))) (now (part .entry)) n i (now (firsts .entry)) mode) ⌝ }
 {
-    let pins = capture::pins_at(part, i as usize);
-    if !beats::gives_burst(pins) {
+    let w = capture::pins_at(part, i as usize);
+    if !beats::gives_burst(w) {
         return Given::Other;
     }
-    let bank = beats::bank(pins);
-    let first = firsts[bank as usize];
-    let column = beats::column(s, pins);
+    let bank = pins::bank(w);
+    let first = firsts[bank];
+    let column = beats::column(s, w);
     let pairs = beats::kept(part, n, i, mode);
     Given::Burst {
         first,
@@ -96,7 +97,7 @@ fn step(s: &[u32; 14], part: &[u8], n: u32, i: u32, firsts: &[u32; 4], mode: u32
 }
 
 // Writes the cells from out[0] on, and says how many.
-fn write(s: &[u32; 14], part: &[u8], n: u32, out: &mut [u32]) -> u32
+fn write(s: &Settings, part: &[u8], n: u32, out: &mut [u32]) -> u32
     requires { ⌜ Listable (now s) (now part) n ⌝ }
     requires { ⌜ length (cellsOn (settingsOf (now s)) (now part) n) ≤ length (now out) ⌝ }
     ensures { λ r. ⌜ r ≡ length (cellsOn (settingsOf (now (s .entry))) (now (part .entry)) n) ⌝ }
@@ -113,9 +114,9 @@ fn write(s: &[u32; 14], part: &[u8], n: u32, out: &mut [u32]) -> u32
             pairs,
         } = event
         else {
-            let pins = capture::pins_at(part, i as usize);
-            beats::open_row(s, &mut firsts, pins);
-            mode = beats::mode_after(mode, pins);
+            let w = capture::pins_at(part, i as usize);
+            beats::open_row(s, &mut firsts, w);
+            mode = beats::mode_after(mode, w);
             continue 'events;
         };
         beats::write_burst(out, next, first, mode, column, pairs);
@@ -125,7 +126,7 @@ fn write(s: &[u32; 14], part: &[u8], n: u32, out: &mut [u32]) -> u32
 }
 
 // Refusals 8 and 7, in this order; else the cells.
-fn list(s: &[u32; 14], part: &[u8], n: u32, out: &mut [u32]) -> Listed
+fn list(s: &Settings, part: &[u8], n: u32, out: &mut [u32]) -> Listed
     requires { ⌜ Listable (now s) (now part) n ⌝ }
     ensures { λ r. ⌜ means r ≡ listing (settingsOf (now (s .entry))) (now (part .entry)) n (now (out .entry)) .answer ⌝ }
     ensures { λ _. ⌜ now (out .exit) ≡ listing (settingsOf (now (s .entry))) (now (part .entry)) n (now (out .entry)) .buffer ⌝ }
@@ -159,5 +160,6 @@ pub fn burst_cells(capture: &[u8], out: &mut [u32]) -> Listed
     }
     let settings = capture::setting_words(capture);
     let n = capture::event_count(capture);
-    list(&settings, &capture[80..], n, out)
+    let part = capture::event_part(capture);
+    list(&settings, part, n, out)
 }

@@ -79,10 +79,18 @@ paceOf mode = h mode ∷ CL mode ∷ []
 abbrev pub orElse : Bool → ℕ → ℕ → ℕ
 orElse kept rule rest = cond kept rest rule
 
--- nothing has happened: no read that can be cut, and GAP from cycle 0 on
+-- ---- the refresh clock
+
+abbrev pub dueAtStart : Settings → ℕ
+dueAtStart s = s .GAP + 0
+
+abbrev pub dueAfterRefresh : Settings → ℕ → ℕ
+dueAfterRefresh s t = t + s .GAP
+
+-- nothing has happened: no read that can be cut
 unfoldable pub startOf : Settings → List ℕ
 startOf s =
-    let d₁ = set (replicate 40 0) DUE (s .GAP + 0) in
+    let d₁ = set (replicate 40 0) DUE (dueAtStart s) in
     let d₂ = set d₁ READER 4 in
     let d₃ = set d₂ LOCKED (s .tRAS + s .tRP) in
     let d₄ = set d₃ (LOCKED + 1) (s .tRAS + s .tRP) in
@@ -215,7 +223,7 @@ unfoldable pub closeAllAfter : Settings → List ℕ → List ℕ → ℕ → Li
 closeAllAfter s d m t = cutRead (restAll d (t + s .tRP)) m t (ltb (at (restAll d (t + s .tRP)) READER) 4)
 
 unfoldable pub refreshAfter : Settings → List ℕ → ℕ → List ℕ
-refreshAfter s d t = set (set d BUSY (t + s .tRFC)) DUE (t + s .GAP)
+refreshAfter s d t = set (set d BUSY (t + s .tRFC)) DUE (dueAfterRefresh s t)
 
 unfoldable pub modeSetAfter : Settings → List ℕ → ℕ → List ℕ
 modeSetAfter s d t = set d BUSY (t + s .tMRD)

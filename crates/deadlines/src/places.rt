@@ -1,4 +1,4 @@
-// Where each deadline stands among the forty, and each time among the settings (specs/Deadlines).
+// Where each deadline stands (specs/Deadlines).
 
 // Of each bank.
 pub const OPEN: usize = 0;
@@ -38,28 +38,3 @@ pub const WRITER: usize = 39;
 pub const PAIRS: usize = 0;
 
 pub const LATENCY: usize = 1;
-
-// Settings, by document 01's numbers.
-pub const ROW_BITS: usize = 1;
-
-pub const MODE: usize = 3;
-
-pub const T_RCD: usize = 4;
-
-pub const T_RP: usize = 5;
-
-pub const T_RAS: usize = 6;
-
-pub const T_RC: usize = 7;
-
-pub const T_RRD: usize = 8;
-
-pub const T_WR: usize = 9;
-
-pub const T_WTR: usize = 10;
-
-pub const T_RFC: usize = 11;
-
-pub const T_MRD: usize = 12;
-
-pub const GAP: usize = 13;

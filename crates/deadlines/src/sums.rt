@@ -1,4 +1,5 @@
 // Sums of cycles and times, wide enough to hold them; choices without a branch.
+use crate::Pace;
 ghost use mathlib.Core.Path.{_≡_};
 ghost use mathlib.Core.Bool.{cond};
 ghost use Prim.Native.Nat.{_+_, _^_, _%_};
@@ -63,7 +64,7 @@ fn half(mode: u32) -> u32
 }
 
 // h and CL of a mode word.
-pub fn pace(mode: u32) -> [u32; 2]
+pub fn pace(mode: u32) -> Pace
     ensures { λ r. ⌜ r ≡ paceOf mode ⌝ }
 {
     [half(mode), mode / 16 % 8]

@@ -87,7 +87,7 @@ module _ (ws qs out : List ℕ) (n : ℕ) (e : scheduleOutcome ws qs out .answer
   outcome-memory : (r : Run) → replay (settingsIn capture) (eventsOf capture) r ≡ plain (settingsOf ws) qs r
   outcome-memory r =
       rw (written .bytes, settings-back ws es l (written .settings) few (y .rises) (y .early), events-back ws es l (written .settings) few (y .rises) (y .early))
-      (schedule-is-plain (settingsOf ws) (ranged ws (settings-fit ws (written .settings)) .sized) qs es
+      (schedule-is-plain (settingsOf ws) (ranged ws (settings-fit ws (written .fourteen) (written .settings)) .sized) qs es
       (requests-fit (settingsOf ws) qs (written .requests)) (written .schedule) r)
     where
       es : List Event

@@ -1,4 +1,8 @@
 // What a command makes of the deadlines.
+use deadlines::Deadlines;
+use deadlines::KEPT;
+use deadlines::Pace;
+use deadlines::clock;
 use deadlines::places::AGAIN;
 use deadlines::places::BUSY;
 use deadlines::places::CLOSE;
@@ -6,7 +10,6 @@ use deadlines::places::COLUMN;
 use deadlines::places::DATA;
 use deadlines::places::DUE;
 use deadlines::places::END;
-use deadlines::places::GAP;
 use deadlines::places::LATENCY;
 use deadlines::places::LOCKED;
 use deadlines::places::OPEN;
@@ -15,15 +18,6 @@ use deadlines::places::PAIRS;
 use deadlines::places::READER;
 use deadlines::places::READS;
 use deadlines::places::REST;
-use deadlines::places::T_MRD;
-use deadlines::places::T_RAS;
-use deadlines::places::T_RC;
-use deadlines::places::T_RCD;
-use deadlines::places::T_RFC;
-use deadlines::places::T_RP;
-use deadlines::places::T_RRD;
-use deadlines::places::T_WR;
-use deadlines::places::T_WTR;
 use deadlines::places::WRITER;
 use deadlines::places::WRITES;
 use deadlines::places::WRITTEN;
@@ -34,12 +28,22 @@ use deadlines::sums::data_after2;
 use deadlines::sums::latest;
 use deadlines::sums::least;
 use deadlines::sums::pick;
+use settings::Settings;
+use settings::places::T_MRD;
+use settings::places::T_RAS;
+use settings::places::T_RC;
+use settings::places::T_RCD;
+use settings::places::T_RFC;
+use settings::places::T_RP;
+use settings::places::T_RRD;
+use settings::places::T_WR;
+use settings::places::T_WTR;
 ghost use mathlib.Core.Path.{_≡_};
 ghost use Prim.Native.Nat.{_+_, _<_};
 ghost use Rattle.reading.specs.Settings.{settingsOf};
 ghost use Rattle.deadlines.specs.Deadlines as is;
 
-pub fn active_after(s: &[u32; 14], d: &mut [u64; 40], t: u32, b: usize)
+pub fn active_after(s: &Settings, d: &mut Deadlines, t: u32, b: usize)
     requires { ⌜ b < 4 ⌝ }
     ensures { λ r. ⌜ now (d .exit) ≡ is.activeAfter (settingsOf (now (s .entry))) (now (d .entry)) t b ⌝ }
 {
@@ -53,7 +57,7 @@ pub fn active_after(s: &[u32; 14], d: &mut [u64; 40], t: u32, b: usize)
 }
 
 // The bank of a burst with auto precharge is idle, and is let open again from a cycle on that is at least `from`.
-fn auto_after(d: &mut [u64; 40], b: usize, from: u64)
+fn auto_after(d: &mut Deadlines, b: usize, from: u64)
     requires { ⌜ b < 4 ⌝ }
     ensures { λ r. ⌜ now (d .exit) ≡ is.autoAfter (now (d .entry)) b from ⌝ }
 {
@@ -61,7 +65,7 @@ fn auto_after(d: &mut [u64; 40], b: usize, from: u64)
     d[REST + b] = latest(d[LOCKED + b], from);
 }
 
-pub fn read_after(s: &[u32; 14], d: &mut [u64; 40], pace: &[u32; 2], t: u32, b: usize, auto: bool)
+pub fn read_after(s: &Settings, d: &mut Deadlines, pace: &Pace, t: u32, b: usize, auto: bool)
     requires { ⌜ b < 4 ⌝ }
     ensures { λ r. ⌜ now (d .exit) ≡ is.readAfter (settingsOf (now (s .entry))) (now (d .entry)) (now (pace .entry)) t b auto ⌝ }
 {
@@ -76,14 +80,14 @@ pub fn read_after(s: &[u32; 14], d: &mut [u64; 40], pace: &[u32; 2], t: u32, b: 
     d[READER] = b as u64;
 }
 
-fn cut_write(s: &[u32; 14], d: &mut [u64; 40], t: u32)
+fn cut_write(s: &Settings, d: &mut Deadlines, t: u32)
     ensures { λ r. ⌜ now (d .exit) ≡ is.cutWrite (settingsOf (now (s .entry))) (now (d .entry)) t ⌝ }
 {
     let o = (d[WRITER] % 4) as usize;
     d[WRITTEN + o] = least(d[WRITTEN + o], data_after(t, 0, s[T_WR]));
 }
 
-fn new_write(s: &[u32; 14], d: &mut [u64; 40], t: u32, pairs: u32, b: usize)
+fn new_write(s: &Settings, d: &mut Deadlines, t: u32, pairs: u32, b: usize)
     requires { ⌜ b < 4 ⌝ }
     ensures { λ r. ⌜ now (d .exit) ≡ is.newWrite (settingsOf (now (s .entry))) (now (d .entry)) t pairs b ⌝ }
 {
@@ -92,7 +96,7 @@ fn new_write(s: &[u32; 14], d: &mut [u64; 40], t: u32, pairs: u32, b: usize)
     d[WRITER] = b as u64;
 }
 
-pub fn write_after(s: &[u32; 14], d: &mut [u64; 40], pace: &[u32; 2], t: u32, b: usize, auto: bool)
+pub fn write_after(s: &Settings, d: &mut Deadlines, pace: &Pace, t: u32, b: usize, auto: bool)
     requires { ⌜ b < 4 ⌝ }
     ensures { λ r. ⌜ now (d .exit) ≡ is.writeAfter (settingsOf (now (s .entry))) (now (d .entry)) (now (pace .entry)) t b auto ⌝ }
 {
@@ -105,13 +109,13 @@ pub fn write_after(s: &[u32; 14], d: &mut [u64; 40], pace: &[u32; 2], t: u32, b:
     }
 }
 
-pub fn cut_read(d: &mut [u64; 40], pace: &[u32; 2], t: u32, cut: bool)
+pub fn cut_read(d: &mut Deadlines, pace: &Pace, t: u32, cut: bool)
     ensures { λ r. ⌜ now (d .exit) ≡ is.cutRead (now (d .entry)) (now (pace .entry)) t cut ⌝ }
 {
     d[DATA] = pick(cut, least(d[DATA], after(t, pace[LATENCY])), d[DATA]);
 }
 
-fn rest_after(d: &mut [u64; 40], b: usize, from: u64)
+fn rest_after(d: &mut Deadlines, b: usize, from: u64)
     requires { ⌜ b < 4 ⌝ }
     ensures { λ r. ⌜ now (d .exit) ≡ is.restAfter (now (d .entry)) b from ⌝ }
 {
@@ -119,7 +123,7 @@ fn rest_after(d: &mut [u64; 40], b: usize, from: u64)
     d[OPEN + b] = 0;
 }
 
-pub fn close_after(s: &[u32; 14], d: &mut [u64; 40], pace: &[u32; 2], t: u32, b: usize)
+pub fn close_after(s: &Settings, d: &mut Deadlines, pace: &Pace, t: u32, b: usize)
     requires { ⌜ b < 4 ⌝ }
     ensures { λ r. ⌜ now (d .exit) ≡ is.closeAfter (settingsOf (now (s .entry))) (now (d .entry)) (now (pace .entry)) t b ⌝ }
 {
@@ -128,7 +132,7 @@ pub fn close_after(s: &[u32; 14], d: &mut [u64; 40], pace: &[u32; 2], t: u32, b:
     cut_read(d, pace, t, cut);
 }
 
-fn rest_all(d: &mut [u64; 40], from: u64)
+fn rest_all(d: &mut Deadlines, from: u64)
     ensures { λ r. ⌜ now (d .exit) ≡ is.restAll (now (d .entry)) from ⌝ }
 {
     rest_after(d, 0, from);
@@ -137,7 +141,7 @@ fn rest_all(d: &mut [u64; 40], from: u64)
     rest_after(d, 3, from);
 }
 
-pub fn close_all_after(s: &[u32; 14], d: &mut [u64; 40], pace: &[u32; 2], t: u32)
+pub fn close_all_after(s: &Settings, d: &mut Deadlines, pace: &Pace, t: u32)
     ensures { λ r. ⌜ now (d .exit) ≡ is.closeAllAfter (settingsOf (now (s .entry))) (now (d .entry)) (now (pace .entry)) t ⌝ }
 {
     rest_all(d, after(t, s[T_RP]));
@@ -145,25 +149,25 @@ pub fn close_all_after(s: &[u32; 14], d: &mut [u64; 40], pace: &[u32; 2], t: u32
     cut_read(d, pace, t, cut);
 }
 
-pub fn refresh_after(s: &[u32; 14], d: &mut [u64; 40], t: u32)
+pub fn refresh_after(s: &Settings, d: &mut Deadlines, t: u32)
     ensures { λ r. ⌜ now (d .exit) ≡ is.refreshAfter (settingsOf (now (s .entry))) (now (d .entry)) t ⌝ }
 {
     d[BUSY] = after(t, s[T_RFC]);
-    d[DUE] = after(t, s[GAP]);
+    d[DUE] = clock::due_after_refresh(s, t);
 }
 
-pub fn mode_set_after(s: &[u32; 14], d: &mut [u64; 40], t: u32)
+pub fn mode_set_after(s: &Settings, d: &mut Deadlines, t: u32)
     ensures { λ r. ⌜ now (d .exit) ≡ is.modeSetAfter (settingsOf (now (s .entry))) (now (d .entry)) t ⌝ }
 {
     d[BUSY] = after(t, s[T_MRD]);
 }
 
 // The deadlines of a part at the start: nothing has happened, and the first AUTO REFRESH is due after GAP.
-pub fn start(s: &[u32; 14]) -> [u64; 40]
+pub fn start(s: &Settings) -> Deadlines
     ensures { λ r. ⌜ r ≡ is.startOf (settingsOf (now (s .entry))) ⌝ }
 {
-    let mut d = [0u64; 40];
-    d[DUE] = after(s[GAP], 0);
+    let mut d = [0u64; KEPT];
+    d[DUE] = clock::due_at_start(s);
     d[READER] = 4;
     let locked = after(s[T_RAS], s[T_RP]);
     d[LOCKED] = locked;

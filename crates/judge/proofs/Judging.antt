@@ -17,10 +17,6 @@ use Rattle.capture.proofs.Accepted.{Sound, accepted-sound, accepted-rest, refus
 use Rattle.judge.specs.declared.Verdict.the-variants.{Refused}
 use Rattle.judge.specs.Meaning.{means, said, Fit, eventsIn, verdictOn}
 
--- the part that starts at byte k, to the end
-pub tail : (c : List ℕ) (k : ℕ) → take (length c - k) (drop k c) ≡ drop k c
-tail c k = take-all (length c - k) (drop k c) (omega (arith, length-drop k c))
-
 module _ (c : List ℕ) (o : Checked) (opened : check.means o ≡ accepted c (answered (tt {0}))) where
   -- a capture that is not accepted
   pub refused-so : (number place : ℕ) → o ≡ checked.Refused number place → means (Refused number place) ≡ judgeAnswer c
@@ -37,7 +33,7 @@ module _ (c : List ℕ) (o : Checked) (opened : check.means o ≡ accepted c (an
     pub long : 80 ≤ length c
     long = omega (arith, sound .sized .size)
 
-    pub fit : {settings : List ℕ} {n : ℕ} {part : List ℕ} → settings ≡ settingWords c → n ≡ eventCount c → part ≡ drop 80 c → Fit settings part n
+    pub fit : {settings : List ℕ} {n : ℕ} {part : List ℕ} → settings ≡ settingWords c → n ≡ eventCount c → part ≡ eventPart c → Fit settings part n
     fit {settings} {n} {part} e f g =
         record {
           few = omega (arith, f, sound .sized .few);
@@ -46,7 +42,7 @@ module _ (c : List ℕ) (o : Checked) (opened : check.means o ≡ accepted c (an
           events = λ i l. rw g (sound .events i (omega (arith, f)));
         }
 
-    pub judged-so : {settings : List ℕ} {n : ℕ} {part : List ℕ} → settings ≡ settingWords c → n ≡ eventCount c → part ≡ drop 80 c →
+    pub judged-so : {settings : List ℕ} {n : ℕ} {part : List ℕ} → settings ≡ settingWords c → n ≡ eventCount c → part ≡ eventPart c →
         means (verdictOn (settingsOf settings) part n) ≡ judgeAnswer c
     unfolding verdictOn judgeAnswer verdictIn eventsOf
     judged-so e f g =

@@ -16,7 +16,7 @@ use Rattle.reading.specs.Commands.{commandOf}
 use Rattle.reading.specs.Part.{Part, start, step, run}
 use Rattle.reading.specs.Rules.{keeps, rules, brokenBy}
 use Rattle.reading.specs.Verdict as is
-use Rattle.reading.specs.Verdict.{broken, onward, judgeFrom, verdictOf, judgedOf}
+use Rattle.reading.specs.Verdict.{broken, onward, judgeFrom, verdictOf, judgedOf, judgeBy, verdictBy}
 use Rattle.capture.proofs.Accepted.{cycle-rises}
 use Rattle.deadlines.specs.Deadlines.{paceOf}
 use Rattle.part.specs.declared.Answer.{Answer}
@@ -97,7 +97,7 @@ module _ (settings part : List ℕ) (n : ℕ) where
     pub decides : verdictOf s es ≡ judgeFrom s reached i (drop i es)
 
   pub begins : {d pace : List ℕ} → Started s d pace → Before d pace 0
-  unfolding verdictOf
+  unfolding verdictBy
   begins z =
       record {
         reached = start s;
@@ -126,7 +126,7 @@ module _ (settings part : List ℕ) (n : ℕ) where
     breaks-is = ap (λ (k : List ℕ). stepBreaks s k t w) (b .deadlines) ∙ turn .breaks
 
     unfolds : verdictOf s es ≡ onward (brokenBy s (b .reached) (eventAt part i)) i t (judgeFrom s (step s (b .reached) (eventAt part i)) (suc i) (drop (suc i) es))
-    unfolding judgeFrom
+    unfolding judgeBy
     unfolds = b .decides ∙ ap (judgeFrom s (b .reached) i) (next-of (eventAt part) n i l)
 
     -- the next event's place
@@ -186,7 +186,7 @@ module _ (settings part : List ℕ) (n : ℕ) where
 
   -- no event is left
   pub ends : {d pace : List ℕ} {i : ℕ} → Before d pace i → n ≤ i → Ended (Clean n n) d pace
-  unfolding judgeFrom
+  unfolding judgeBy
   ends {d} {pace} {i} b l =
       ended b is.clean (b .decides ∙ ap (judgeFrom s (b .reached) i) (none-of (eventAt part) n i l)) (omega (arith, b .in-range))
 

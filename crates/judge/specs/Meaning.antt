@@ -7,7 +7,7 @@ use lib.ListN.{length, take}
 use Rattle.reading.specs.Search.{count}
 use Rattle.reading.specs.Settings as reading
 use Rattle.reading.specs.Capture as capture
-use Rattle.reading.specs.Capture.{eventAt, eventFits}
+use Rattle.reading.specs.Capture.{eventAt, cycleFits}
 use Rattle.reading.specs.Part.{Part, start, run}
 use Rattle.reading.specs.Verdict as is
 use Rattle.reading.specs.Answers.{Answer, refused, answered, Report}
@@ -32,7 +32,7 @@ pub record Fit (settings part : List ℕ) (n : ℕ) : Type 0 where
   pub few : n ≤ 8000
   pub long : 8 * n ≤ length part
   pub rows : reading.settingsOf settings .rowBits < 32
-  pub events : (i : ℕ) → i < n → eventFits part i ≡ true
+  pub events : (i : ℕ) → i < n → cycleFits part i ≡ true
 
 -- the deadlines, and h and CL, of a part at its start
 pub record Started (s : reading.Settings) (d pace : List ℕ) : Type 0 where

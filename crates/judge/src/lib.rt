@@ -1,8 +1,11 @@
 // The judge: refused by document 01's table, or judged event by event until one breaks a rule.
-use deadlines::places::MODE;
+use deadlines::Deadlines;
+use deadlines::Pace;
 use deadlines::sums;
 use part::Answer;
 use settings::Checked;
+use settings::Settings;
+use settings::places::MODE;
 ghost use mathlib.Core.Path.{_≡_};
 ghost use Rattle.reading.specs.Settings.{settingsOf};
 ghost use Rattle.reading.specs.Answers.{judgeAnswer};
@@ -27,10 +30,10 @@ pub enum Verdict {
     },
 }
 
-// The events in the part of the capture that starts at byte 80, by the numbers that are kept of a part at its start, and
+// The events in the part of the capture that starts where they do, by the numbers that are kept of a part at its start, and
 // those of the part after the judged events in their place. They are lent, and two crates call this, so that it stays one
 // loop over memory (docs/PERFORMANCE.md).
-pub fn walk(s: &[u32; 14], d: &mut [u64; 40], pace: &mut [u32; 2], part: &[u8], n: u32) -> Verdict
+pub fn walk(s: &Settings, d: &mut Deadlines, pace: &mut Pace, part: &[u8], n: u32) -> Verdict
     requires { ⌜ Fit (now s) (now part) n ⌝ }
     requires { ⌜ Started (settingsOf (now s)) (now d) (now pace) ⌝ }
     ensures { λ r. ⌜ r ≡ verdictOn (settingsOf (now (s .entry))) (now (part .entry)) n ⌝ }
@@ -73,5 +76,6 @@ pub fn judge(capture: &[u8]) -> Verdict
     let n = capture::event_count(capture);
     let mut deadlines = effects::start(&settings);
     let mut pace = sums::pace(settings[MODE]);
-    walk(&settings, &mut deadlines, &mut pace, &capture[80..], n)
+    let part = capture::event_part(capture);
+    walk(&settings, &mut deadlines, &mut pace, part, n)
 }

@@ -5,6 +5,7 @@ use console::plain::print;
 use console::plain::say;
 use libc::STDOUT_FILENO;
 use settings::Checked;
+use settings::Settings;
 ghost use Prim.Native.Nat.{_<_};
 
 // Where words of a capture stand.
@@ -50,7 +51,7 @@ const PINS_7999: u32 = 64_076;
 const NOWHERE: u32 = 100_000;
 
 // The settings of 01's cases.
-const SETTINGS: [u32; 14] = [1, 13, 10, 0x32, 3, 3, 7, 10, 2, 3, 1, 12, 2, 1000];
+const SETTINGS: Settings = [1, 13, 10, 0x32, 3, 3, 7, 10, 2, 3, 1, 12, 2, 1000];
 
 // A number of 01's table and a place; 0 and 0 for what is accepted.
 struct Answer(u32, u32);
@@ -366,7 +367,7 @@ fn list(words: &[u32], number: u32, place: u32) {
 fn lists() {
     list(&[], 2, 0);
     list(&[0u32; 13], 2, 0);
-    list(&[0u32; 14], 3, 0);
+    list(&[0u32; settings::COUNT], 3, 0);
     list(&[0u32; 15], 2, 0);
 }
 

@@ -2,7 +2,7 @@
 use Prim.Native.Nat.{ℕ}
 use mathlib.Core.Bool.{cond}
 use lib.Dec.{eqb}
-use Rattle.part.specs.Steps.{codeOf, bankOf}
+use Rattle.pins.specs.Pins.{codeOf, bankOf}
 
 -- ACTIVE of bank 0 to 3, AUTO REFRESH 4, MODE REGISTER SET 5, any other 6
 abbrev pub kindOf : ℕ → ℕ

@@ -3,9 +3,9 @@ use console::Out;
 use console::say;
 use console::say_number;
 use console::say_word;
+use settings::Settings;
 ghost use mathlib.Core.Path.{_≡_};
 ghost use Prim.Native.Nat.{_+_, _-_, _<_, min};
-ghost use Rattle.part.specs.Steps.{codeOf, addressOf, tenOf};
 ghost use Rattle.listing.specs.Kinds.{kindOf};
 
 // How many events are listed before the broken one, and the broken one with those behind it.
@@ -26,7 +26,7 @@ fn event_at(capture: &[u8], i: u32) -> Event {
     if capture.len() < 88 + 8 * at {
         return Event { cycle: 0, pins: 0 };
     }
-    let part = &capture[80..];
+    let part = capture::event_part(capture);
     Event {
         cycle: capture::cycle_at(part, at),
         pins: capture::pins_at(part, at),
@@ -35,27 +35,8 @@ fn event_at(capture: &[u8], i: u32) -> Event {
 
 // ---- what the pins say
 
-// CS#, RAS#, CAS#, WE#, CS# the lowest.
-fn code(pins: u32) -> u32
-    ensures { λ r. ⌜ r ≡ codeOf pins ⌝ }
-{
-    pins / 65_536 % 16
-}
-
-fn address(pins: u32) -> u32
-    ensures { λ r. ⌜ r ≡ addressOf pins ⌝ }
-{
-    pins % 16_384
-}
-
-fn ten(pins: u32) -> bool
-    ensures { λ r. ⌜ r ≡ tenOf pins ⌝ }
-{
-    pins / 1024 % 2 == 1
-}
-
 // An accepted capture has at most 14 row bits and 11 column bits.
-fn column(settings: &[u32; 14], pins: u32) -> u32 {
+fn column(settings: &Settings, pins: u32) -> u32 {
     if 14 < settings[1] {
         return 0;
     }
@@ -68,39 +49,39 @@ fn column(settings: &[u32; 14], pins: u32) -> u32 {
 // ---- commands in words
 
 fn say_active(out: &mut Out, pins: u32) {
-    say_number(out, b"ACTIVE bank ", beats::bank(pins));
-    say_number(out, b" row ", address(pins));
+    say_number(out, b"ACTIVE bank ", pins::bank(pins) as u32);
+    say_number(out, b" row ", pins::address(pins));
 }
 
-fn say_burst(out: &mut Out, settings: &[u32; 14], pins: u32) {
-    say_number(out, b" bank ", beats::bank(pins));
+fn say_burst(out: &mut Out, settings: &Settings, pins: u32) {
+    say_number(out, b" bank ", pins::bank(pins) as u32);
     say_number(out, b" column ", column(settings, pins));
-    if ten(pins) {
+    if pins::ten(pins) {
         say(out, b" auto precharge");
     }
 }
 
-fn say_read(out: &mut Out, settings: &[u32; 14], pins: u32) {
+fn say_read(out: &mut Out, settings: &Settings, pins: u32) {
     say(out, b"READ");
     say_burst(out, settings, pins);
 }
 
-fn say_write(out: &mut Out, settings: &[u32; 14], pins: u32) {
+fn say_write(out: &mut Out, settings: &Settings, pins: u32) {
     say(out, b"WRITE");
     say_burst(out, settings, pins);
 }
 
 fn say_precharge(out: &mut Out, pins: u32) {
-    if ten(pins) {
+    if pins::ten(pins) {
         say(out, b"PRECHARGE ALL");
         return;
     }
-    say_number(out, b"PRECHARGE bank ", beats::bank(pins));
+    say_number(out, b"PRECHARGE bank ", pins::bank(pins) as u32);
 }
 
 // BA1,BA0 as document 01 writes them.
 fn say_register(out: &mut Out, pins: u32) {
-    match beats::bank(pins) {
+    match pins::bank(pins) {
         0 => say(out, b"00"),
         1 => say(out, b"01"),
         2 => say(out, b"10"),
@@ -111,11 +92,11 @@ fn say_register(out: &mut Out, pins: u32) {
 fn say_mode_set(out: &mut Out, pins: u32) {
     say(out, b"MODE REGISTER SET register ");
     say_register(out, pins);
-    say_word(out, b" value ", address(pins), 4);
+    say_word(out, b" value ", pins::address(pins), 4);
 }
 
-fn say_command(out: &mut Out, settings: &[u32; 14], pins: u32) {
-    match code(pins) {
+fn say_command(out: &mut Out, settings: &Settings, pins: u32) {
+    match pins::code(pins) {
         12 => say_active(out, pins),
         10 => say_read(out, settings, pins),
         2 => say_write(out, settings, pins),
@@ -130,7 +111,7 @@ fn say_command(out: &mut Out, settings: &[u32; 14], pins: u32) {
 
 // ---- lines
 
-fn print_event(out: &mut Out, settings: &[u32; 14], mark: &[u8], i: u32, event: Event) {
+fn print_event(out: &mut Out, settings: &Settings, mark: &[u8], i: u32, event: Event) {
     say(out, mark);
     say_number(out, b" event ", i);
     say_number(out, b" cycle ", event.cycle);
@@ -161,9 +142,9 @@ pub fn print_refused(out: &mut Out, capture: &[u8], i: u32) {
 fn kind(pins: u32) -> usize
     ensures { λ r. ⌜ (r ≡ kindOf pins) × (r < 7) ⌝ }
 {
-    let asked = code(pins);
+    let asked = pins::code(pins);
     if asked == 12 {
-        return beats::bank(pins) as usize;
+        return pins::bank(pins);
     }
     if asked == 8 {
         return 4;
@@ -186,7 +167,7 @@ fn last_of_each(capture: &[u8], end: u32) -> [u32; 7] {
     last
 }
 
-fn print_if_last(out: &mut Out, settings: &[u32; 14], capture: &[u8], last: &[u32; 7], i: u32) {
+fn print_if_last(out: &mut Out, settings: &Settings, capture: &[u8], last: &[u32; 7], i: u32) {
     let event = event_at(capture, i);
     let k = kind(event.pins);
     if k == 6 {
@@ -197,7 +178,7 @@ fn print_if_last(out: &mut Out, settings: &[u32; 14], capture: &[u8], last: &[u3
     }
 }
 
-fn print_earlier(out: &mut Out, settings: &[u32; 14], capture: &[u8], end: u32) {
+fn print_earlier(out: &mut Out, settings: &Settings, capture: &[u8], end: u32) {
     let last = last_of_each(capture, end);
     for i in 0..end {
         print_if_last(out, settings, capture, &last, i);
@@ -227,7 +208,7 @@ fn end_listed(broken: u32, n: u32) -> u32
     broken + FROM_BROKEN
 }
 
-fn print_listed(out: &mut Out, settings: &[u32; 14], capture: &[u8], broken: u32, i: u32) {
+fn print_listed(out: &mut Out, settings: &Settings, capture: &[u8], broken: u32, i: u32) {
     let event = event_at(capture, i);
     if i == broken {
         print_event(out, settings, b">", i, event);
@@ -236,7 +217,7 @@ fn print_listed(out: &mut Out, settings: &[u32; 14], capture: &[u8], broken: u32
     print_event(out, settings, b" ", i, event);
 }
 
-pub fn print_around(out: &mut Out, settings: &[u32; 14], capture: &[u8], broken: u32, n: u32) {
+pub fn print_around(out: &mut Out, settings: &Settings, capture: &[u8], broken: u32, n: u32) {
     let first = first_listed(broken);
     print_earlier(out, settings, capture, first);
     let end = end_listed(broken, n);

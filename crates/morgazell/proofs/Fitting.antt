@@ -12,7 +12,7 @@ use lib.ListN.{length, length-append, length-map, length-reverse, getD}
 use Rattle.reading.specs.Search.{find, lowest, given}
 use Rattle.reading.specs.Search as search
 use Rattle.reading.specs.Settings.{Settings, settingsOf, settingFits, badSetting}
-use Rattle.reading.specs.Capture.{Event, eventCount, settingWords, eventPart, eventAt, eventsOf, badLength, goodHeader, eventFits, badEvent}
+use Rattle.reading.specs.Capture.{Event, eventCount, settingWords, eventPart, eventAt, eventsOf, badLength, goodHeader, pinBits, eventFits, badEvent}
 use Rattle.reading.specs.Commands.{READ, WRITE, among, commandOf}
 use Rattle.reading.specs.Bursts.{Burst, beatCell, burstCells, cutBy}
 use Rattle.reading.specs.Part.{Part, start, step, run, burstGiven}
@@ -23,7 +23,7 @@ use Rattle.reading.specs.Schedule.{Schedule, planned, late, requestFits, badReq
 use Rattle.reading.specs.Answers.{Answer, Report, refused, answered, unless, accepted, settingsIn, verdictIn, judgeAnswer, leaves, fitting, notClean, cellsIn, cellsOutcome, keptUp, scheduleOutcome}
 use Rattle.reading.proofs.Meaning.{BrokenAt, verdict-broken}
 use Rattle.reading.proofs.Cuts.{All, nil, cons, Whole, bursts-whole}
-use Rattle.capture.proofs.Accepted.{sized}
+use Rattle.capture.proofs.Accepted.{sized, words-count}
 use Rattle.beats.proofs.Columns.{half-le}
 use Rattle.judge.proofs.Events.{length-count}
 use Rattle.plan.proofs.Ready.{few-requests}
@@ -70,28 +70,28 @@ at-zero : (b : Bool) (place : ℕ) → given 0 b ≡ some place → Value place
 at-zero true place e = let z : 0 ≡ place = cc in omega arith
 at-zero false place e = let z : _≡_ {A = ℕ} 0 1 = cc in absurd (omega arith)
 
-bad-setting : (ws : List ℕ) (place : ℕ) → badSetting ws ≡ some place → Value place
+bad-setting : (ws : List ℕ) (place : ℕ) → length ws ≤ 14 → badSetting ws ≡ some place → Value place
 unfolding badSetting
-bad-setting ws place e = omega (arith, below (λ i. not (settingFits i (getD ws i 0))) 14 place e)
+bad-setting ws place l e = omega (arith, below (λ i. not (settingFits i (getD ws i 0))) (length ws) place e)
 
-bad-event : (part : List ℕ) (n place : ℕ) → n ≤ 8000 → badEvent part n ≡ some place → Value place
+bad-event : (bits : ℕ) (part : List ℕ) (n place : ℕ) → n ≤ 8000 → badEvent bits part n ≡ some place → Value place
 unfolding badEvent
-bad-event part n place l e = omega (arith, below (λ i. not (eventFits part i)) n place e)
+bad-event bits part n place l e = omega (arith, below (λ i. not (eventFits bits part i)) n place e)
 
 -- what holds of small refusals, and of what follows when there are at most 8,000 events, holds
 pub on-accepted : {A : Type 0} (P : Answer A → Type 0) (capture : List ℕ) (rest : Answer A) →
     ((number place : ℕ) → Number number → Value place → P (refused number place)) → (eventCount capture ≤ 8000 → P rest) → P (accepted capture rest)
 unfolding accepted
 on-accepted {A} P capture rest refusing going-on =
-    go (given 0 (badLength capture)) (given 0 (not (goodHeader capture))) (badSetting (settingWords capture)) (badEvent (eventPart capture) (eventCount capture))
+    go (given 0 (badLength capture)) (given 0 (not (goodHeader capture))) (badSetting (settingWords capture)) (badEvent (pinBits capture) (eventPart capture) (eventCount capture))
     refl refl refl refl
   where
     go : (a b c d : Option ℕ) → given 0 (badLength capture) ≡ a → given 0 (not (goodHeader capture)) ≡ b → badSetting (settingWords capture) ≡ c →
-        badEvent (eventPart capture) (eventCount capture) ≡ d → P (unless 1 a (unless 2 b (unless 3 c (unless 4 d rest))))
+        badEvent (pinBits capture) (eventPart capture) (eventCount capture) ≡ d → P (unless 1 a (unless 2 b (unless 3 c (unless 4 d rest))))
     go (some place) b c d p q r s = refusing 1 place (omega arith) (at-zero (badLength capture) place p)
     go none (some place) c d p q r s = refusing 2 place (omega arith) (at-zero (not (goodHeader capture)) place q)
-    go none none (some place) d p q r s = refusing 3 place (omega arith) (bad-setting (settingWords capture) place r)
-    go none none none (some place) p q r s = refusing 4 place (omega arith) (bad-event (eventPart capture) (eventCount capture) place (few capture p q) s)
+    go none none (some place) d p q r s = refusing 3 place (omega arith) (bad-setting (settingWords capture) place (omega (arith, words-count capture)) r)
+    go none none none (some place) p q r s = refusing 4 place (omega arith) (bad-event (pinBits capture) (eventPart capture) (eventCount capture) place (few capture p q) s)
     go none none none none p q r s = going-on (few capture p q)
 
 -- ---- the judge
@@ -240,7 +240,7 @@ schedule-fits ws qs buffer =
         scheduleOf (settingsOf ws) qs ≡ x →
         Filled buffer (unless 2 a (unless 3 b (unless 5 c (keptUp x (λ es. fitting buffer (captureOf ws es))))))
     go (some place) b c x p q r s = (omega arith, at-zero (not (eqb (length ws) 14)) place p)
-    go none (some place) c x p q r s = (omega arith, bad-setting ws place q)
+    go none (some place) c x p q r s = (omega arith, bad-setting ws place (omega (arith, fourteen (eqb (length ws) 14) refl p)) q)
     go none none (some place) x p q r s = (omega arith, bad-request (settingsOf ws) qs place r)
     go none none none (late i) p q r s = (omega arith, late-fits (settingsOf ws) qs i r s)
     go none none none (planned es) p q r s =

@@ -8,7 +8,8 @@ use lib.Dec.{eqb}
 use borrow.Author.Tests.{ne-eqb}
 use Rattle.reading.specs.Settings.{Settings}
 use Rattle.deadlines.specs.Deadlines.{paceOf, dueBreaks, activeBreaks, readBreaks, writeBreaks, terminateBreaks, closeBreaks, closeAllBreaks, refreshBreaks, modeBreaks, activeAfter, readAfter, writeAfter, cutRead, closeAfter, closeAllAfter, refreshAfter, modeSetAfter}
-use Rattle.part.specs.Steps.{ruleOf, leftBy, codeOf, bankOf, addressOf, tenOf, stepBreaks, stepAfter, paceAfter}
+use Rattle.pins.specs.Pins.{codeOf, bankOf, addressOf, tenOf}
+use Rattle.part.specs.Steps.{ruleOf, leftBy, stepBreaks, stepAfter, paceAfter}
 
 module _ (s : Settings) (d m : List ℕ) (t w : ℕ) where
   -- which rule a step breaks, the deadlines after it, and h and CL
@@ -17,9 +18,9 @@ module _ (s : Settings) (d m : List ℕ) (t w : ℕ) where
     pub leaves : stepAfter s d m t w ≡ after
     pub sets : paceAfter m w ≡ pace
 
-  pub active : {b : ℕ} → b ≡ bankOf w → codeOf w ≡ 12 → Does (activeBreaks s d t b (addressOf w)) (activeAfter s d t b) m
+  pub active : {b a : ℕ} → b ≡ bankOf w → a ≡ addressOf w → codeOf w ≡ 12 → Does (activeBreaks s d t b a) (activeAfter s d t b) m
   unfolding stepBreaks stepAfter paceAfter
-  active f e = record { breaks = rw (f, e); leaves = rw (f, e); sets = rw e }
+  active f g e = record { breaks = rw (f, g, e); leaves = rw (f, e); sets = rw e }
 
   pub read : {b : ℕ} {a : Bool} → b ≡ bankOf w → a ≡ tenOf w → codeOf w ≡ 10 → Does (readBreaks d t b) (readAfter s d m t b a) m
   unfolding stepBreaks stepAfter paceAfter
@@ -45,31 +46,36 @@ module _ (s : Settings) (d m : List ℕ) (t w : ℕ) where
   unfolding stepBreaks stepAfter paceAfter
   refresh e = record { breaks = rw e; leaves = rw e; sets = rw e }
 
-  pub mode-set : {b : ℕ} → b ≡ bankOf w → codeOf w ≡ 0 → Does (modeBreaks d t b (addressOf w)) (modeSetAfter s d t) (cond (eqb b 0) (paceOf (addressOf w)) m)
+  pub mode-set : {b a : ℕ} → b ≡ bankOf w → a ≡ addressOf w → codeOf w ≡ 0 →
+      Does (modeBreaks d t b a) (modeSetAfter s d t) (cond (eqb b 0) (paceOf a) m)
   unfolding stepBreaks stepAfter paceAfter
-  mode-set f e = record { breaks = rw (f, e); leaves = rw e; sets = rw (f, e) }
+  mode-set f g e = record { breaks = rw (f, g, e); leaves = rw e; sets = rw (f, g, e) }
 
   -- none of the seven
-  pub record Quiet : Type 0 where
-    pub no-active : codeOf w ≡ 12 → ⊥
-    pub no-read : codeOf w ≡ 10 → ⊥
-    pub no-write : codeOf w ≡ 2 → ⊥
-    pub no-close : codeOf w ≡ 4 → ⊥
-    pub no-terminate : codeOf w ≡ 6 → ⊥
-    pub no-refresh : codeOf w ≡ 8 → ⊥
-    pub no-mode-set : codeOf w ≡ 0 → ⊥
+  pub record Quiet (q : ℕ) : Type 0 where
+    pub no-active : q ≡ 12 → ⊥
+    pub no-read : q ≡ 10 → ⊥
+    pub no-write : q ≡ 2 → ⊥
+    pub no-close : q ≡ 4 → ⊥
+    pub no-terminate : q ≡ 6 → ⊥
+    pub no-refresh : q ≡ 8 → ⊥
+    pub no-mode-set : q ≡ 0 → ⊥
 
-  pub quiet : Quiet → Does (dueBreaks d t) d m
+  pub quiet : {q : ℕ} → q ≡ codeOf w → Quiet q → Does (dueBreaks d t) d m
   unfolding stepBreaks stepAfter paceAfter
-  quiet q =
-      let e₁ = ne-eqb (codeOf w) 12 (q .no-active) in
-      let e₂ = ne-eqb (codeOf w) 10 (q .no-read) in
-      let e₃ = ne-eqb (codeOf w) 2 (q .no-write) in
-      let e₄ = ne-eqb (codeOf w) 4 (q .no-close) in
-      let e₅ = ne-eqb (codeOf w) 6 (q .no-terminate) in
-      let e₆ = ne-eqb (codeOf w) 8 (q .no-refresh) in
-      let e₇ = ne-eqb (codeOf w) 0 (q .no-mode-set) in
-      record { breaks = rw (e₁, e₂, e₃, e₄, e₅, e₆, e₇); leaves = rw (e₁, e₂, e₃, e₄, e₅, e₆, e₇); sets = rw e₇ }
+  quiet {q} e n =
+      let e₁ = ne-eqb q 12 (n .no-active) in
+      let e₂ = ne-eqb q 10 (n .no-read) in
+      let e₃ = ne-eqb q 2 (n .no-write) in
+      let e₄ = ne-eqb q 4 (n .no-close) in
+      let e₅ = ne-eqb q 6 (n .no-terminate) in
+      let e₆ = ne-eqb q 8 (n .no-refresh) in
+      let e₇ = ne-eqb q 0 (n .no-mode-set) in
+      record {
+        breaks = rw (← e, e₁, e₂, e₃, e₄, e₅, e₆, e₇);
+        leaves = rw (← e, e₁, e₂, e₃, e₄, e₅, e₆, e₇);
+        sets = rw (← e, e₇);
+      }
 
   -- so a function that answers and leaves what its command does meets the step's contract
   abbrev pub Meets : Option ℕ → List ℕ → List ℕ → Type 0

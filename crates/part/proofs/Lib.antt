@@ -1,4 +1,3 @@
 -- Laws that callers of the step use.
 pub mod Codes
-pub mod Pins
 pub mod Unique

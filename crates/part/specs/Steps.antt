@@ -1,10 +1,11 @@
 -- A step: one event, by its pins.
-use Prim.Native.Nat.{ℕ, _/_, _%_}
-use mathlib.Core.Bool.{Bool, true, cond, _&&_}
+use Prim.Native.Nat.{ℕ}
+use mathlib.Core.Bool.{true, cond, _&&_}
 use mathlib.Core.List.{List}
 use mathlib.Core.Option.{Option, none, some}
 use lib.Dec.{eqb}
 use Rattle.reading.specs.Settings.{Settings}
+use Rattle.pins.specs.Pins.{codeOf, bankOf, addressOf, tenOf, byCode}
 use Rattle.deadlines.specs.Deadlines.{paceOf, dueBreaks, activeBreaks, readBreaks, writeBreaks, terminateBreaks, closeBreaks, closeAllBreaks, refreshBreaks, modeBreaks, activeAfter, readAfter, writeAfter, cutRead, closeAfter, closeAllAfter, refreshAfter, modeSetAfter}
 use Rattle.part.specs.declared.Answer.{Answer}
 use Rattle.part.specs.declared.Answer.the-variants.{Kept, Broke}
@@ -21,29 +22,6 @@ ruleOf rule = cond (eqb rule 0) none (some rule)
 -- what is left of some numbers by an event that breaks a rule, 0 for none
 abbrev pub leftBy : ℕ → List ℕ → List ℕ → List ℕ
 leftBy rule after before = cond (eqb rule 0) after before
-
-abbrev pub codeOf : ℕ → ℕ
-codeOf w = w / 65536 % 16
-
-abbrev pub bankOf : ℕ → ℕ
-bankOf w = w / 16384 % 4
-
-abbrev pub addressOf : ℕ → ℕ
-addressOf w = w % 16384
-
-abbrev pub tenOf : ℕ → Bool
-tenOf w = eqb (w / 1024 % 2) 1
-
--- by the pins CS#, RAS#, CAS#, WE#, CS# the lowest
-abbrev pub byCode : {A : Type 0} → ℕ → A → A → A → A → A → A → A → A → A
-byCode q active read write precharge terminate refresh mode quiet =
-    cond (eqb q 12) active
-    (cond (eqb q 10) read
-    (cond (eqb q 2) write
-    (cond (eqb q 4) precharge
-    (cond (eqb q 6) terminate
-    (cond (eqb q 8) refresh
-    (cond (eqb q 0) mode quiet))))))
 
 unfoldable pub stepBreaks : Settings → List ℕ → ℕ → ℕ → ℕ
 stepBreaks s d t w =
@@ -68,9 +46,6 @@ stepAfter s d m t w =
     (refreshAfter s d t)
     (modeSetAfter s d t)
     d
-
-unfoldable pub modeAfter : ℕ → ℕ → ℕ
-modeAfter m w = cond (eqb (codeOf w) 0 && eqb (bankOf w) 0) (addressOf w) m
 
 unfoldable pub paceAfter : List ℕ → ℕ → List ℕ
 paceAfter m w = cond (eqb (codeOf w) 0 && eqb (bankOf w) 0) (paceOf (addressOf w)) m

@@ -1,11 +1,14 @@
 // What the judge keeps of a part: forty deadlines in a lent array, no rows and no bursts; and the step from event to event.
+use deadlines::Deadlines;
+use deadlines::Pace;
+use settings::Settings;
 ghost use mathlib.Core.Path.{_≡_};
 ghost use mathlib.Core.Bool.{true, cond};
 ghost use Prim.Native.Nat.{_<_};
 ghost use lib.Dec.{eqb};
 ghost use Rattle.reading.specs.Settings.{settingsOf};
 ghost use Rattle.deadlines.specs.Deadlines as is;
-ghost use Rattle.part.specs.Steps.{means, ruleOf, leftBy, bankOf, tenOf, stepBreaks, stepAfter, paceAfter};
+ghost use Rattle.part.specs.Steps.{means, ruleOf, leftBy, stepBreaks, stepAfter, paceAfter};
 
 // What an event answers: all rules are kept, or some are broken, of which this is the lowest.
 pub enum Answer {
@@ -15,7 +18,7 @@ pub enum Answer {
 
 // Each command: where it breaks a rule, the deadlines stay as they were.
 
-fn active(s: &[u32; 14], d: &mut [u64; 40], t: u32, b: usize, row: u32) -> Answer
+fn active(s: &Settings, d: &mut Deadlines, t: u32, b: usize, row: u32) -> Answer
     requires { ⌜ b < 4 ⌝ }
     ensures { λ r. ⌜ means r ≡ ruleOf (is.activeBreaks (settingsOf (now (s .entry))) (now (d .entry)) t b row) ⌝ }
     ensures { λ r. ⌜ now (d .exit) ≡ leftBy (is.activeBreaks (settingsOf (now (s .entry))) (now (d .entry)) t b row) (is.activeAfter (settingsOf (now (s .entry))) (now (d .entry)) t b) (now (d .entry)) ⌝ }
@@ -28,7 +31,7 @@ fn active(s: &[u32; 14], d: &mut [u64; 40], t: u32, b: usize, row: u32) -> Answe
     Answer::Kept
 }
 
-fn read(s: &[u32; 14], d: &mut [u64; 40], pace: &[u32; 2], t: u32, b: usize, auto: bool) -> Answer
+fn read(s: &Settings, d: &mut Deadlines, pace: &Pace, t: u32, b: usize, auto: bool) -> Answer
     requires { ⌜ b < 4 ⌝ }
     ensures { λ r. ⌜ means r ≡ ruleOf (is.readBreaks (now (d .entry)) t b) ⌝ }
     ensures { λ r. ⌜ now (d .exit) ≡ leftBy (is.readBreaks (now (d .entry)) t b) (is.readAfter (settingsOf (now (s .entry))) (now (d .entry)) (now (pace .entry)) t b auto) (now (d .entry)) ⌝ }
@@ -41,7 +44,7 @@ fn read(s: &[u32; 14], d: &mut [u64; 40], pace: &[u32; 2], t: u32, b: usize, aut
     Answer::Kept
 }
 
-fn write(s: &[u32; 14], d: &mut [u64; 40], pace: &[u32; 2], t: u32, b: usize, auto: bool) -> Answer
+fn write(s: &Settings, d: &mut Deadlines, pace: &Pace, t: u32, b: usize, auto: bool) -> Answer
     requires { ⌜ b < 4 ⌝ }
     ensures { λ r. ⌜ means r ≡ ruleOf (is.writeBreaks (now (d .entry)) t b) ⌝ }
     ensures { λ r. ⌜ now (d .exit) ≡ leftBy (is.writeBreaks (now (d .entry)) t b) (is.writeAfter (settingsOf (now (s .entry))) (now (d .entry)) (now (pace .entry)) t b auto) (now (d .entry)) ⌝ }
@@ -54,7 +57,7 @@ fn write(s: &[u32; 14], d: &mut [u64; 40], pace: &[u32; 2], t: u32, b: usize, au
     Answer::Kept
 }
 
-fn close_all(s: &[u32; 14], d: &mut [u64; 40], pace: &[u32; 2], t: u32) -> Answer
+fn close_all(s: &Settings, d: &mut Deadlines, pace: &Pace, t: u32) -> Answer
     ensures { λ r. ⌜ means r ≡ ruleOf (is.closeAllBreaks (now (d .entry)) t) ⌝ }
     ensures { λ r. ⌜ now (d .exit) ≡ leftBy (is.closeAllBreaks (now (d .entry)) t) (is.closeAllAfter (settingsOf (now (s .entry))) (now (d .entry)) (now (pace .entry)) t) (now (d .entry)) ⌝ }
 {
@@ -66,7 +69,7 @@ fn close_all(s: &[u32; 14], d: &mut [u64; 40], pace: &[u32; 2], t: u32) -> Answe
     Answer::Kept
 }
 
-fn close(s: &[u32; 14], d: &mut [u64; 40], pace: &[u32; 2], t: u32, b: usize) -> Answer
+fn close(s: &Settings, d: &mut Deadlines, pace: &Pace, t: u32, b: usize) -> Answer
     requires { ⌜ b < 4 ⌝ }
     ensures { λ r. ⌜ means r ≡ ruleOf (is.closeBreaks (now (d .entry)) t b) ⌝ }
     ensures { λ r. ⌜ now (d .exit) ≡ leftBy (is.closeBreaks (now (d .entry)) t b) (is.closeAfter (settingsOf (now (s .entry))) (now (d .entry)) (now (pace .entry)) t b) (now (d .entry)) ⌝ }
@@ -79,7 +82,7 @@ fn close(s: &[u32; 14], d: &mut [u64; 40], pace: &[u32; 2], t: u32, b: usize) ->
     Answer::Kept
 }
 
-fn terminate(s: &[u32; 14], d: &mut [u64; 40], pace: &[u32; 2], t: u32) -> Answer
+fn terminate(s: &Settings, d: &mut Deadlines, pace: &Pace, t: u32) -> Answer
     ensures { λ r. ⌜ means r ≡ ruleOf (is.terminateBreaks (settingsOf (now (s .entry))) (now (d .entry)) t) ⌝ }
     ensures { λ r. ⌜ now (d .exit) ≡ leftBy (is.terminateBreaks (settingsOf (now (s .entry))) (now (d .entry)) t) (is.cutRead (now (d .entry)) (now (pace .entry)) t true) (now (d .entry)) ⌝ }
 {
@@ -91,7 +94,7 @@ fn terminate(s: &[u32; 14], d: &mut [u64; 40], pace: &[u32; 2], t: u32) -> Answe
     Answer::Kept
 }
 
-fn refresh(s: &[u32; 14], d: &mut [u64; 40], t: u32) -> Answer
+fn refresh(s: &Settings, d: &mut Deadlines, t: u32) -> Answer
     ensures { λ r. ⌜ means r ≡ ruleOf (is.refreshBreaks (now (d .entry)) t) ⌝ }
     ensures { λ r. ⌜ now (d .exit) ≡ leftBy (is.refreshBreaks (now (d .entry)) t) (is.refreshAfter (settingsOf (now (s .entry))) (now (d .entry)) t) (now (d .entry)) ⌝ }
 {
@@ -103,7 +106,7 @@ fn refresh(s: &[u32; 14], d: &mut [u64; 40], t: u32) -> Answer
     Answer::Kept
 }
 
-fn set_register(pace: &mut [u32; 2], b: usize, word: u32)
+fn set_register(pace: &mut Pace, b: usize, word: u32)
     ensures { λ r. ⌜ now (pace .exit) ≡ cond (eqb b 0) (is.paceOf word) (now (pace .entry)) ⌝ }
 {
     if b == 0 {
@@ -111,14 +114,7 @@ fn set_register(pace: &mut [u32; 2], b: usize, word: u32)
     }
 }
 
-fn mode_set(
-    s: &[u32; 14],
-    d: &mut [u64; 40],
-    pace: &mut [u32; 2],
-    t: u32,
-    b: usize,
-    word: u32,
-) -> Answer
+fn mode_set(s: &Settings, d: &mut Deadlines, pace: &mut Pace, t: u32, b: usize, word: u32) -> Answer
     ensures { λ r. ⌜ means r ≡ ruleOf (is.modeBreaks (now (d .entry)) t b word) ⌝ }
     ensures { λ r. ⌜ now (d .exit) ≡ leftBy (is.modeBreaks (now (d .entry)) t b word) (is.modeSetAfter (settingsOf (now (s .entry))) (now (d .entry)) t) (now (d .entry)) ⌝ }
     ensures { λ r. ⌜ now (pace .exit) ≡ leftBy (is.modeBreaks (now (d .entry)) t b word) (cond (eqb b 0) (is.paceOf word) (now (pace .entry))) (now (pace .entry)) ⌝ }
@@ -132,7 +128,7 @@ fn mode_set(
     Answer::Kept
 }
 
-fn quiet(d: &[u64; 40], t: u32) -> Answer
+fn quiet(d: &Deadlines, t: u32) -> Answer
     ensures { λ r. ⌜ means r ≡ ruleOf (is.dueBreaks (now (d .entry)) t) ⌝ }
 {
     let rule = rules::due_breaks(d, t);
@@ -142,39 +138,27 @@ fn quiet(d: &[u64; 40], t: u32) -> Answer
     Answer::Kept
 }
 
-fn bank(w: u32) -> usize
-    ensures { λ r. ⌜ (r ≡ bankOf w) × (r < 4) ⌝ }
-{
-    (w / 16384 % 4) as usize
-}
-
-fn ten(w: u32) -> bool
-    ensures { λ r. ⌜ r ≡ tenOf w ⌝ }
-{
-    w / 1024 % 2 == 1
-}
-
 // One event: what it answers by the deadlines kept of the events before it, and the deadlines with it. An event that
 // breaks a rule leaves them as they were.
-pub fn step(s: &[u32; 14], d: &mut [u64; 40], pace: &mut [u32; 2], t: u32, w: u32) -> Answer
+pub fn step(s: &Settings, d: &mut Deadlines, pace: &mut Pace, t: u32, w: u32) -> Answer
     ensures { λ r. ⌜ means r ≡ ruleOf (stepBreaks (settingsOf (now (s .entry))) (now (d .entry)) t w) ⌝ }
     ensures { λ r. ⌜ now (d .exit) ≡ leftBy (stepBreaks (settingsOf (now (s .entry))) (now (d .entry)) t w) (stepAfter (settingsOf (now (s .entry))) (now (d .entry)) (now (pace .entry)) t w) (now (d .entry)) ⌝ }
     ensures { λ r. ⌜ now (pace .exit) ≡ leftBy (stepBreaks (settingsOf (now (s .entry))) (now (d .entry)) t w) (paceAfter (now (pace .entry)) w) (now (pace .entry)) ⌝ }
 {
-    let code = w / 65536 % 16;
+    let code = pins::code(w);
     match code {
-        12 => active(s, d, t, bank(w), w % 16384),
-        10 => read(s, d, &*pace, t, bank(w), ten(w)),
-        2 => write(s, d, &*pace, t, bank(w), ten(w)),
-        4 => {
-            if ten(w) {
+        pins::ACTIVE => active(s, d, t, pins::bank(w), pins::address(w)),
+        pins::READ => read(s, d, &*pace, t, pins::bank(w), pins::ten(w)),
+        pins::WRITE => write(s, d, &*pace, t, pins::bank(w), pins::ten(w)),
+        pins::PRECHARGE => {
+            if pins::ten(w) {
                 return close_all(s, d, &*pace, t);
             }
-            close(s, d, &*pace, t, bank(w))
+            close(s, d, &*pace, t, pins::bank(w))
         }
-        6 => terminate(s, d, &*pace, t),
-        8 => refresh(s, d, t),
-        0 => mode_set(s, d, pace, t, bank(w), w % 16384),
+        pins::TERMINATE => terminate(s, d, &*pace, t),
+        pins::REFRESH => refresh(s, d, t),
+        pins::MODE_SET => mode_set(s, d, pace, t, pins::bank(w), pins::address(w)),
         _ => quiet(&*d, t),
     }
 }

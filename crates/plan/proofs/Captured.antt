@@ -94,9 +94,10 @@ pins-word (e ∷ es) (suc i) = let k : 2 * suc i + 1 ≡ suc (suc (2 * i + 1)) =
 
 -- ---- the capture
 
-pub settings-fit : (ws : List ℕ) → badSetting ws ≡ none → (i : ℕ) → i < 14 → settingFits i (getD ws i 0) ≡ true
+pub settings-fit : (ws : List ℕ) → length ws ≡ 14 → badSetting ws ≡ none → (i : ℕ) → i < 14 → settingFits i (getD ws i 0) ≡ true
 unfolding badSetting
-settings-fit ws good i l = not-false (settingFits i (getD ws i 0)) (none-below (λ j. not (settingFits j (getD ws j 0))) 14 good i l)
+settings-fit ws fourteen good i l =
+    not-false (settingFits i (getD ws i 0)) (none-below (λ j. not (settingFits j (getD ws j 0))) (length ws) good i (omega (arith, fourteen)))
 
 -- clean, all events judged
 abbrev pub allClean : List Event → Report
@@ -137,7 +138,7 @@ module _ (ws : List ℕ) (es : List Event) (fourteen : length ws ≡ 14) (good :
   -- settings
   small : (i : ℕ) → i < 14 → getD ws i 0 < 2 ^ 32
   small i l =
-      omega (arith, at-most i (getD ws i 0) (settings-fit ws good i l), leb-true (rowAt i .most) 1000000 (every-at (λ (r : Limits). leb (r .most) 1000000) _ refl limits refl i))
+      omega (arith, at-most i (getD ws i 0) (settings-fit ws fourteen good i l), leb-true (rowAt i .most) 1000000 (every-at (λ (r : Limits). leb (r .most) 1000000) _ refl limits refl i))
 
   setting-word : (i : ℕ) → i < 14 → wordAt C (24 + 4 * i) ≡ getD ws i 0
   setting-word i l =
@@ -172,7 +173,7 @@ module _ (ws : List ℕ) (es : List Event) (fourteen : length ws ≡ 14) (good :
   events-back =
       rw counts (counted (eventAt (eventPart C)) (record { cycle = 0; pins = 0 }) 0 (length es) es refl (λ i l. rw (zero-add i) (λ u. record { cycle = cycle-back i l u; pins = pins-back i l u })))
 
-  event-fits : (i : ℕ) → i < length es → eventFits (eventPart C) i ≡ true
+  event-fits : (i : ℕ) → i < length es → eventFits 20 (eventPart C) i ≡ true
   unfolding eventFits
   event-fits zero l =
       let w = within 0 es rises 0 l in
@@ -216,9 +217,9 @@ module _ (ws : List ℕ) (es : List Event) (fourteen : length ws ≡ 14) (good :
         eq-eqb (80 + 8 * length es) (80 + 8 * length es) refl,
       )
 
-  right-events : badEvent (eventPart C) (eventCount C) ≡ none
+  right-events : badEvent 20 (eventPart C) (eventCount C) ≡ none
   unfolding badEvent
-  right-events = rw counts (nowhere (λ i. not (eventFits (eventPart C) i)) 0 (length es) (λ i l. rw (zero-add i) (ap not (event-fits i l))))
+  right-events = rw counts (nowhere (λ i. not (eventFits 20 (eventPart C) i)) 0 (length es) (λ i l. rw (zero-add i) (ap not (event-fits i l))))
 
   pub captured : {A : Type 0} (rest : Answer A) → accepted C rest ≡ rest
   unfolding accepted
@@ -237,7 +238,7 @@ module _ (ws : List ℕ) (es : List Event) (fourteen : length ws ≡ 14) (good :
 module _ (ws qs : List ℕ) (fourteen : length ws ≡ 14) (right : badSetting ws ≡ none) (asked : badRequest (settingsOf ws) qs ≡ none) (es : List Event)
     (is : scheduleOf (settingsOf ws) qs ≡ planned es) where
   pub schedule-fits : Planned (settingsOf ws) qs es
-  schedule-fits = schedule-planned (settingsOf ws) qs asked (ranged ws (settings-fit ws right)) es is
+  schedule-fits = schedule-planned (settingsOf ws) qs asked (ranged ws (settings-fit ws fourteen right)) es is
 
   pub schedule-clean : judgeAnswer (captureOf ws es) ≡ answered (allClean es)
   schedule-clean =

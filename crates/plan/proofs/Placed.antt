@@ -83,9 +83,9 @@ module _ (s : Settings) (p : Part) (b a : ℕ) (lb : b < 4) (own : p .banks b .o
   burst-mode t true = refl
   burst-mode t false = refl
 
-  burst-refreshed : (t : ℕ) (write : Bool) → partAfter s p t (bursts write) .refreshed ≡ p .refreshed
-  burst-refreshed t true = refl
-  burst-refreshed t false = refl
+  burst-clock : (t : ℕ) (write : Bool) → partAfter s p t (bursts write) .clock ≡ p .clock
+  burst-clock t true = refl
+  burst-clock t false = refl
 
   burst-shuts : ((i : ℕ) → eqb i b ≡ false → p .banks i .opened ≡ false) → (t : ℕ) (write : Bool) (i : ℕ) → partAfter s p t (bursts write) .banks i .opened ≡ false
   burst-shuts others t true i = shut _ (p .banks i) (eqb i b) (others i)
@@ -168,8 +168,8 @@ module _ {s : Settings} (g : Ranged s) {es : List Event} (r : Reached s es) wher
             others = λ i e. ap (λ (x : Part). x .banks i .opened) active-is ∙ rw e (idle i);
           }
 
-      pub active-refreshed : partOf s (send s es (activePins s q)) .refreshed ≡ p .refreshed
-      active-refreshed = ap (λ (x : Part). x .refreshed) active-is
+      pub active-ticks : partOf s (send s es (activePins s q)) .clock ≡ p .clock
+      active-ticks = ap (λ (x : Part). x .clock) active-is
 
     -- READ or WRITE, with its bank open
     module _ (o : Opened s es bank) where
@@ -205,5 +205,5 @@ module _ {s : Settings} (g : Ranged s) {es : List Event} (r : Reached s es) wher
       burst-idle i =
           ap (λ (x : Part). x .banks i .opened) burst-is ∙ burst-shuts s p bank address lb (o .own) (o .others) (placed s es (burstPins s q)) write i
 
-      pub burst-refreshes : partOf s (send s es (burstPins s q)) .refreshed ≡ p .refreshed
-      burst-refreshes = ap (λ (x : Part). x .refreshed) burst-is ∙ burst-refreshed s p bank address lb (o .own) (placed s es (burstPins s q)) write
+      pub burst-ticks : partOf s (send s es (burstPins s q)) .clock ≡ p .clock
+      burst-ticks = ap (λ (x : Part). x .clock) burst-is ∙ burst-clock s p bank address lb (o .own) (placed s es (burstPins s q)) write

@@ -8,24 +8,26 @@ use native.Mathlib.Omega.{arith}
 use lib.Dec.{leb, ltb, leb·zero}
 use lib.ListN.{length, getD}
 use borrow.Author.Tests.{leb-true, le-leb, ltb-false, not-false}
-use Rattle.reading.specs.Search.{orZero, later, lowest}
+use Rattle.reading.specs.Search.{later, lowest}
 use Rattle.reading.specs.Settings.{Settings}
+use Rattle.reading.specs.RefreshClock.{clockAtStart}
 use Rattle.reading.specs.Capture.{Event, lastCycle}
-use Rattle.reading.specs.Verdict.{clean, judgeFrom, verdictOf}
+use Rattle.reading.specs.Verdict.{clean, judgeFrom, verdictOf, judgeBy, verdictBy}
 use Rattle.reading.specs.Schedule.{asksWrite, requestFits, badRequest, firstCell, cellBank, activePins, burstPins, refreshPins, freeFrom, placed, send, sendRequest, refreshInTime, served, planned, onwards, scheduleFrom, scheduleOf}
 use Rattle.memory.specs.Serving.{EachFits}
 use Rattle.words.proofs.Search.{none-below}
 use Rattle.deadlines.specs.Deadlines.{DUE, at, activeAfter, refreshAfter}
 use Rattle.plan.specs.Soonest.{latest, activeSoonest, burstSoonest, refreshSoonest}
+use Rattle.bridge.specs.Summary.{dueBy}
 use Rattle.plan.specs.Behind.{partOf, deadlinesOf, burstAfter}
 use Rattle.plan.proofs.Ranged.{Ranged}
 use Rattle.plan.proofs.Sending.{free-sent, length-sent, clean-sent}
 use Rattle.plan.proofs.Reached.{Rises, Reached, Sent, start-reached}
-use Rattle.plan.proofs.Placed.{Idle, Opened, refresh-sent, refresh-idle, active-sent, active-opens, active-refreshed, burst-sent, burst-idle, burst-refreshes}
+use Rattle.plan.proofs.Placed.{Idle, Opened, refresh-sent, refresh-idle, active-sent, active-opens, active-ticks, burst-sent, burst-idle, burst-ticks}
 
 -- the last cycle that rule 14 lets through
 abbrev pub dueOf : Settings → List Event → ℕ
-dueOf s es = orZero (partOf s es .refreshed) + s .GAP
+dueOf s es = dueBy s (partOf s es .clock)
 
 in-time : (s : Settings) (es : List Event) → refreshInTime s es ≡ leb (placed s es refreshPins) (dueOf s es)
 unfolding refreshInTime
@@ -53,14 +55,14 @@ pub record Ready (s : Settings) (es : List Event) : Type 0 where
   pub timely : refreshInTime s es ≡ true
 
 pub start-ready : (s : Settings) → Ranged s → Ready s []
-unfolding verdictOf judgeFrom deadlinesOf refreshSoonest latest freeFrom
+unfolding verdictBy judgeBy deadlinesOf refreshSoonest latest freeFrom
 start-ready s g =
     let r = start-reached s g in
     record {
       reached = r;
       idle = λ i. refl;
       judged = refl;
-      timely = in-time-is g r (λ i. refl) ∙ leb·zero (0 + s .GAP);
+      timely = in-time-is g r (λ i. refl) ∙ leb·zero (dueBy s clockAtStart);
     }
 
 module _ (s : Settings) (g : Ranged s) (q : ℕ) (fits : requestFits s q ≡ true) (es : List Event) (r : Reached s es) (idle : Idle s es) where
@@ -93,7 +95,7 @@ module _ (s : Settings) (g : Ranged s) (q : ℕ) (fits : requestFits s q ≡ tru
 
   same-due : dueOf s (sendRequest s es q) ≡ dueOf s es
   unfolding sendRequest
-  same-due = ap (λ (x : Option ℕ). orZero x + s .GAP) (burst-refreshes g (first-sent .reached) q fits o ∙ active-refreshed g r q fits idle)
+  same-due = ap (dueBy s) (burst-ticks g (first-sent .reached) q fits o ∙ active-ticks g r q fits idle)
 
   request-length : length (sendRequest s es q) ≡ suc (suc (length es))
   unfolding sendRequest
@@ -107,7 +109,7 @@ module _ (s : Settings) (g : Ranged s) (q : ℕ) (fits : requestFits s q ≡ tru
       let burst : placed s opened (burstPins s q) ≤ dueOf s es =
       omega (arith, last, refresh-sent g request-reached request-idle .not-before, free-sent s opened (burstPins s q)) in
       let active : placed s es (activePins s q) ≤ dueOf s es = omega (arith, burst, second-sent .not-before, free-sent s es (activePins s q)) in
-      let due : dueOf s opened ≡ dueOf s es = ap (λ (x : Option ℕ). orZero x + s .GAP) (active-refreshed g r q fits idle) in
+      let due : dueOf s opened ≡ dueOf s es = ap (dueBy s) (active-ticks g r q fits idle) in
       record {
         reached = request-reached;
         idle = request-idle;

@@ -15,7 +15,7 @@ use Rattle.reading.specs.Capture.{Event, lastCycle}
 use Rattle.reading.specs.Commands.{commandOf}
 use Rattle.reading.specs.Part.{Part, start, partAfter, step, run}
 use Rattle.reading.specs.Rules.{keeps, rule14, placingRules, brokenBy}
-use Rattle.reading.specs.Verdict.{clean, onward, judgeFrom, verdictOf}
+use Rattle.reading.specs.Verdict.{clean, onward, judgeFrom, verdictOf, judgeBy, verdictBy}
 use Rattle.reading.specs.Schedule.{passes, earliest, freeFrom, placed, send}
 use Rattle.reading.proofs.Found.{earliest-is}
 use Rattle.plan.specs.Behind.{partOf}
@@ -60,7 +60,7 @@ free-more from (x ∷ es) e = free-more (suc (x .cycle)) es e
 
 clean-more : (s : Settings) (p : Part) (i : ℕ) (es : List Event) (e : Event) → judgeFrom s p i es ≡ clean → brokenBy s (run s p es) e ≡ none →
     judgeFrom s p i (es ++ (e ∷ [])) ≡ clean
-unfolding judgeFrom
+unfolding judgeBy
 clean-more s p i [] e c n = rw n
 clean-more s p i (x ∷ es) e c n = go (brokenBy s p x) c (λ k. clean-more s (step s p x) (suc i) es e k n)
   where
@@ -101,7 +101,7 @@ module _ (s : Settings) (es : List Event) (pins : ℕ) where
   -- where rules 1 to 13 pass it, and in time for rule 14, it is judged clean too
   pub clean-sent : verdictOf s es ≡ clean → passes s (partOf s es) pins (placed s es pins) ≡ true →
       rule14 s (partOf s es) (placed s es pins) (commandOf pins) ≡ true → verdictOf s (send s es pins) ≡ clean
-  unfolding verdictOf send passes
+  unfolding verdictBy send passes
   clean-sent c k l =
       clean-more s (start s) 0 es event c (none-with (λ r. keeps r s (partOf s es) (placed s es pins) (commandOf pins)) 14 placingRules k l)
 

@@ -8,7 +8,7 @@ use Rattle.reading.specs.Words.{wordAt, wordBytes, bytesOf}
 use Rattle.reading.specs.Settings.{Settings, settingsOf, settingFits, badSetting}
 use Rattle.reading.specs.Capture.{Event, settingWords, eventsOf, badLength, goodHeader, eventFits, badEvent}
 use Rattle.reading.specs.Bursts.{burstCells, beatCell, beatColumn, place}
-use Rattle.reading.specs.Verdict.{Verdict, clean, broken, verdictOf, judgeFrom, judgedOf}
+use Rattle.reading.specs.Verdict.{Verdict, clean, broken, verdictOf, judgeFrom, judgedOf, judgeBy, verdictBy}
 use Rattle.reading.specs.Cells.{burstsOf, cellsOf}
 use Rattle.reading.specs.Schedule.{captureOf, eventWords}
 use Rattle.reading.specs.Answers.{Answer, refused, answered, Report, accepted, judgeAnswer, verdictIn, cellsIn}
@@ -89,7 +89,7 @@ answerSaid cells (answered r) = verdictSaid (r .judged) cells (r .verdict)
 
 -- to unfold this is to unfold all that a capture's answers are made of
 said : List ℕ → Said
-unfolding answerSaid verdictSaid captureOf eventWords bytesOf wordBytes wordAt judgeAnswer accepted verdictIn cellsIn settingWords badSetting settingFits eventsOf badLength goodHeader eventFits badEvent verdictOf judgeFrom cellsOf burstsOf burstCells beatCell beatColumn place
+unfolding answerSaid verdictSaid captureOf eventWords bytesOf wordBytes wordAt judgeAnswer accepted verdictIn cellsIn settingWords badSetting settingFits eventsOf badLength goodHeader eventFits badEvent verdictBy judgeBy cellsOf burstsOf burstCells beatCell beatColumn place
 said capture = answerSaid (cellsIn capture) (judgeAnswer capture)
 
 record Case : Type 0 where
@@ -113,7 +113,7 @@ Hold cases = map (λ x. said (x .capture)) cases ≡ map (λ x. x .says) cases
 -- ---- lists of events that no capture is written of, which takes a fifth of the time: for the many cases of single clauses
 
 saidOf : Settings → List Event → Said
-unfolding verdictSaid verdictOf judgeFrom cellsOf burstsOf burstCells beatCell beatColumn place
+unfolding verdictSaid verdictBy judgeBy cellsOf burstsOf burstCells beatCell beatColumn place
 saidOf s es = let v = verdictOf s es in verdictSaid (judgedOf (length es) v) (cellsOf s (burstsOf s es)) v
 
 record Line : Type 0 where

@@ -14,7 +14,7 @@ use Rattle.reading.specs.Capture.{Event}
 use Rattle.reading.specs.Commands.{commandOf}
 use Rattle.reading.specs.Part.{Part, start, step, run}
 use Rattle.reading.specs.Rules.{keeps, rules, brokenBy}
-use Rattle.reading.specs.Verdict.{clean, broken, onward, judgeFrom, verdictOf, judgedOf}
+use Rattle.reading.specs.Verdict.{clean, broken, onward, judgeFrom, verdictOf, judgedOf, judgeBy, verdictBy}
 use Rattle.reading.proofs.Found.{Rising, find-none, none-find, find-some, find-lowest, lowest-find}
 
 -- ---- one event: the rules by their numbers
@@ -87,7 +87,7 @@ module _ (s : Settings) where
   less p e es n f i l = f (suc i) (omega arith)
 
   clean-means : (p : Part) (j : ℕ) (es : List Event) → judgeFrom s p j es ≡ clean → Unbroken s p es (length es)
-  unfolding judgeFrom
+  unfolding judgeBy
   clean-means p j [] h = λ i l. absurd (omega arith)
   clean-means p j (e ∷ es) h = go (brokenBy s p e) refl h (clean-means (step s p e) (suc j) es)
     where
@@ -98,14 +98,14 @@ module _ (s : Settings) where
       go (some r) q v ih = let z : _≡_ {A = ℕ} 0 1 = cc in absurd (omega arith)
 
   means-clean : (p : Part) (j : ℕ) (es : List Event) → Unbroken s p es (length es) → judgeFrom s p j es ≡ clean
-  unfolding judgeFrom
+  unfolding judgeBy
   means-clean p j [] f = refl
   means-clean p j (e ∷ es) f =
       rw (none-broken s p e .1 (f 0 (omega arith))) (means-clean (step s p e) (suc j) es (less p e es (length es) f))
 
   broken-means : (p : Part) (j : ℕ) (es : List Event) (r i t : ℕ) → judgeFrom s p j es ≡ broken r i t →
       (k : ℕ) × (i ≡ j + k) × BrokenAt s p es k r t
-  unfolding judgeFrom
+  unfolding judgeBy
   broken-means p j [] r i t h = let z : _≡_ {A = ℕ} 0 1 = cc in absurd (omega arith)
   broken-means p j (e ∷ es) r i t h = go (brokenBy s p e) refl h (broken-means (step s p e) (suc j) es r i t)
     where
@@ -141,7 +141,7 @@ module _ (s : Settings) where
           )
 
   means-broken : (p : Part) (j : ℕ) (es : List Event) (r k t : ℕ) → BrokenAt s p es k r t → judgeFrom s p j es ≡ broken r (j + k) t
-  unfolding judgeFrom
+  unfolding judgeBy
   means-broken p j [] r k t b = absurd (omega (arith, b .there))
   means-broken p j (e ∷ es) r zero t b = rw (lowest-broken s p e r .1 (b .breaks), add-zero j, b .cycle)
   means-broken p j (e ∷ es) r (suc k) t b =
@@ -156,12 +156,12 @@ module _ (s : Settings) where
 
   -- clean exactly when every event, after the events before it, breaks no rule
   pub verdict-clean : (es : List Event) → verdictOf s es ≡ clean ↔ Unbroken s (start s) es (length es)
-  unfolding verdictOf
+  unfolding verdictBy
   verdict-clean es = (clean-means (start s) 0 es, means-clean (start s) 0 es)
 
   -- broken exactly when event i is the first to break a rule, and r the lowest that it breaks
   pub verdict-broken : (es : List Event) (r i t : ℕ) → verdictOf s es ≡ broken r i t ↔ BrokenAt s (start s) es i r t
-  unfolding verdictOf
+  unfolding verdictBy
   verdict-broken es r i t = (
     λ h. let (k, e, b) = broken-means (start s) 0 es r i t h in rw (e, zero-add k) b,
     λ b. rw (zero-add i) at (means-broken (start s) 0 es r i t b),

@@ -6,8 +6,8 @@ use mathlib.Core.Option.{Option, none, some}
 use lib.ListN.{length, drop}
 use lib.Dec.{ltb, eqb}
 use Rattle.reading.specs.Search.{given}
-use Rattle.reading.specs.Settings.{Settings, settingsOf, badSetting}
-use Rattle.reading.specs.Capture.{Event, eventCount, settingWords, eventPart, eventsOf, badLength, goodHeader, badEvent}
+use Rattle.reading.specs.Settings.{Settings, settingsCount, settingsOf, badSetting}
+use Rattle.reading.specs.Capture.{Event, eventCount, settingWords, eventPart, eventsOf, badLength, goodHeader, pinBits, badEvent}
 use Rattle.reading.specs.Verdict.{Verdict, clean, broken, verdictOf, judgedOf}
 use Rattle.reading.specs.Cells.{burstsOf, cellsOf}
 use Rattle.reading.specs.Schedule.{Schedule, planned, late, badRequest, scheduleOf, captureOf}
@@ -32,7 +32,7 @@ accepted capture rest =
     unless 1 (given 0 (badLength capture))
     (unless 2 (given 0 (not (goodHeader capture)))
     (unless 3 (badSetting (settingWords capture))
-    (unless 4 (badEvent (eventPart capture) (eventCount capture)) rest)))
+    (unless 4 (badEvent (pinBits capture) (eventPart capture) (eventCount capture)) rest)))
 
 -- ---- judging
 
@@ -91,7 +91,7 @@ keptUp (late i) f = refused 6 i
 unfoldable pub scheduleOutcome : List ℕ → List ℕ → List ℕ → Outcome
 scheduleOutcome settings requests buffer =
     leaves
-    (unless 2 (given 0 (not (eqb (length settings) 14)))
+    (unless 2 (given 0 (not (eqb (length settings) settingsCount)))
     (unless 3 (badSetting settings)
     (unless 5 (badRequest (settingsOf settings) requests)
     (keptUp (scheduleOf (settingsOf settings) requests) (λ es. fitting buffer (captureOf settings es))))))

@@ -6,7 +6,7 @@ use lib.Dec.{ltb, eqb}
 use lib.Bits.{bitXor}
 use Rattle.reading.specs.Search.{lesser, count}
 use Rattle.reading.specs.Words.{bit}
-use Rattle.reading.specs.Mode.{BL, h, interleaved}
+use Rattle.reading.specs.Mode.{BL, h, CL, interleaved}
 use Rattle.reading.specs.Settings.{Settings}
 use Rattle.reading.specs.Commands.{Command, READ, WRITE, BURST-TERMINATE, PRECHARGE, is, among, names}
 
@@ -59,6 +59,22 @@ keep pairs x =
       auto = x .auto;
     }
 
+-- ---- when a burst is over
+
+-- with all its pairs
+abbrev pub wholeEnd : Burst → ℕ
+wholeEnd x = x .k + h (x .mode)
+
+-- the data of a read have left the bus
+abbrev pub readEnd : Burst → ℕ
+readEnd x = x .k + CL (x .mode) + x .n
+
+-- the data of a write have been taken
+abbrev pub dataEnd : Burst → ℕ
+dataEnd x = x .k + 1 + x .n
+
+-- ---- what cuts a burst short
+
 -- READ and BURST TERMINATE cut a read, so does PRECHARGE of its bank; WRITE cuts a write
 abbrev pub cuts : Command → Burst → Bool
 cuts c x =
@@ -70,11 +86,7 @@ cutTo t x = lesser (x .n) (t - x .k)
 
 -- by an event at t < k + h, and never with auto precharge
 abbrev pub isCut : ℕ → Command → Burst → Bool
-isCut t c x = cuts c x && (not (x .auto) && ltb t (x .k + h (x .mode)))
+isCut t c x = cuts c x && (not (x .auto) && ltb t (wholeEnd x))
 
 abbrev pub cutBy : ℕ → Command → Burst → Burst
 cutBy t c x = cond (isCut t c x) (keep (cutTo t x) x) x
-
--- the data of a write ends
-abbrev pub dataEnd : Burst → ℕ
-dataEnd x = x .k + 1 + x .n

@@ -7,6 +7,7 @@ use lib.ListN.{length, drop}
 use lib.Dec.{leb, ltb, eqb}
 use Rattle.reading.specs.Search.{count, lowest}
 use Rattle.reading.specs.Words.{wordAt}
+use Rattle.reading.specs.Settings.{settingsCount}
 
 -- an event is a cycle and a pin word
 pub record Event : Type 0 where
@@ -20,13 +21,31 @@ headerWord capture k = wordAt capture (4 * k)
 abbrev pub eventCount : List ℕ → ℕ
 eventCount capture = headerWord capture 3
 
--- the fourteen words from byte 24 on
-unfoldable pub settingWords : List ℕ → List ℕ
-settingWords capture = map (λ i. wordAt capture (24 + 4 * i)) (count 0 14)
+-- ---- the layout: settings follow the header, events follow the settings
 
--- the part of the capture that starts at byte 80, where event i stands at 8 i
+abbrev pub settingsStart : ℕ
+settingsStart = 24
+
+abbrev pub eventsStart : ℕ → ℕ
+eventsStart settings = settingsStart + 4 * settings
+
+-- the bytes of a capture of so many settings and n events
+abbrev pub captureSize : ℕ → ℕ → ℕ
+captureSize settings n = eventsStart settings + 8 * n
+
+abbrev pub mostEvents : ℕ
+mostEvents = 8000
+
+-- how many settings a capture holds
+abbrev pub countIn : List ℕ → ℕ
+countIn capture = settingsCount
+
+unfoldable pub settingWords : List ℕ → List ℕ
+settingWords capture = map (λ i. wordAt capture (settingsStart + 4 * i)) (count 0 (countIn capture))
+
+-- the part of the capture that starts where events start; event i stands at 8 i in it
 abbrev pub eventPart : List ℕ → List ℕ
-eventPart capture = drop 80 capture
+eventPart capture = drop (eventsStart (countIn capture)) capture
 
 abbrev pub eventAt : List ℕ → ℕ → Event
 eventAt part i = record { cycle = wordAt part (8 * i); pins = wordAt part (8 * i + 4) }
@@ -34,31 +53,37 @@ eventAt part i = record { cycle = wordAt part (8 * i); pins = wordAt part (8 * i
 unfoldable pub eventsOf : List ℕ → List Event
 eventsOf capture = map (eventAt (eventPart capture)) (count 0 (eventCount capture))
 
--- under 80 or over 64,080 bytes, or not of its stated total
+-- shorter than without events, longer than with the most, or not of its stated total
 unfoldable pub badLength : List ℕ → Bool
 badLength capture =
-    ltb (length capture) 80 || ltb 64080 (length capture) || not (eqb (headerWord capture 0) (length capture))
+    ltb (length capture) (captureSize (countIn capture) 0)
+    || ltb (captureSize (countIn capture) mostEvents) (length capture)
+    || not (eqb (headerWord capture 0) (length capture))
 
--- another header word is not as it should be, or the total is not 80 + 8 N
+-- every other header word is as it should be, and the total is that of N events
 unfoldable pub goodHeader : List ℕ → Bool
 goodHeader capture =
-    eqb (headerWord capture 1) 14
-    && eqb (headerWord capture 2) 24
-    && leb (eventCount capture) 8000
-    && eqb (headerWord capture 4) 80
+    eqb (headerWord capture 1) (countIn capture)
+    && eqb (headerWord capture 2) settingsStart
+    && leb (eventCount capture) mostEvents
+    && eqb (headerWord capture 4) (eventsStart (countIn capture))
     && eqb (headerWord capture 5) 0
-    && eqb (headerWord capture 0) (80 + 8 * eventCount capture)
+    && eqb (headerWord capture 0) (captureSize (countIn capture) (eventCount capture))
 
 abbrev pub lastCycle : ℕ
 lastCycle = 2000000000
 
--- pin bits 20-31 are zero, the cycle is not too large and above the one before
-unfoldable pub eventFits : List ℕ → ℕ → Bool
-eventFits part i =
-    ltb (eventAt part i .pins) (2 ^ 20)
-    && leb (eventAt part i .cycle) lastCycle
-    && (eqb i 0 || ltb (eventAt part (i - 1) .cycle) (eventAt part i .cycle))
+-- how many of a pin word's bits stand for pins; the others are zero
+abbrev pub pinBits : List ℕ → ℕ
+pinBits capture = 20
+
+-- the cycle is not too large and above the one before
+abbrev pub cycleFits : List ℕ → ℕ → Bool
+cycleFits part i = leb (eventAt part i .cycle) lastCycle && (eqb i 0 || ltb (eventAt part (i - 1) .cycle) (eventAt part i .cycle))
+
+unfoldable pub eventFits : ℕ → List ℕ → ℕ → Bool
+eventFits bits part i = ltb (eventAt part i .pins) (2 ^ bits) && cycleFits part i
 
 -- the lowest of n events that does not fit
-unfoldable pub badEvent : List ℕ → ℕ → Option ℕ
-badEvent part n = lowest (λ i. not (eventFits part i)) n
+unfoldable pub badEvent : ℕ → List ℕ → ℕ → Option ℕ
+badEvent bits part n = lowest (λ i. not (eventFits bits part i)) n

@@ -3,6 +3,7 @@ pub mod Search
 pub mod Words
 pub mod Mode
 pub mod Settings
+pub mod RefreshClock
 pub mod Capture
 pub mod Commands
 pub mod Bursts

@@ -3,13 +3,14 @@ use Prim.Native.Nat.{ℕ, _+_}
 use mathlib.Core.Bool.{Bool, true, false, cond, _&&_}
 use mathlib.Core.List.{List, [], _∷_, map}
 use mathlib.Core.Option.{Option, none, some}
-use lib.Dec.{eqb}
-use Rattle.reading.specs.Search.{orZero, later}
+use lib.Dec.{leb, eqb}
+use Rattle.reading.specs.Search.{ever, orZero, find, later}
 use Rattle.reading.specs.Mode.{h}
 use Rattle.reading.specs.Settings.{Settings}
+use Rattle.reading.specs.RefreshClock.{Clock, clockAtStart, clockAfterRefresh}
 use Rattle.reading.specs.Capture.{Event}
 use Rattle.reading.specs.Commands.{Command, ACTIVE, READ, WRITE, PRECHARGE, AUTO-REFRESH, MODE-REGISTER-SET, is, among, names, commandOf}
-use Rattle.reading.specs.Bursts.{Burst, columnOf, cutBy}
+use Rattle.reading.specs.Bursts.{Burst, reads, columnOf, cutBy}
 
 -- open or idle, the row it was opened on, its last ACTIVE, its precharge cycle
 pub record Bank : Type 0 where
@@ -18,12 +19,13 @@ pub record Bank : Type 0 where
   pub active : Option ℕ
   pub precharged : Option ℕ
 
--- the last AUTO REFRESH and MODE REGISTER SET; all bursts so far, the latest first
+-- the last AUTO REFRESH and MODE REGISTER SET; the refresh clock; all bursts so far, the latest first
 pub record Part : Type 0 where
   pub banks : ℕ → Bank
   pub mode : ℕ
   pub refreshed : Option ℕ
   pub modeSet : Option ℕ
+  pub clock : Clock
   pub bursts : List Burst
 
 -- all banks start idle
@@ -34,6 +36,7 @@ start s =
       mode = s .mode;
       refreshed = none;
       modeSet = none;
+      clock = clockAtStart;
       bursts = [];
     }
 
@@ -82,6 +85,7 @@ partAfter s p t c =
       mode = cond (is MODE-REGISTER-SET c && eqb (c .bank) 0) (c .address) (p .mode);
       refreshed = cond (is AUTO-REFRESH c) (some t) (p .refreshed);
       modeSet = cond (is MODE-REGISTER-SET c) (some t) (p .modeSet);
+      clock = cond (is AUTO-REFRESH c) (clockAfterRefresh s t (p .clock)) (p .clock);
       bursts = burstsAfter s p t c;
     }
 
@@ -92,3 +96,18 @@ step s p e = partAfter s p (e .cycle) (commandOf (e .pins))
 abbrev pub run : Settings → Part → List Event → Part
 run s p [] = p
 run s p (e ∷ es) = run s (step s p e) es
+
+-- ---- the last bursts of a part
+
+abbrev pub lastRead : Part → Option Burst
+lastRead p = find reads (p .bursts)
+
+abbrev pub lastWrite : Part → Option Burst
+lastWrite p = find (λ x. x .writes) (p .bursts)
+
+-- a write to the bank since its ACTIVE, and the last of them
+abbrev pub bankWrite : Part → ℕ → Burst → Bool
+bankWrite p b x = x .writes && (eqb b (x .bank) && ever (p .banks b .active) (λ a. leb a (x .k)))
+
+abbrev pub lastBankWrite : Part → ℕ → Option Burst
+lastBankWrite p b = find (bankWrite p b) (p .bursts)

@@ -4,13 +4,14 @@ use mathlib.Core.Bool.{Bool, true, cond, not, _&&_, _||_}
 use mathlib.Core.List.{List, [], _∷_, _++_}
 use mathlib.Core.Option.{Option}
 use lib.Dec.{leb, ltb, eqb}
-use Rattle.reading.specs.Search.{implies, ever, orZero, every, find}
-use Rattle.reading.specs.Mode.{h, CL, modeWord}
+use Rattle.reading.specs.Search.{implies, ever, every, find}
+use Rattle.reading.specs.Mode.{modeWord}
 use Rattle.reading.specs.Settings.{Settings}
+use Rattle.reading.specs.RefreshClock.{inTime}
 use Rattle.reading.specs.Capture.{Event}
 use Rattle.reading.specs.Commands.{Command, ACTIVE, READ, WRITE, BURST-TERMINATE, PRECHARGE, AUTO-REFRESH, MODE-REGISTER-SET, NOP, DESELECT, is, among, names, commandOf}
-use Rattle.reading.specs.Bursts.{Burst, reads, dataEnd}
-use Rattle.reading.specs.Part.{Part}
+use Rattle.reading.specs.Bursts.{Burst, reads, wholeEnd, readEnd, dataEnd}
+use Rattle.reading.specs.Part.{Part, lastRead, lastWrite, lastBankWrite}
 
 abbrev pub Rule : Type 0
 Rule = Settings → Part → ℕ → Command → Bool
@@ -23,34 +24,45 @@ everyBank f = f 0 && (f 1 && (f 2 && f 3))
 abbrev pub after : ℕ → Option ℕ → ℕ → Bool
 after wait o t = ever o (λ c. leb (c + wait) t)
 
+-- the same after the data end of a write
+abbrev pub afterData : ℕ → Option Burst → ℕ → Bool
+afterData wait o t = ever o (λ x. leb (dataEnd x + wait) t)
+
+-- 1: the row of an ACTIVE is one that the part has
 abbrev pub rule1 : Rule
 rule1 s p t c = implies (is ACTIVE c) (ltb (c .address) (2 ^ s .rowBits))
 
--- BA1,BA0 is 00 with a mode word, or 10
+-- 2: a MODE REGISTER SET writes a mode word to register 00, or anything to register 10
 abbrev pub rule2 : Rule
 rule2 s p t c = implies (is MODE-REGISTER-SET c) ((eqb (c .bank) 0b00 && modeWord (c .address)) || eqb (c .bank) 0b10)
 
+-- 3: an ACTIVE finds its bank idle, READ and WRITE find theirs open, AUTO REFRESH and MODE REGISTER SET find all idle
 abbrev pub rule3 : Rule
 rule3 s p t c =
     cond (is ACTIVE c) (not (p .banks (c .bank) .opened))
     (cond (among (READ ∷ WRITE ∷ []) c) (p .banks (c .bank) .opened)
     (implies (among (AUTO-REFRESH ∷ MODE-REGISTER-SET ∷ []) c) (everyBank (λ b. not (p .banks b .opened)))))
 
+-- 4: a command waits until the last AUTO REFRESH and the last MODE REGISTER SET are over
 abbrev pub rule4 : Rule
 rule4 s p t c =
     implies (not (among (DESELECT ∷ NOP ∷ []) c)) (after (s .tRFC) (p .refreshed) t && after (s .tMRD) (p .modeSet) t)
 
+-- 5: an ACTIVE waits for its bank's precharge to be over, AUTO REFRESH and MODE REGISTER SET for every bank's
 abbrev pub rule5 : Rule
 rule5 s p t c =
     cond (is ACTIVE c) (after (s .tRP) (p .banks (c .bank) .precharged) t)
     (implies (among (AUTO-REFRESH ∷ MODE-REGISTER-SET ∷ []) c) (everyBank (λ b. after (s .tRP) (p .banks b .precharged) t)))
 
+-- 6: the ACTIVEs of a bank stand apart
 abbrev pub rule6 : Rule
 rule6 s p t c = implies (is ACTIVE c) (after (s .tRC) (p .banks (c .bank) .active) t)
 
+-- 7: so do those of different banks
 abbrev pub rule7 : Rule
 rule7 s p t c = implies (is ACTIVE c) (everyBank (λ b. eqb b (c .bank) || after (s .tRRD) (p .banks b .active) t))
 
+-- 8: READ and WRITE wait for their bank's row
 abbrev pub rule8 : Rule
 rule8 s p t c = implies (among (READ ∷ WRITE ∷ []) c) (after (s .tRCD) (p .banks (c .bank) .active) t)
 
@@ -58,40 +70,41 @@ rule8 s p t c = implies (among (READ ∷ WRITE ∷ []) c) (after (s .tRCD) (p .b
 abbrev pub closing : Part → Command → (ℕ → Bool) → Bool
 closing p c f = implies (is PRECHARGE c) (everyBank (λ b. implies (p .banks b .opened && names c b) (f b)))
 
+-- 9: a row stays open so long
 abbrev pub rule9 : Rule
 rule9 s p t c = closing p c (λ b. after (s .tRAS) (p .banks b .active) t)
 
--- a write to the bank since its ACTIVE
-abbrev pub bankWrite : Part → ℕ → Burst → Bool
-bankWrite p b x = x .writes && (eqb b (x .bank) && ever (p .banks b .active) (λ a. leb a (x .k)))
-
+-- 10: and so long after the data of its last write
 abbrev pub rule10 : Rule
-rule10 s p t c = closing p c (λ b. ever (find (bankWrite p b) (p .bursts)) (λ x. leb (dataEnd x + s .tWR) t))
+rule10 s p t c = closing p c (λ b. afterData (s .tWR) (lastBankWrite p b) t)
 
+-- 11: a READ waits after the data of the last write, of whatever bank
 abbrev pub rule11 : Rule
-rule11 s p t c = implies (is READ c) (ever (find (λ x. x .writes) (p .bursts)) (λ x. leb (dataEnd x + s .tWTR) t))
+rule11 s p t c = implies (is READ c) (afterData (s .tWTR) (lastWrite p) t)
 
+-- 12: WRITE, AUTO REFRESH and MODE REGISTER SET wait until the last read's data have left the bus
 abbrev pub rule12 : Rule
 rule12 s p t c =
-    implies (among (WRITE ∷ AUTO-REFRESH ∷ MODE-REGISTER-SET ∷ []) c)
-    (ever (find reads (p .bursts)) (λ x. leb (x .k + CL (x .mode) + x .n) t))
+    implies (among (WRITE ∷ AUTO-REFRESH ∷ MODE-REGISTER-SET ∷ []) c) (ever (lastRead p) (λ x. leb (readEnd x) t))
 
--- not before k + h of a burst with auto precharge
+-- not before a burst with auto precharge is over
 abbrev pub autoOver : ℕ → Burst → Bool
-autoOver t x = implies (x .auto) (leb (x .k + h (x .mode)) t)
+autoOver t x = implies (x .auto) (leb (wholeEnd x) t)
 
--- k <= t < k + h of an auto precharge read, or k <= t < k + 1 + n of a write
+-- an auto precharge read, or any write, is running
 abbrev pub untouchable : ℕ → Burst → Bool
-untouchable t x = leb (x .k) t && cond (x .writes) (ltb t (dataEnd x)) (x .auto && ltb t (x .k + h (x .mode)))
+untouchable t x = leb (x .k) t && cond (x .writes) (ltb t (dataEnd x)) (x .auto && ltb t (wholeEnd x))
 
+-- 13: a READ cuts no read with auto precharge, a WRITE no write with it, a BURST TERMINATE neither such a read nor any write
 abbrev pub rule13 : Rule
 rule13 s p t c =
     cond (is READ c) (every (λ x. implies (reads x) (autoOver t x)) (p .bursts))
     (cond (is WRITE c) (every (λ x. implies (x .writes) (autoOver t x)) (p .bursts))
     (implies (is BURST-TERMINATE c) (every (λ x. not (untouchable t x)) (p .bursts))))
 
+-- 14: no event, of whatever kind, comes when an AUTO REFRESH is overdue
 abbrev pub rule14 : Rule
-rule14 s p t c = leb t (orZero (p .refreshed) + s .GAP)
+rule14 s p t c = inTime s (p .clock) t
 
 -- the rule of a number
 abbrev pub keeps : ℕ → Rule
@@ -118,9 +131,12 @@ placingRules = 1 ∷ 2 ∷ 3 ∷ 4 ∷ 5 ∷ 6 ∷ 7 ∷ 8 ∷ 9 ∷ 10 ∷ 11 �
 abbrev pub rules : List ℕ
 rules = placingRules ++ (14 ∷ [])
 
--- the lowest rule that is broken
-abbrev pub lowestBroken : Settings → Part → ℕ → Command → Option ℕ
-lowestBroken s p t c = find (λ r. not (keeps r s p t c)) rules
+-- the lowest of some rules, listed by their numbers, that is broken
+abbrev pub lowestBroken : List ℕ → Settings → Part → ℕ → Command → Option ℕ
+lowestBroken rs s p t c = find (λ r. not (keeps r s p t c)) rs
+
+abbrev pub brokenAmong : List ℕ → Settings → Part → Event → Option ℕ
+brokenAmong rs s p e = lowestBroken rs s p (e .cycle) (commandOf (e .pins))
 
 abbrev pub brokenBy : Settings → Part → Event → Option ℕ
-brokenBy s p e = lowestBroken s p (e .cycle) (commandOf (e .pins))
+brokenBy = brokenAmong rules

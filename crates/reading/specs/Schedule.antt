@@ -7,11 +7,12 @@ use lib.ListN.{length, getD}
 use lib.Dec.{ltb, eqb}
 use Rattle.reading.specs.Search.{every, lowest}
 use Rattle.reading.specs.Words.{bit, bytesOf}
-use Rattle.reading.specs.Settings.{Settings}
-use Rattle.reading.specs.Capture.{Event, lastCycle}
+use Rattle.reading.specs.Settings.{Settings, settingsCount}
+use Rattle.reading.specs.Capture.{Event, settingsStart, eventsStart, captureSize, lastCycle}
+use Rattle.reading.specs.RefreshClock.{inTime}
 use Rattle.reading.specs.Commands.{ACTIVE, READ, WRITE, AUTO-REFRESH, commandOf, pinsOf}
 use Rattle.reading.specs.Part.{Part, start, run}
-use Rattle.reading.specs.Rules.{keeps, rule14, placingRules}
+use Rattle.reading.specs.Rules.{keeps, placingRules}
 
 -- bit 31 write, bits 27-30 zero, bits 0-26 the cell where the burst starts
 abbrev pub asksWrite : ℕ → Bool
@@ -75,10 +76,9 @@ send s es pins = es ++ (record { cycle = placed s es pins; pins = pins } ∷ [])
 unfoldable pub sendRequest : Settings → List Event → ℕ → List Event
 sendRequest s es q = send s (send s es (activePins s q)) (burstPins s q)
 
--- an AUTO REFRESH placed next comes at most GAP after the last one, as rule 14 asks of it
+-- an AUTO REFRESH placed next comes in time
 unfoldable pub refreshInTime : Settings → List Event → Bool
-refreshInTime s es =
-    rule14 s (run s (start s) es) (placed s es refreshPins) (commandOf refreshPins)
+refreshInTime s es = inTime s (run s (start s) es .clock) (placed s es refreshPins)
 
 -- the events with those of one more request; none if refresh cannot be kept
 unfoldable pub served : Settings → List Event → ℕ → Option (List Event)
@@ -110,4 +110,6 @@ eventWords (e ∷ es) = e .cycle ∷ e .pins ∷ eventWords es
 
 unfoldable pub captureOf : List ℕ → List Event → List ℕ
 captureOf settings es =
-    bytesOf (((80 + 8 * length es) ∷ 14 ∷ 24 ∷ length es ∷ 80 ∷ 0 ∷ []) ++ settings ++ eventWords es)
+    bytesOf
+    ((captureSize settingsCount (length es)
+    ∷ settingsCount ∷ settingsStart ∷ length es ∷ eventsStart settingsCount ∷ 0 ∷ []) ++ settings ++ eventWords es)

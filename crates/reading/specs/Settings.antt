@@ -1,12 +1,16 @@
--- The fourteen settings and the table of their limits.
+-- The settings and the table of their limits.
 use Prim.Native.Nat.{ℕ}
 use mathlib.Core.Bool.{Bool, not, _&&_}
 use mathlib.Core.List.{List, [], _∷_, _++_}
 use mathlib.Core.Option.{Option}
-use lib.ListN.{getD, replicate}
+use lib.ListN.{length, getD, replicate}
 use lib.Dec.{leb, eqb}
 use Rattle.reading.specs.Search.{implies, lowest}
 use Rattle.reading.specs.Mode.{modeWord}
+
+-- how many there are
+abbrev pub settingsCount : ℕ
+settingsCount = 14
 
 pub record Settings : Type 0 where
   pub lane : ℕ
@@ -65,6 +69,10 @@ settingFits i w =
     && leb w (getD limits i (between 0 0) .most)
     && implies (eqb i 3) (modeWord w)
 
--- the lowest setting that does not fit
+-- the lowest of n settings that is out of its range
+abbrev pub outOfRange : List ℕ → ℕ → Option ℕ
+outOfRange ws n = lowest (λ i. not (settingFits i (getD ws i 0))) n
+
+-- refusal 3: the place of what is wrong with a list of settings
 unfoldable pub badSetting : List ℕ → Option ℕ
-badSetting ws = lowest (λ i. not (settingFits i (getD ws i 0))) 14
+badSetting ws = outOfRange ws (length ws)

@@ -5,7 +5,7 @@ use mathlib.Core.Option.{Option, none, some}
 use Rattle.reading.specs.Settings.{Settings}
 use Rattle.reading.specs.Capture.{Event}
 use Rattle.reading.specs.Part.{Part, start, step}
-use Rattle.reading.specs.Rules.{brokenBy}
+use Rattle.reading.specs.Rules.{rules, brokenAmong}
 
 pub data Verdict : Type 0 where
   clean : Verdict
@@ -16,12 +16,20 @@ abbrev pub onward : Option ℕ → ℕ → ℕ → Verdict → Verdict
 onward none i t v = v
 onward (some r) i t v = broken r i t
 
-unfoldable pub judgeFrom : Settings → Part → ℕ → List Event → Verdict
-judgeFrom s p i [] = clean
-judgeFrom s p i (e ∷ es) = onward (brokenBy s p e) i (e .cycle) (judgeFrom s (step s p e) (suc i) es)
+-- by some rules, listed by their numbers
+unfoldable pub judgeBy : List ℕ → Settings → Part → ℕ → List Event → Verdict
+judgeBy rs s p i [] = clean
+judgeBy rs s p i (e ∷ es) = onward (brokenAmong rs s p e) i (e .cycle) (judgeBy rs s (step s p e) (suc i) es)
 
-unfoldable pub verdictOf : Settings → List Event → Verdict
-verdictOf s es = judgeFrom s (start s) 0 es
+unfoldable pub verdictBy : List ℕ → Settings → List Event → Verdict
+verdictBy rs s es = judgeBy rs s (start s) 0 es
+
+-- by all rules
+abbrev pub judgeFrom : Settings → Part → ℕ → List Event → Verdict
+judgeFrom = judgeBy rules
+
+abbrev pub verdictOf : Settings → List Event → Verdict
+verdictOf = verdictBy rules
 
 -- "judged" of N events: N if clean, else the number of events before the broken one
 abbrev pub judgedOf : ℕ → Verdict → ℕ

@@ -1,4 +1,7 @@
 // A request: whether it fits, and the pins of its commands. Pins that are not named are 0.
+use settings::Settings;
+use settings::places::COLUMN_BITS;
+use settings::places::ROW_BITS;
 use words::Found;
 ghost use mathlib.Core.Path.{_≡_};
 ghost use mathlib.Core.Bool.{true, _&&_};
@@ -8,8 +11,6 @@ ghost use Rattle.reading.specs.Settings.{settingsOf};
 ghost use Rattle.reading.specs.Schedule.{asksWrite, firstCell, cellBank, cellRow, cellColumn, badRequest, activePins, columnPins, burstPins};
 ghost use Rattle.memory.specs.Serving.{Sized};
 ghost use Rattle.requests.specs.Asked.{Asked, burstCode, cellsOf, below, EachBelow};
-
-const COLUMN_BITS: usize = 2;
 
 // AUTO REFRESH.
 pub const REFRESH_PINS: u32 = 524_288;
@@ -29,26 +30,26 @@ pub fn asks_write(q: u32) -> bool
     q / 2_147_483_648 % 2 == 1
 }
 
-pub fn bank(s: &[u32; 14], q: u32) -> u32
+pub fn bank(s: &Settings, q: u32) -> u32
     requires { ⌜ Sized (settingsOf (now s)) ⌝ }
     ensures { λ r. ⌜ r ≡ cellBank (settingsOf (now (s .entry))) (firstCell q) ⌝ }
 {
     let columns = numbers(s[COLUMN_BITS]);
-    let rows = numbers(s[deadlines::places::ROW_BITS]);
+    let rows = numbers(s[ROW_BITS]);
     q % 134_217_728 / columns / rows
 }
 
-fn row(s: &[u32; 14], q: u32) -> u32
+fn row(s: &Settings, q: u32) -> u32
     requires { ⌜ Sized (settingsOf (now s)) ⌝ }
     ensures { λ r. ⌜ r ≡ cellRow (settingsOf (now (s .entry))) (firstCell q) ⌝ }
     ensures { λ r. ⌜ r < 16384 ⌝ }
 {
     let columns = numbers(s[COLUMN_BITS]);
-    let rows = numbers(s[deadlines::places::ROW_BITS]);
+    let rows = numbers(s[ROW_BITS]);
     q % 134_217_728 / columns % rows
 }
 
-fn column(s: &[u32; 14], q: u32) -> u32
+fn column(s: &Settings, q: u32) -> u32
     requires { ⌜ Sized (settingsOf (now s)) ⌝ }
     ensures { λ r. ⌜ r ≡ cellColumn (settingsOf (now (s .entry))) (firstCell q) ⌝ }
     ensures { λ r. ⌜ r < 16384 ⌝ }
@@ -57,7 +58,7 @@ fn column(s: &[u32; 14], q: u32) -> u32
     q % 134_217_728 % columns
 }
 
-pub fn active_pins(s: &[u32; 14], q: u32) -> u32
+pub fn active_pins(s: &Settings, q: u32) -> u32
     requires { ⌜ Asked (settingsOf (now s)) q ⌝ }
     ensures { λ r. ⌜ r ≡ activePins (settingsOf (now (s .entry))) q ⌝ }
 {
@@ -81,7 +82,7 @@ fn column_pins(column: u32) -> u32
     column % 1024 + 1024 + 2048 * (column / 1024)
 }
 
-pub fn burst_pins(s: &[u32; 14], q: u32) -> u32
+pub fn burst_pins(s: &Settings, q: u32) -> u32
     requires { ⌜ Asked (settingsOf (now s)) q ⌝ }
     ensures { λ r. ⌜ r ≡ burstPins (settingsOf (now (s .entry))) q ⌝ }
 {
@@ -90,11 +91,11 @@ pub fn burst_pins(s: &[u32; 14], q: u32) -> u32
 }
 
 // The cells of the part, which has four banks.
-fn cells(s: &[u32; 14]) -> u32
+fn cells(s: &Settings) -> u32
     requires { ⌜ Sized (settingsOf (now s)) ⌝ }
     ensures { λ r. ⌜ r ≡ cellsOf (settingsOf (now (s .entry))) ⌝ }
 {
-    deadlines::sums::rows(2 + s[COLUMN_BITS] + s[deadlines::places::ROW_BITS])
+    deadlines::sums::rows(2 + s[COLUMN_BITS] + s[ROW_BITS])
 }
 
 // Bits 27-30 are zero and the part has the cell: without the highest bit, which asks for a write, it is a cell's number.
@@ -122,7 +123,7 @@ fn all_fit(cells: u32, requests: &[u32]) -> bool
 }
 
 // Refusal 5: over 2,000 requests, else the lowest that does not fit.
-pub fn lowest_bad(s: &[u32; 14], requests: &[u32]) -> Found
+pub fn lowest_bad(s: &Settings, requests: &[u32]) -> Found
     requires { ⌜ Sized (settingsOf (now s)) ⌝ }
     ensures { λ r. ⌜ placeOf r ≡ badRequest (settingsOf (now (s .entry))) (now (requests .entry)) ⌝ }
 {

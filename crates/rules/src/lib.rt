@@ -1,4 +1,5 @@
 // Which rule a command breaks: a comparison for each timed rule, a search for each rule that looks at several banks.
+use deadlines::Deadlines;
 use deadlines::places::AGAIN;
 use deadlines::places::BUSY;
 use deadlines::places::CLOSE;
@@ -10,13 +11,14 @@ use deadlines::places::OPEN;
 use deadlines::places::OTHER;
 use deadlines::places::READS;
 use deadlines::places::REST;
-use deadlines::places::ROW_BITS;
-use deadlines::places::T_WTR;
 use deadlines::places::WRITES;
 use deadlines::places::WRITTEN;
 use deadlines::sums::after;
 use deadlines::sums::past;
 use deadlines::sums::rows;
+use settings::Settings;
+use settings::places::ROW_BITS;
+use settings::places::T_WTR;
 ghost use mathlib.Core.Path.{_≡_};
 ghost use mathlib.Core.Bool.{_||_, cond};
 ghost use Prim.Native.Nat.{_+_, _<_};
@@ -27,7 +29,7 @@ ghost use Rattle.reading.specs.Rules.{everyBank};
 ghost use Rattle.deadlines.specs.Deadlines as is;
 ghost use Rattle.deadlines.specs.Deadlines.{at, orElse};
 
-pub fn due_breaks(d: &[u64; 40], t: u32) -> u32
+pub fn due_breaks(d: &Deadlines, t: u32) -> u32
     ensures { λ r. ⌜ r ≡ is.dueBreaks (now (d .entry)) t ⌝ }
 {
     if d[DUE] < (t as u64) {
@@ -38,7 +40,7 @@ pub fn due_breaks(d: &[u64; 40], t: u32) -> u32
 
 // The searches: the banks in order, left at the first that breaks the rule, with its number; 0 if none does.
 
-fn all_idle(d: &[u64; 40]) -> u32
+fn all_idle(d: &Deadlines) -> u32
     ensures { λ r. ⌜ r ≡ orElse (everyBank (λ i. eqb (at (now (d .entry)) (is.OPEN + i)) 0)) 3 0 ⌝ }
 {
     'banks: for i in 0..4 {
@@ -50,7 +52,7 @@ fn all_idle(d: &[u64; 40]) -> u32
     0
 }
 
-fn all_rested(d: &[u64; 40], t: u32) -> u32
+fn all_rested(d: &Deadlines, t: u32) -> u32
     ensures { λ r. ⌜ r ≡ orElse (everyBank (λ i. leb (at (now (d .entry)) (is.REST + i)) t)) 5 0 ⌝ }
 {
     'banks: for i in 0..4 {
@@ -62,7 +64,7 @@ fn all_rested(d: &[u64; 40], t: u32) -> u32
     0
 }
 
-fn others_apart(d: &[u64; 40], t: u32, b: usize) -> u32
+fn others_apart(d: &Deadlines, t: u32, b: usize) -> u32
     ensures { λ r. ⌜ r ≡ orElse (everyBank (λ i. leb (at (now (d .entry)) (is.OTHER + i)) t || eqb i b)) 7 0 ⌝ }
 {
     'banks: for i in 0..4 {
@@ -77,7 +79,7 @@ fn others_apart(d: &[u64; 40], t: u32, b: usize) -> u32
     0
 }
 
-fn all_held(d: &[u64; 40], t: u32) -> u32
+fn all_held(d: &Deadlines, t: u32) -> u32
     ensures { λ r. ⌜ r ≡ orElse (everyBank (λ i. leb (at (now (d .entry)) (is.CLOSE + i)) t || eqb (at (now (d .entry)) (is.OPEN + i)) 0)) 9 0 ⌝ }
 {
     'banks: for i in 0..4 {
@@ -92,7 +94,7 @@ fn all_held(d: &[u64; 40], t: u32) -> u32
     0
 }
 
-fn all_written(d: &[u64; 40], t: u32) -> u32
+fn all_written(d: &Deadlines, t: u32) -> u32
     ensures { λ r. ⌜ r ≡ orElse (everyBank (λ i. leb (at (now (d .entry)) (is.WRITTEN + i)) t || eqb (at (now (d .entry)) (is.OPEN + i)) 0)) 10 0 ⌝ }
 {
     'banks: for i in 0..4 {
@@ -109,7 +111,7 @@ fn all_written(d: &[u64; 40], t: u32) -> u32
 
 // The lowest rule that a command breaks, 0 for none. Each reads the deadlines of the banks and the part that it concerns.
 
-pub fn active_breaks(s: &[u32; 14], d: &[u64; 40], t: u32, b: usize, row: u32) -> u32
+pub fn active_breaks(s: &Settings, d: &Deadlines, t: u32, b: usize, row: u32) -> u32
     requires { ⌜ b < 4 ⌝ }
     ensures { λ r. ⌜ r ≡ is.activeBreaks (settingsOf (now (s .entry))) (now (d .entry)) t b row ⌝ }
 {
@@ -135,7 +137,7 @@ pub fn active_breaks(s: &[u32; 14], d: &[u64; 40], t: u32, b: usize, row: u32) -
     due_breaks(d, t)
 }
 
-pub fn read_breaks(d: &[u64; 40], t: u32, b: usize) -> u32
+pub fn read_breaks(d: &Deadlines, t: u32, b: usize) -> u32
     requires { ⌜ b < 4 ⌝ }
     ensures { λ r. ⌜ r ≡ is.readBreaks (now (d .entry)) t b ⌝ }
 {
@@ -157,7 +159,7 @@ pub fn read_breaks(d: &[u64; 40], t: u32, b: usize) -> u32
     due_breaks(d, t)
 }
 
-pub fn write_breaks(d: &[u64; 40], t: u32, b: usize) -> u32
+pub fn write_breaks(d: &Deadlines, t: u32, b: usize) -> u32
     requires { ⌜ b < 4 ⌝ }
     ensures { λ r. ⌜ r ≡ is.writeBreaks (now (d .entry)) t b ⌝ }
 {
@@ -179,7 +181,7 @@ pub fn write_breaks(d: &[u64; 40], t: u32, b: usize) -> u32
     due_breaks(d, t)
 }
 
-pub fn terminate_breaks(s: &[u32; 14], d: &[u64; 40], t: u32) -> u32
+pub fn terminate_breaks(s: &Settings, d: &Deadlines, t: u32) -> u32
     ensures { λ r. ⌜ r ≡ is.terminateBreaks (settingsOf (now (s .entry))) (now (d .entry)) t ⌝ }
 {
     if (t as u64) < d[BUSY] {
@@ -194,7 +196,7 @@ pub fn terminate_breaks(s: &[u32; 14], d: &[u64; 40], t: u32) -> u32
     due_breaks(d, t)
 }
 
-pub fn close_breaks(d: &[u64; 40], t: u32, b: usize) -> u32
+pub fn close_breaks(d: &Deadlines, t: u32, b: usize) -> u32
     requires { ⌜ b < 4 ⌝ }
     ensures { λ r. ⌜ r ≡ is.closeBreaks (now (d .entry)) t b ⌝ }
 {
@@ -213,7 +215,7 @@ pub fn close_breaks(d: &[u64; 40], t: u32, b: usize) -> u32
     due_breaks(d, t)
 }
 
-pub fn close_all_breaks(d: &[u64; 40], t: u32) -> u32
+pub fn close_all_breaks(d: &Deadlines, t: u32) -> u32
     ensures { λ r. ⌜ r ≡ is.closeAllBreaks (now (d .entry)) t ⌝ }
 {
     if (t as u64) < d[BUSY] {
@@ -230,7 +232,7 @@ pub fn close_all_breaks(d: &[u64; 40], t: u32) -> u32
     due_breaks(d, t)
 }
 
-pub fn refresh_breaks(d: &[u64; 40], t: u32) -> u32
+pub fn refresh_breaks(d: &Deadlines, t: u32) -> u32
     ensures { λ r. ⌜ r ≡ is.refreshBreaks (now (d .entry)) t ⌝ }
 {
     let idle = all_idle(d);
@@ -259,7 +261,7 @@ fn register_fits(b: usize, word: u32) -> bool
     b == 2
 }
 
-pub fn mode_breaks(d: &[u64; 40], t: u32, b: usize, word: u32) -> u32
+pub fn mode_breaks(d: &Deadlines, t: u32, b: usize, word: u32) -> u32
     ensures { λ r. ⌜ r ≡ is.modeBreaks (now (d .entry)) t b word ⌝ }
 {
     if !register_fits(b, word) {

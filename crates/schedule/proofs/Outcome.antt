@@ -87,7 +87,7 @@ right ws r e f =
 
 module _ {ws : List ℕ} (fit : Right ws) {s : List ℕ} (same : s ≡ ws) where
   pub sized : Sized (settingsOf s)
-  sized = rw same (ranged ws (settings-fit ws (fit .each)) .sized)
+  sized = rw same (ranged ws (settings-fit ws (fit .count) (fit .each)) .sized)
 
   module _ (qs out : List ℕ) where
     onward : scheduleOutcome ws qs out
@@ -107,7 +107,7 @@ module _ {ws : List ℕ} (fit : Right ws) {s : List ℕ} (same : s ≡ ws) where
       pub plannable : (w : List ℕ) → length w ≡ 12000 → Plannable s qs w
       plannable w l =
           let few = few-requests (settingsOf ws) qs asked-fine in
-          rw same (record { right = fit .each; fine = asked-fine; room = omega arith })
+          rw same (record { fourteen = fit .count; right = fit .each; fine = asked-fine; room = omega arith })
 
       -- ---- refusal 6
 
@@ -143,7 +143,7 @@ module _ {ws : List ℕ} (fit : Right ws) {s : List ℕ} (same : s ≡ ws) where
           few : n ≤ 6000
           few =
               let y = made m in
-              let plan = schedule-planned (settingsOf ws) qs asked-fine (ranged ws (settings-fit ws (fit .each))) (y .es) (y .is) in
+              let plan = schedule-planned (settingsOf ws) qs asked-fine (ranged ws (settings-fit ws (fit .count) (fit .each))) (y .es) (y .is) in
               omega (arith, y .counted, plan .few, few-requests (settingsOf ws) qs asked-fine)
 
           pub writable : Writable ws w′ n

@@ -70,7 +70,7 @@ module _ (ws qs w₀ : List ℕ) where
 
   module _ (p : Plannable ws qs w₀) where
     g : Ranged s
-    g = ranged ws (settings-fit ws (p .right))
+    g = ranged ws (settings-fit ws (p .fourteen) (p .right))
 
     abbrev X : List Event → Held
     X es = summary s (partOf s es)

@@ -9,8 +9,8 @@ use lib.ListN.{length, take}
 use lib.Seq.{sets}
 use Rattle.reading.specs.Words.{bytesOf}
 use Rattle.reading.specs.Settings as reading
-use Rattle.reading.specs.Settings.{settingsOf, badSetting}
-use Rattle.reading.specs.Capture.{Event}
+use Rattle.reading.specs.Settings.{settingsCount, settingsOf, badSetting}
+use Rattle.reading.specs.Capture.{Event, settingsStart, eventsStart, captureSize}
 use Rattle.reading.specs.Schedule.{Schedule, planned, late, badRequest, eventWords}
 use Rattle.reading.specs.Answers.{Answer, refused, answered}
 use Rattle.requests.specs.Asked.{Asked}
@@ -41,6 +41,7 @@ pub record Notable (s : reading.Settings) (words : List ℕ) (n events q : ℕ) 
 
 -- nothing is refused, and there is room for the events
 pub record Plannable (settings requests words : List ℕ) : Type 0 where
+  pub fourteen : length settings ≡ 14
   pub right : badSetting settings ≡ none
   pub fine : badRequest (settingsOf settings) requests ≡ none
   pub room : 6 * length requests ≤ length words
@@ -53,13 +54,13 @@ pub record Writable (settings list : List ℕ) (n : ℕ) : Type 0 where
   pub there : 2 * n ≤ length list
 
 abbrev pub size : ℕ → ℕ
-size n = 80 + 8 * n
+size n = captureSize settingsCount n
 
 unfoldable pub written : List ℕ → ℕ → Scheduled
 written out n = cond (ltb (length out) (size n)) (Refused 7 (size n)) (Written (size n))
 
 abbrev pub head : ℕ → List ℕ
-head n = size n ∷ 14 ∷ 24 ∷ n ∷ 80 ∷ 0 ∷ []
+head n = size n ∷ settingsCount ∷ settingsStart ∷ n ∷ eventsStart settingsCount ∷ 0 ∷ []
 
 unfoldable pub writing : List ℕ → List ℕ → ℕ → List ℕ → List ℕ
 writing settings list n out =

@@ -1,8 +1,9 @@
 // The fixed schedule of a list of requests, written as a whole capture.
-use deadlines::places::MODE;
 use deadlines::sums;
 use requests::REFRESH_PINS;
 use settings::Checked;
+use settings::Settings;
+use settings::places::MODE;
 use turns::Placed;
 use words::Found;
 ghost use mathlib.Core.Path.{_≡_};
@@ -33,11 +34,11 @@ enum Planned {
 const WORDS: usize = 12_000;
 
 // The settings as an array.
-fn fourteen(settings: &[u32]) -> [u32; 14]
+fn fourteen(settings: &[u32]) -> Settings
     requires { ⌜ length (now settings) ≡ 14 ⌝ }
     ensures { λ r. ⌜ r ≡ now (settings .entry) ⌝ }
 {
-    let mut s = [0u32; 14];
+    let mut s = [0u32; settings::COUNT];
     'settings: for i in 0..14 {
         s[i] = settings[i];
     }
@@ -53,7 +54,7 @@ fn put_event(words: &mut [u32], i: usize, cycle: u32, pins: u32)
 }
 
 // ACTIVE, then READ or WRITE, noted behind n events.
-fn note_request(s: &[u32; 14], words: &mut [u32], n: usize, active: u32, burst: u32, q: u32)
+fn note_request(s: &Settings, words: &mut [u32], n: usize, active: u32, burst: u32, q: u32)
     requires { ⌜ Notable (settingsOf (now s)) (now words) n 2 q ⌝ }
     ensures { λ r. ⌜ now (words .exit) ≡ sets (now (words .entry)) (2 * n) (eventWords (requestEvents (settingsOf (now (s .entry))) active burst q)) ⌝ }
 {
@@ -63,7 +64,7 @@ fn note_request(s: &[u32; 14], words: &mut [u32], n: usize, active: u32, burst: 
 
 // An AUTO REFRESH before them.
 fn note_behind(
-    s: &[u32; 14],
+    s: &Settings,
     words: &mut [u32],
     n: usize,
     refresh: u32,
@@ -79,7 +80,7 @@ fn note_behind(
 }
 
 // Request after request, until refresh cannot be kept. The words of the events stand from the front on.
-fn plan(s: &[u32; 14], requests: &[u32], words: &mut [u32]) -> Planned
+fn plan(s: &Settings, requests: &[u32], words: &mut [u32]) -> Planned
     requires { ⌜ Plannable (now s) (now requests) (now words) ⌝ }
     ensures { λ r. ⌜ r ≡ plannedAs (scheduleOf (settingsOf (now (s .entry))) (now (requests .entry))) ⌝ }
     ensures { λ r. ⌜ Noted (scheduleOf (settingsOf (now (s .entry))) (now (requests .entry))) (now (words .entry)) (now (words .exit)) ⌝ }

@@ -52,7 +52,8 @@ pub fitting : (ws : List ℕ) → checked ws ≡ answered tt → Fitting ws
 unfolding checked badSetting
 fitting ws h =
     let clear = nothing-wrong (not (eqb (length ws) 14)) (badSetting ws) h in
+    let fourteen : length ws ≡ 14 = eqb-true (length ws) 14 (not-false (eqb (length ws) 14) (clear .0)) in
     record {
-      count = eqb-true _ _ (not-false _ (clear .0));
-      fits = λ i l. not-false _ (none-below (λ j. not (settingFits j (getD ws j 0))) 14 (clear .1) i l);
+      count = fourteen;
+      fits = λ i l. not-false _ (none-below (λ j. not (settingFits j (getD ws j 0))) (length ws) (clear .1) i (omega (arith, fourteen)));
     }

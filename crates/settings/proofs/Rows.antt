@@ -81,22 +81,22 @@ abbrev bad : List ℕ → ℕ → Bool
 bad ws i = not (settingFits i (getD ws i 0))
 
 pub record Sought (ws : List ℕ) (i : ℕ) : Type 0 where
-  pub within : i ≤ 14
-  pub same : foundFrom (bad ws) 14 i ≡ badSetting ws
+  pub within : i ≤ length ws
+  pub same : foundFrom (bad ws) (length ws) i ≡ badSetting ws
 
 pub begins : (ws : List ℕ) → Sought ws 0
 unfolding badSetting
-begins ws = record { within = omega arith; same = search.begins (bad ws) 14 }
+begins ws = record { within = omega arith; same = search.begins (bad ws) (length ws) }
 
 module _ {ws : List ℕ} {i : ℕ} (s : Sought ws i) where
-  pub goes-on : i < 14 → settingFits i (getD ws i 0) ≡ true → Sought ws (i + 1)
-  goes-on l e = record { within = omega arith; same = sym (search.goes-on (bad ws) 14 i l (ap not e)) ∙ s .same }
+  pub goes-on : i < length ws → settingFits i (getD ws i 0) ≡ true → Sought ws (i + 1)
+  goes-on l e = record { within = omega arith; same = sym (search.goes-on (bad ws) (length ws) i l (ap not e)) ∙ s .same }
 
-  pub stops : i < 14 → settingFits i (getD ws i 0) ≡ false → some i ≡ badSetting ws
-  stops l e = sym (search.stops (bad ws) 14 i l (ap not e)) ∙ s .same
+  pub stops : i < length ws → settingFits i (getD ws i 0) ≡ false → some i ≡ badSetting ws
+  stops l e = sym (search.stops (bad ws) (length ws) i l (ap not e)) ∙ s .same
 
-  pub ends : 14 ≤ i → none ≡ badSetting ws
-  ends l = sym (search.ends (bad ws) 14 i l) ∙ s .same
+  pub ends : length ws ≤ i → none ≡ badSetting ws
+  ends l = sym (search.ends (bad ws) (length ws) i l) ∙ s .same
 
 -- ---- what a list of settings is answered
 

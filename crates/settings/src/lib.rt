@@ -1,17 +1,24 @@
-// The settings of a board: their limits, and the list of words that holds them.
+// The settings of a board: their places, their limits, and the list of words that holds them.
+pub mod places;
+
 use words::Found;
 ghost use mathlib.Core.Path.{_≡_};
-ghost use Prim.Native.Nat.{_<_};
+ghost use Prim.Native.Nat.{_≤_, _<_};
 ghost use lib.ListN.{length};
 ghost use Rattle.words.specs.Found.{placeOf};
 ghost use Rattle.reading.specs.Mode.{modeWord};
 ghost use Rattle.reading.specs.Settings.{settingFits, badSetting};
 ghost use Rattle.settings.specs.Meaning.{means, checked};
 
+// How many settings there are, and all of them.
+pub const COUNT: usize = 14;
+
+pub type Settings = [u32; COUNT];
+
 // The least and the most that a setting may be.
 struct Limits(u32, u32);
 
-const LIMITS: [Limits; 14] = [
+const LIMITS: [Limits; COUNT] = [
     Limits(1, 2), // lane code
     Limits(12, 14), // row bits
     Limits(8, 11), // column bits
@@ -66,7 +73,7 @@ fn setting_fits(i: usize, w: u32) -> bool
     if row.1 < w {
         return false;
     }
-    if i == 3 {
+    if i == places::MODE {
         return mode_word(w);
     }
     true
@@ -74,10 +81,10 @@ fn setting_fits(i: usize, w: u32) -> bool
 
 // The lowest setting that is out of its row's limits or no mode word.
 pub fn lowest_bad(words: &[u32]) -> Found
-    requires { ⌜ length (now words) ≡ 14 ⌝ }
+    requires { ⌜ length (now words) ≤ 14 ⌝ }
     ensures { λ r. ⌜ placeOf r ≡ badSetting (now (words .entry)) ⌝ }
 {
-    'settings: for i in 0..14 {
+    'settings: for i in 0..words.len() {
         if setting_fits(i, words[i]) {
             continue 'settings;
         }
@@ -90,7 +97,7 @@ pub fn lowest_bad(words: &[u32]) -> Found
 pub fn check(words: &[u32]) -> Checked
     ensures { λ r. ⌜ means r ≡ checked (now (words .entry)) ⌝ }
 {
-    if words.len() != 14 {
+    if words.len() != COUNT {
         return Checked::Refused {
             number: 2,
             place: 0,

@@ -9,7 +9,7 @@ use Rattle.reading.specs.Search.{later}
 use Rattle.reading.specs.Settings.{Settings}
 use Rattle.reading.specs.Schedule.{asksWrite, firstCell, cellBank}
 use Rattle.deadlines.specs.Deadlines as all
-use Rattle.deadlines.specs.Deadlines.{PAIRS, LATENCY, at, paceOf}
+use Rattle.deadlines.specs.Deadlines.{PAIRS, LATENCY, at, paceOf, dueAtStart, dueAfterRefresh}
 use Rattle.plan.specs.Soonest.{otherBank}
 use Rattle.turns.specs.declared.Tried.{Tried}
 use Rattle.turns.specs.Turns.{Turn}
@@ -51,7 +51,7 @@ betweenOf d =
     ∷ later (at d all.END) (at d all.READS) ∷ later (at d all.DATA) (at d all.WRITES) ∷ at d all.DUE ∷ at d all.DATA ∷ []
 
 unfoldable pub startOf : Settings → List ℕ
-startOf s = set (replicate 16 0) DUE (s .GAP + 0)
+startOf s = set (replicate 16 0) DUE (dueAtStart s)
 
 -- ---- when a command may be given
 
@@ -114,7 +114,7 @@ module _ (s : Settings) (k : List ℕ) (free q : ℕ) where
   refreshAt = cycleFor free (refreshSoonest k)
 
   unfoldable pub refreshed : List ℕ
-  refreshed = set k DUE (refreshAt + s .GAP)
+  refreshed = set k DUE (dueAfterRefresh s refreshAt)
 
   abbrev pub alone : Tried
   alone = trying s (paceOf (s .mode)) k free (asksWrite q) (cellBank s (firstCell q))

@@ -1,21 +1,23 @@
 // One request's turn in the schedule: when its commands go. Between two requests all banks are idle, and sixteen cycles
 // are enough of the deadlines that are kept of a part (specs/Between).
-use deadlines::places::GAP;
+use deadlines::Pace;
+use deadlines::clock;
 use deadlines::places::LATENCY;
 use deadlines::places::PAIRS;
-use deadlines::places::T_RAS;
-use deadlines::places::T_RC;
-use deadlines::places::T_RCD;
-use deadlines::places::T_RFC;
-use deadlines::places::T_RP;
-use deadlines::places::T_RRD;
-use deadlines::places::T_WR;
-use deadlines::places::T_WTR;
 use deadlines::sums::after;
 use deadlines::sums::after2;
 use deadlines::sums::data_after;
 use deadlines::sums::data_after2;
 use deadlines::sums::latest;
+use settings::Settings;
+use settings::places::T_RAS;
+use settings::places::T_RC;
+use settings::places::T_RCD;
+use settings::places::T_RFC;
+use settings::places::T_RP;
+use settings::places::T_RRD;
+use settings::places::T_WR;
+use settings::places::T_WTR;
 ghost use mathlib.Core.Path.{_≡_};
 ghost use Prim.Native.Nat.{_<_};
 ghost use Rattle.reading.specs.Settings.{settingsOf};
@@ -24,6 +26,11 @@ ghost use Rattle.requests.specs.Asked.{Asked};
 ghost use Rattle.turns.specs.Turning.{cycleFor};
 ghost use Rattle.turns.specs.Turns.{told};
 ghost use Rattle.turns.specs.Between as is;
+
+// How many cycles are kept between two requests, and all of them.
+pub const KEPT: usize = 16;
+
+pub type Between = [u64; KEPT];
 
 // Of each bank: rules 5, 6 and 7.
 const REST: usize = 0;
@@ -71,7 +78,7 @@ fn cycle_for(free: u64, soonest: u64) -> u32
     (latest(free, soonest) % 4_294_967_296) as u32
 }
 
-fn active_soonest(k: &[u64; 16], b: usize) -> u64
+fn active_soonest(k: &Between, b: usize) -> u64
     requires { ⌜ b < 4 ⌝ }
     ensures { λ r. ⌜ r ≡ is.activeSoonest (now (k .entry)) b ⌝ }
 {
@@ -79,7 +86,7 @@ fn active_soonest(k: &[u64; 16], b: usize) -> u64
 }
 
 // READ or WRITE.
-fn burst_soonest(write: bool, k: &[u64; 16]) -> u64
+fn burst_soonest(write: bool, k: &Between) -> u64
     ensures { λ r. ⌜ r ≡ is.burstSoonest write (now (k .entry)) ⌝ }
 {
     if write {
@@ -88,7 +95,7 @@ fn burst_soonest(write: bool, k: &[u64; 16]) -> u64
     k[READS]
 }
 
-fn refresh_soonest(k: &[u64; 16]) -> u64
+fn refresh_soonest(k: &Between) -> u64
     ensures { λ r. ⌜ r ≡ is.refreshSoonest (now (k .entry)) ⌝ }
 {
     let rest = latest(k[REST + 2], latest(k[REST + 3], k[BUS]));
@@ -96,7 +103,7 @@ fn refresh_soonest(k: &[u64; 16]) -> u64
 }
 
 // The bank of a burst with auto precharge is let open again.
-fn rest_after(write: bool, s: &[u32; 14], pace: &[u32; 2], active: u32, burst: u32) -> u64
+fn rest_after(write: bool, s: &Settings, pace: &Pace, active: u32, burst: u32) -> u64
     ensures { λ r. ⌜ r ≡ is.restAfter write (settingsOf (now (s .entry))) (now (pace .entry)) active burst ⌝ }
 {
     let locked = after2(active, s[T_RAS], s[T_RP]);
@@ -107,7 +114,7 @@ fn rest_after(write: bool, s: &[u32; 14], pace: &[u32; 2], active: u32, burst: u
 }
 
 // A read's data leave the bus; what a write changes of that is 0.
-fn bus_after(write: bool, pace: &[u32; 2], burst: u32) -> u64
+fn bus_after(write: bool, pace: &Pace, burst: u32) -> u64
     ensures { λ r. ⌜ r ≡ is.busAfter write (now (pace .entry)) burst ⌝ }
 {
     if write {
@@ -118,7 +125,7 @@ fn bus_after(write: bool, pace: &[u32; 2], burst: u32) -> u64
 
 // ACTIVE, then READ or WRITE with auto precharge. The AUTO REFRESH placed next has to wait for no bank but this one: the
 // others, and the bus, were found to be in time before.
-fn request(s: &[u32; 14], k: &[u64; 16], pace: &[u32; 2], free: u64, write: bool, b: usize) -> Tried
+fn request(s: &Settings, k: &Between, pace: &Pace, free: u64, write: bool, b: usize) -> Tried
     requires { ⌜ b < 4 ⌝ }
     ensures { λ r. ⌜ r ≡ is.trying (settingsOf (now (s .entry))) (now (pace .entry)) (now (k .entry)) free write b ⌝ }
 {
@@ -136,7 +143,7 @@ fn request(s: &[u32; 14], k: &[u64; 16], pace: &[u32; 2], free: u64, write: bool
 }
 
 // An ACTIVE keeps the other banks from one until the cycle `from`, which is later than those before.
-fn apart_after(k: &mut [u64; 16], from: u64, b: usize)
+fn apart_after(k: &mut Between, from: u64, b: usize)
     requires { ⌜ b < 4 ⌝ }
     ensures { λ r. ⌜ now (k .exit) ≡ is.apartAfter (now (k .entry)) from b ⌝ }
 {
@@ -148,7 +155,7 @@ fn apart_after(k: &mut [u64; 16], from: u64, b: usize)
     k[APART + b] = own;
 }
 
-fn burst_after(write: bool, s: &[u32; 14], k: &mut [u64; 16], pace: &[u32; 2], t: u32)
+fn burst_after(write: bool, s: &Settings, k: &mut Between, pace: &Pace, t: u32)
     ensures { λ r. ⌜ now (k .exit) ≡ is.burstAfter write (settingsOf (now (s .entry))) (now (k .entry)) (now (pace .entry)) t ⌝ }
 {
     let pairs = pace[PAIRS];
@@ -163,7 +170,7 @@ fn burst_after(write: bool, s: &[u32; 14], k: &mut [u64; 16], pace: &[u32; 2], t
     k[BUS] = bus;
 }
 
-fn take(s: &[u32; 14], k: &mut [u64; 16], pace: &[u32; 2], write: bool, b: usize, tried: Tried)
+fn take(s: &Settings, k: &mut Between, pace: &Pace, write: bool, b: usize, tried: Tried)
     requires { ⌜ b < 4 ⌝ }
     ensures { λ r. ⌜ now (k .exit) ≡ is.taking (settingsOf (now (s .entry))) (now (pace .entry)) (now (k .entry)) write b tried ⌝ }
 {
@@ -174,16 +181,16 @@ fn take(s: &[u32; 14], k: &mut [u64; 16], pace: &[u32; 2], write: bool, b: usize
 }
 
 // Before the first request: nothing has happened, and the first AUTO REFRESH is due after GAP.
-pub fn start(s: &[u32; 14]) -> [u64; 16]
+pub fn start(s: &Settings) -> Between
     ensures { λ r. ⌜ r ≡ is.startOf (settingsOf (now (s .entry))) ⌝ }
 {
-    let mut k = [0u64; 16];
-    k[DUE] = after(s[GAP], 0);
+    let mut k = [0u64; KEPT];
+    k[DUE] = clock::due_at_start(s);
     k
 }
 
 // The request alone, or else with an AUTO REFRESH before it.
-pub fn serve(s: &[u32; 14], k: &mut [u64; 16], pace: &[u32; 2], free: u64, q: u32) -> Placed
+pub fn serve(s: &Settings, k: &mut Between, pace: &Pace, free: u64, q: u32) -> Placed
     requires { ⌜ Asked (settingsOf (now s)) q ⌝ }
     requires { ⌜ now pace ≡ paceOf (settingsOf (now s) .mode) ⌝ }
     ensures { λ r. ⌜ r ≡ told (is.serving (settingsOf (now (s .entry))) (now (k .entry)) free q) ⌝ }
@@ -200,7 +207,7 @@ pub fn serve(s: &[u32; 14], k: &mut [u64; 16], pace: &[u32; 2], free: u64, q: u3
         };
     }
     let refresh = cycle_for(free, refresh_soonest(&*k));
-    k[DUE] = after(refresh, s[GAP]);
+    k[DUE] = clock::due_after_refresh(s, refresh);
     let behind = request(s, &*k, pace, after(refresh, s[T_RFC]), write, b);
     take(s, k, pace, write, b, behind);
     if !behind.kept {

@@ -2,13 +2,14 @@
 use console::Out;
 use console::say;
 use console::say_number;
+use settings::Settings;
 
 fn ask(out: &mut Out, before: &[u8], setting: u32, after: &[u8]) {
     say_number(out, before, setting);
     say(out, after);
 }
 
-fn ask_after_refresh_and_mode_set(out: &mut Out, settings: &[u32; 14]) {
+fn ask_after_refresh_and_mode_set(out: &mut Out, settings: &Settings) {
     ask(
         out,
         b"a command at least tRFC (",
@@ -23,7 +24,7 @@ fn ask_after_refresh_and_mode_set(out: &mut Out, settings: &[u32; 14]) {
     );
 }
 
-fn ask_of_rows(out: &mut Out, settings: &[u32; 14], rule: u32) {
+fn ask_of_rows(out: &mut Out, settings: &Settings, rule: u32) {
     match rule {
         1 => ask(
             out,
@@ -61,7 +62,7 @@ fn ask_of_rows(out: &mut Out, settings: &[u32; 14], rule: u32) {
     }
 }
 
-fn ask_of_bursts(out: &mut Out, settings: &[u32; 14], rule: u32) {
+fn ask_of_bursts(out: &mut Out, settings: &Settings, rule: u32) {
     match rule {
         8 => ask(
             out,
@@ -104,7 +105,7 @@ fn ask_of_bursts(out: &mut Out, settings: &[u32; 14], rule: u32) {
     }
 }
 
-pub fn print_rule(out: &mut Out, settings: &[u32; 14], rule: u32) {
+pub fn print_rule(out: &mut Out, settings: &Settings, rule: u32) {
     say_number(out, b"rule ", rule);
     say(out, b": ");
     if rule < 8 {

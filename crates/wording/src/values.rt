@@ -3,6 +3,7 @@ use console::Out;
 use console::say;
 use console::say_number;
 use console::say_word;
+use settings::Settings;
 ghost use mathlib.Core.Path.{_≡_};
 ghost use Rattle.reading.specs.Mode.{BL, interleaved as isInterleaved, CL};
 ghost use Rattle.wording.specs.Values.{shown};
@@ -10,7 +11,7 @@ ghost use Rattle.wording.specs.Values.{shown};
 const MODE: u32 = 3;
 
 // The fourteen settings; zeros where there is no room for them, as in no capture whose settings were looked at.
-pub fn settings_of(capture: &[u8]) -> [u32; 14]
+pub fn settings_of(capture: &[u8]) -> Settings
     ensures { λ r. ⌜ r ≡ shown (now (capture .entry)) ⌝ }
 {
     if capture.len() < 80 {
@@ -85,7 +86,7 @@ fn print_setting(out: &mut Out, i: u32, word: u32) {
     say(out, b"\n");
 }
 
-pub fn print_settings(out: &mut Out, settings: &[u32; 14]) {
+pub fn print_settings(out: &mut Out, settings: &Settings) {
     for i in 0..14 {
         print_setting(out, i as u32, settings[i]);
     }

@@ -1,5 +1,5 @@
 use borrow.Author.Tests.{eq-eqb, ne-eqb}
-use Rattle.part.specs.Steps.{modeAfter}
+use Rattle.pins.specs.Pins.{modeAfter}
 use borrow.Author.Needs.{needs}
 use Rattle.beats.proofs.mode_after.Statement.{statement}
 use Rattle.beats.proofs.mode_after.Tie as tie

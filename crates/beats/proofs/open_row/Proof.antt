@@ -15,11 +15,11 @@ bank-requires c κs = search needs
 address-requires : tie.Need-address-requires
 address-requires c κs = search needs
 
+cast-first-cell : tie.Need-cast-first-cell
+cast-first-cell c = search needs
+
 first-cell-requires : tie.Need-first-cell-requires
 first-cell-requires c κs = search needs
-
-cast-firsts : tie.Need-cast-firsts
-cast-firsts c = search needs
 
 mul-firsts : tie.Need-mul-firsts
 mul-firsts c = search needs
@@ -38,8 +38,8 @@ open-row-spec =
     returns
     bank-requires
     address-requires
+    cast-first-cell
     first-cell-requires
-    cast-firsts
     mul-firsts
     element-write-firsts
     returns-2)

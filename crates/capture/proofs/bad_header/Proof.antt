@@ -7,12 +7,18 @@ use Rattle.capture.proofs.bad_header.Tie as tie
 word-at-requires : tie.Need-word-at-requires
 word-at-requires c κs = search needs
 
+cast-if1 : tie.Need-cast-if1
+cast-if1 c = search needs
+
 returns : tie.Need-returns
 unfolding goodHeader
 returns c = rw (← c .before .word-at .ensures, ne-eqb _ _ (c .if1 .taken))
 
 word-at-requires-2 : tie.Need-word-at-requires-2
 word-at-requires-2 c κs = search needs
+
+cast-if2 : tie.Need-cast-if2
+cast-if2 c = search needs
 
 returns-2 : tie.Need-returns-2
 unfolding goodHeader
@@ -30,6 +36,9 @@ returns-3 c =
 word-at-requires-3 : tie.Need-word-at-requires-3
 word-at-requires-3 c κs = search needs
 
+cast-if4 : tie.Need-cast-if4
+cast-if4 c = search needs
+
 returns-4 : tie.Need-returns-4
 unfolding goodHeader
 returns-4 c =
@@ -45,6 +54,9 @@ returns-5 c =
 
 word-at-requires-5 : tie.Need-word-at-requires-5
 word-at-requires-5 c κs = search needs
+
+cast-result : tie.Need-cast-result
+cast-result c = search needs
 
 mul-result : tie.Need-mul-result
 mul-result c = search needs
@@ -62,16 +74,20 @@ bad-header-spec =
     tie.close
     (tie.spec
     word-at-requires
+    cast-if1
     returns
     word-at-requires-2
+    cast-if2
     returns-2
     event-count-requires
     returns-3
     word-at-requires-3
+    cast-if4
     returns-4
     word-at-requires-4
     returns-5
     word-at-requires-5
+    cast-result
     mul-result
     add-result
     returns-6)

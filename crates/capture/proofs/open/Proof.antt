@@ -71,19 +71,14 @@ event-count-requires c κs = omega (arith, long (c .before .before .before .befo
 cast-n : tie.Need-cast-n
 cast-n c = search needs
 
-sub-lowest-bad-event : tie.Need-sub-lowest-bad-event
-sub-lowest-bad-event c = long (c .before .before .before .before .before .before)
-
-part-lowest-bad-event-start : tie.Need-part-lowest-bad-event-start
-part-lowest-bad-event-start c = long (c .before .before .before .before .before .before)
-
-part-lowest-bad-event-end : tie.Need-part-lowest-bad-event-end
-part-lowest-bad-event-end c = search needs
+event-part-requires : tie.Need-event-part-requires
+event-part-requires c κs = long (c .before .before .before .before .before .before)
 
 lowest-bad-event-requires : tie.Need-lowest-bad-event-requires
 lowest-bad-event-requires c κs =
     let tests = c .before .before .before .before .before .before .before in
-    events-within (capture-of tests) (sized (capture-of tests) (right-length (tests .before .before)) (right-header tests)) (c .before .event-count .ensures)
+    rw (c .event-part .ensures)
+    (events-within (capture-of tests) (sized (capture-of tests) (right-length (tests .before .before)) (right-header tests)) (c .before .event-count .ensures))
 
 enum-known-place : tie.Need-enum-known-place
 enum-known-place c = search needs
@@ -101,7 +96,7 @@ walked c =
     let setting = c .before .before .before .before .before .lowest-bad in
     right-settings (capture-of tests) (right-length (tests .before .before)) (right-header tests) (setting .result)
     (setting .ensures ∙ ap badSetting (c .before .before .before .before .before .before .before .setting-words .ensures)) (c .before .before .before .enum-told .given .1)
-    (c .lowest-bad-event .result) (c .before .before .event-count .ensures) (c .lowest-bad-event .ensures)
+    (c .lowest-bad-event .result) (c .before .before .event-count .ensures) (rw (c .before .event-part .ensures) at (c .lowest-bad-event .ensures))
 
 returns-4 : tie.Need-returns-4
 returns-4 c = sym (ap of-event (c .enum-told2 .given .1)) ∙ walked (c .before .before)
@@ -125,9 +120,7 @@ open-spec =
     enum-told
     event-count-requires
     cast-n
-    sub-lowest-bad-event
-    part-lowest-bad-event-start
-    part-lowest-bad-event-end
+    event-part-requires
     lowest-bad-event-requires
     enum-known-place
     enum-told-2

@@ -3,7 +3,7 @@ use mathlib.Core.List.{List}
 use native.Mathlib.Omega.{arith}
 use lib.ListN.{length}
 use borrow.Author.Needs.{needs}
-use Rattle.judge.proofs.Judging.{tail, long}
+use Rattle.judge.proofs.Judging.{long}
 use Rattle.cells.proofs.Listing.{refused-so, listable, listed-so}
 use Rattle.cells.proofs.burst_cells.Statement.{statement}
 use Rattle.cells.proofs.burst_cells.Tie as tie
@@ -36,33 +36,29 @@ setting-words-requires c κs = holds-settings c
 event-count-requires : tie.Need-event-count-requires
 event-count-requires c κs = omega (arith, holds-settings (c .before))
 
-sub-list : tie.Need-sub-list
-sub-list c = holds-settings (c .before .before .before)
-
-part-list-start : tie.Need-part-list-start
-part-list-start c = holds-settings (c .before .before .before)
-
-part-list-end : tie.Need-part-list-end
-part-list-end c = search needs
+event-part-requires : tie.Need-event-part-requires
+event-part-requires c κs = holds-settings (c .before .before)
 
 list-requires : tie.Need-list-requires
 list-requires c κs =
-    let counted = c .before .before .before in
+    let given = c .before .before in
+    let counted = given .before in
     let told = counted .before .before in
     let opened = told .before .before .«open» in
     listable (capture-of told) (told .before .before .before .before .before .args .out .now) (opened .result) (opened .ensures)
-    (told .enum-told .given .1) (counted .before .setting-words .ensures) (counted .event-count .ensures) (tail (capture-of told) 80)
+    (told .enum-told .given .1) (counted .before .setting-words .ensures) (counted .event-count .ensures) (given .event-part .ensures)
 
 same-length : tie.Need-same-length
 same-length c = search needs
 
 returns-2 : tie.Need-returns-2
 returns-2 c =
-    let counted = c .before .before .before .before .before .before in
+    let given = c .before .before .before .before .before in
+    let counted = given .before in
     let told = counted .before .before in
     let opened = told .before .before .«open» in
     listed-so (capture-of told) (told .before .before .before .before .before .args .out .now) (opened .result) (opened .ensures)
-    (told .enum-told .given .1) (counted .before .setting-words .ensures) (counted .event-count .ensures) (tail (capture-of told) 80)
+    (told .enum-told .given .1) (counted .before .setting-words .ensures) (counted .event-count .ensures) (given .event-part .ensures)
     (c .before .before .list .ensures)
 
 pub burst-cells-spec : {M : Type 1} → statement M
@@ -75,9 +71,7 @@ burst-cells-spec =
     enum-told
     setting-words-requires
     event-count-requires
-    sub-list
-    part-list-start
-    part-list-end
+    event-part-requires
     list-requires
     same-length
     returns-2)

@@ -23,9 +23,6 @@ returns c =
 bank-requires : tie.Need-bank-requires
 bank-requires c κs = search needs
 
-cast-first : tie.Need-cast-first
-cast-first c = search needs
-
 mul-first : tie.Need-mul-first
 mul-first c = search needs
 
@@ -56,7 +53,6 @@ step-spec =
     gives-burst-requires
     returns
     bank-requires
-    cast-first
     mul-first
     element-copy-out-first
     column-requires

@@ -12,18 +12,15 @@ after-requires c κs = search needs
 element-write-d : tie.Need-element-write-d
 element-write-d c = search needs
 
-element-copy-out-after-2 : tie.Need-element-copy-out-after-2
-element-copy-out-after-2 c = search needs
-
-after-requires-2 : tie.Need-after-requires-2
-after-requires-2 c κs = search needs
+due-after-refresh-requires : tie.Need-due-after-refresh-requires
+due-after-refresh-requires c κs = search needs
 
 element-write-d-2 : tie.Need-element-write-d-2
 element-write-d-2 c = search needs
 
 returns : tie.Need-returns
 unfolding refreshAfter
-returns c = rw (c .after2 .ensures, c .before .before .after .ensures)
+returns c = rw (c .due-after-refresh .ensures, c .before .after .ensures)
 
 pub refresh-after-spec : {M : Type 1} → statement M
 refresh-after-spec =
@@ -32,7 +29,6 @@ refresh-after-spec =
     element-copy-out-after
     after-requires
     element-write-d
-    element-copy-out-after-2
-    after-requires-2
+    due-after-refresh-requires
     element-write-d-2
     returns)

@@ -3,11 +3,8 @@ use borrow.Author.Needs.{needs}
 use Rattle.effects.proofs.start.Statement.{statement}
 use Rattle.effects.proofs.start.Tie as tie
 
-element-copy-out-after : tie.Need-element-copy-out-after
-element-copy-out-after c = search needs
-
-after-requires : tie.Need-after-requires
-after-requires c κs = search needs
+due-at-start-requires : tie.Need-due-at-start-requires
+due-at-start-requires c κs = search needs
 
 array-write-d : tie.Need-array-write-d
 array-write-d c = search needs
@@ -15,14 +12,14 @@ array-write-d c = search needs
 array-write-d-2 : tie.Need-array-write-d-2
 array-write-d-2 c = search needs
 
+element-copy-out-after : tie.Need-element-copy-out-after
+element-copy-out-after c = search needs
+
 element-copy-out-after-2 : tie.Need-element-copy-out-after-2
 element-copy-out-after-2 c = search needs
 
-element-copy-out-after-3 : tie.Need-element-copy-out-after-3
-element-copy-out-after-3 c = search needs
-
-after-requires-2 : tie.Need-after-requires-2
-after-requires-2 c κs = search needs
+after-requires : tie.Need-after-requires
+after-requires c κs = search needs
 
 array-write-d-3 : tie.Need-array-write-d-3
 array-write-d-3 c = search needs
@@ -56,19 +53,18 @@ array-write-d-6 c = search needs
 
 returns : tie.Need-returns
 unfolding startOf
-returns c = rw (c .after2 .ensures, c .before .before .before .after .ensures)
+returns c = rw (c .after .ensures, c .before .before .before .due-at-start .ensures)
 
 pub start-spec : {M : Type 1} → statement M
 start-spec =
     tie.close
     (tie.spec
-    element-copy-out-after
-    after-requires
+    due-at-start-requires
     array-write-d
     array-write-d-2
+    element-copy-out-after
     element-copy-out-after-2
-    element-copy-out-after-3
-    after-requires-2
+    after-requires
     array-write-d-3
     add-d
     mul-d

@@ -3,7 +3,7 @@ use mathlib.Core.List.{List}
 use native.Mathlib.Omega.{arith}
 use lib.ListN.{length}
 use borrow.Author.Needs.{needs}
-use Rattle.judge.proofs.Judging.{tail, refused-so, long, fit, judged-so}
+use Rattle.judge.proofs.Judging.{refused-so, long, fit, judged-so}
 use Rattle.judge.proofs.judge.Statement.{statement}
 use Rattle.judge.proofs.judge.Tie as tie
 
@@ -43,34 +43,30 @@ array-read-pace c = search needs
 pace-requires : tie.Need-pace-requires
 pace-requires c κs = search needs
 
-sub-walk : tie.Need-sub-walk
-sub-walk c = holds-settings (c .before .before .before .before .before .before .before .before)
-
-part-walk-start : tie.Need-part-walk-start
-part-walk-start c = holds-settings (c .before .before .before .before .before .before .before .before)
-
-part-walk-end : tie.Need-part-walk-end
-part-walk-end c = search needs
+event-part-requires : tie.Need-event-part-requires
+event-part-requires c κs = holds-settings (c .before .before .before .before .before)
 
 walk-requires : tie.Need-walk-requires
 walk-requires c κs =
-    let paced = c .before .before .before .before in
+    let given = c .before .before .before in
+    let paced = given .before in
     let counted = paced .before .before .before in
     let told = counted .before .before in
     let opened = told .before .before .«open» in (
       fit (capture-of told) (opened .result) (opened .ensures) (told .enum-told .given .1)
-          (counted .before .setting-words .ensures) (counted .event-count .ensures) (tail (capture-of told) 80),
+          (counted .before .setting-words .ensures) (counted .event-count .ensures) (given .event-part .ensures),
       record { deadlines = paced .before .start .ensures; paced = paced .pace .ensures },
     )
 
 returns-2 : tie.Need-returns-2
 returns-2 c =
-    let counted = c .before .before .before .before .before .before .before .before in
+    let given = c .before .before .before .before in
+    let counted = given .before .before .before .before in
     let told = counted .before .before in
     let opened = told .before .before .«open» in
     rw (c .walk .ensures .0)
     (judged-so (capture-of told) (opened .result) (opened .ensures) (told .enum-told .given .1)
-    (counted .before .setting-words .ensures) (counted .event-count .ensures) (tail (capture-of told) 80))
+    (counted .before .setting-words .ensures) (counted .event-count .ensures) (given .event-part .ensures))
 
 pub judge-spec : {M : Type 1} → statement M
 judge-spec =
@@ -85,8 +81,6 @@ judge-spec =
     start-requires
     array-read-pace
     pace-requires
-    sub-walk
-    part-walk-start
-    part-walk-end
+    event-part-requires
     walk-requires
     returns-2)

@@ -2,15 +2,16 @@
 use Prim.Native.Nat.{_-_}
 use mathlib.Core.Path.{sym, _∙_}
 use native.Mathlib.Omega.{arith}
+use lib.ListN.{length}
 use Rattle.settings.proofs.Rows.{Sought, begins, goes-on, stops, ends}
 use Rattle.settings.proofs.lowest_bad.Statement.{statement}
 use Rattle.settings.proofs.lowest_bad.Tie as tie
 
 abbrev Inv-settings : tie.InvT-settings
-Inv-settings words i₀ i = Sought words i
+Inv-settings words i₀ i-end i = Sought words i
 
 abbrev μ-settings : tie.MeasureT-settings
-μ-settings words i₀ i = 14 - i
+μ-settings words i₀ i-end i = length words - i
 
 settings-holds : tie.Need-settings-holds Inv-settings μ-settings
 settings-holds c = begins (c .before .args .words .now)
@@ -34,8 +35,8 @@ settings-again : tie.Need-settings-again Inv-settings μ-settings
 settings-again c =
     goes-on (c .before .before .before .before .settings .inv) (omega arith) (sym (c .before .setting-fits .ensures) ∙ c .if1 .taken)
 
-cast-t7 : tie.Need-cast-t7 Inv-settings μ-settings
-cast-t7 c = omega arith
+cast-t8 : tie.Need-cast-t8 Inv-settings μ-settings
+cast-t8 c = omega arith
 
 returns : tie.Need-returns Inv-settings μ-settings
 returns c =
@@ -57,6 +58,6 @@ lowest-bad-spec =
     add-i
     settings-less
     settings-again
-    cast-t7
+    cast-t8
     returns
     returns-2)

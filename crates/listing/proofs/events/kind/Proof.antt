@@ -10,9 +10,6 @@ code-requires c κs = search needs
 bank-requires : tie.Need-bank-requires
 bank-requires c κs = search needs
 
-cast-result : tie.Need-cast-result
-cast-result c = search needs
-
 returns : tie.Need-returns
 returns c = (rw (← c .before .before .code .ensures, eq-eqb _ 12 (c .before .if1 .taken)) (c .bank .ensures .0), omega arith)
 
@@ -28,4 +25,4 @@ returns-4 c = (rw (← c .before .before .before .code .ensures, ne-eqb _ 12 (c 
 pub kind-spec : {M : Type 1} → statement M
 kind-spec =
     tie.close
-    (tie.spec code-requires bank-requires cast-result returns returns-2 returns-3 returns-4)
+    (tie.spec code-requires bank-requires returns returns-2 returns-3 returns-4)

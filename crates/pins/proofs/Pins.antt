@@ -4,7 +4,7 @@ use mathlib.Core.Path.{_≡_, sym, ap, _∙_}
 use native.Mathlib.Nat.{div-div-eq-div-mul}
 use native.Mathlib.Omega.{arith}
 use Rattle.reading.specs.Commands.{opOf, commandOf}
-use Rattle.part.specs.Steps.{codeOf}
+use Rattle.pins.specs.Pins.{codeOf}
 
 abbrev pub turned : ℕ → ℕ
 turned q = 8 * (q % 2) + 4 * (q / 2 % 2) + 2 * (q / 4 % 2) + q / 8 % 2

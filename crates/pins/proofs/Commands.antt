@@ -1,0 +1,58 @@
+-- Which command a pin word carries, by the number of its command pins.
+use Prim.Native.Nat.{ℕ}
+use mathlib.Core.Bool.{Bool, true, false, not}
+use mathlib.Core.Option.{none}
+use mathlib.Core.Path.{_≡_, refl, sym, ap, _∙_}
+use native.Mathlib.Omega.{arith}
+use borrow.Author.Tests.{not-false}
+use lib.Dec.{eqb}
+use Rattle.reading.specs.Search.{lowest}
+use Rattle.reading.specs.Commands.{Op, ACTIVE, READ, WRITE, BURST-TERMINATE, PRECHARGE, MODE-REGISTER-SET, code, opOf, commandOf, is}
+use Rattle.words.proofs.Search.{none-below}
+use Rattle.pins.specs.Pins.{codeOf}
+use Rattle.pins.proofs.Pins.{turned, op-is}
+
+same : Bool → Bool → Bool
+same true b = b
+same false b = not b
+
+same-is : (a b : Bool) → same a b ≡ true → a ≡ b
+unfolding same
+same-is true b e = sym e
+same-is false true e = e
+same-is false false e = refl
+
+-- an op and its number agree at each of the sixteen
+agrees : Op → ℕ → ℕ → Bool
+agrees o k q = same (eqb (code o) (code (opOf (turned q)))) (eqb q k)
+
+agreed : (o : Op) (k : ℕ) → lowest (λ q. not (agrees o k q)) 16 ≡ none → (w : ℕ) → is o (commandOf w) ≡ eqb (codeOf w) k
+unfolding agrees
+agreed o k e w =
+    ap (λ (x : Op). eqb (code o) (code x)) (op-is w)
+    ∙ same-is _ _ (not-false _ (none-below (λ q. not (agrees o k q)) 16 e (codeOf w) (omega arith)))
+
+module _ (w : ℕ) where
+  pub active-is : is ACTIVE (commandOf w) ≡ eqb (codeOf w) 12
+  unfolding agrees same
+  active-is = agreed ACTIVE 12 refl w
+
+  pub read-is : is READ (commandOf w) ≡ eqb (codeOf w) 10
+  unfolding agrees same
+  read-is = agreed READ 10 refl w
+
+  pub write-is : is WRITE (commandOf w) ≡ eqb (codeOf w) 2
+  unfolding agrees same
+  write-is = agreed WRITE 2 refl w
+
+  pub terminate-is : is BURST-TERMINATE (commandOf w) ≡ eqb (codeOf w) 6
+  unfolding agrees same
+  terminate-is = agreed BURST-TERMINATE 6 refl w
+
+  pub precharge-is : is PRECHARGE (commandOf w) ≡ eqb (codeOf w) 4
+  unfolding agrees same
+  precharge-is = agreed PRECHARGE 4 refl w
+
+  pub mode-set-is : is MODE-REGISTER-SET (commandOf w) ≡ eqb (codeOf w) 0
+  unfolding agrees same
+  mode-set-is = agreed MODE-REGISTER-SET 0 refl w

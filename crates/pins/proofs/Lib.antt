@@ -1,0 +1,3 @@
+-- Laws of pin words.
+pub mod Pins
+pub mod Commands

@@ -1,0 +1,2 @@
+-- What the pins of an event ask for.
+pub mod Pins
