@@ -126,6 +126,7 @@ lists =
     lent (at 0 ACTIVE ∷ at 3 (READ + 5) ∷ []) (9 ∷ 9 ∷ 9 ∷ 9 ∷ 9 ∷ []) (record { answer = answered 4; buffer = 5 ∷ 6 ∷ 7 ∷ 4 ∷ 9 ∷ [] })
     ∷ lent (at 0 ACTIVE ∷ at 3 (READ + 5) ∷ []) (9 ∷ 9 ∷ 9 ∷ []) (record { answer = refused 7 4; buffer = 9 ∷ 9 ∷ 9 ∷ [] })
     ∷ lent (at 0 ACTIVE ∷ at 3 READ ∷ at 4 READ ∷ at 5 ACTIVE ∷ []) [] (record { answer = refused 8 3; buffer = [] })
+    ∷ lent (at 0 ACTIVE ∷ at 2 READ ∷ []) (9 ∷ []) (record { answer = refused 8 1; buffer = 9 ∷ [] })
     ∷ lent (at 7 ACTIVE ∷ at 3 READ ∷ []) (9 ∷ []) (record { answer = refused 4 1; buffer = 9 ∷ [] })
     ∷ []
 
