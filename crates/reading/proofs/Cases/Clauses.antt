@@ -63,7 +63,8 @@ rule3 =
     ∷ line (at 0 (ACTIVE + bank 3) ∷ at 20 REFRESH ∷ []) (breaks 1 3 1 20)
     ∷ line (at 0 (ACTIVE + bank 1) ∷ at 20 (MODE + 0x32) ∷ []) (breaks 1 3 1 20)
     ∷ line (at 0 (ACTIVE + bank 3) ∷ at 20 (MODE + 0x32) ∷ []) (breaks 1 3 1 20)
-    -- it comes before rule 8: tRAS 1
+    -- it comes before rule 4, and before rule 8: tRAS 1
+    ∷ line (at 1 REFRESH ∷ at 12 READ ∷ []) (breaks 1 3 1 12)
     ∷ lineUnder (set usual 6 1) (at 0 ACTIVE ∷ at 1 PRECHARGE ∷ at 2 READ ∷ []) (breaks 2 3 2 2)
     ∷ []
 

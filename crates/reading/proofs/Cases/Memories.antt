@@ -79,6 +79,13 @@ cases =
             left = [];
           };
     }
+    -- the beats that a cut write does not keep are stored nowhere: cell 2 stays as it was
+    ∷ record {
+      settings = set usual 0 2;
+      events = at 0 ACTIVE ∷ at 3 WRITE ∷ at 4 (WRITE + 4) ∷ [];
+      supply = four ++ four;
+      sees = record { words = []; cells = 0x11111111 ∷ 0x222222dd ∷ 0xaabbccdd ∷ 0xaabbccdd ∷ []; left = [] };
+    }
     -- four lanes, a different one masked in each beat
     ∷ record {
       settings = set usual 0 2;

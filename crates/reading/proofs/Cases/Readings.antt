@@ -99,7 +99,7 @@ readings =
     ∷ case (at 0 ACTIVE ∷ at 3 WRITE ∷ at 5 TERMINATE ∷ []) (breaks 2 13 2 5)
     ∷ case (at 0 ACTIVE ∷ at 3 WRITE ∷ at 6 TERMINATE ∷ []) (touches 3 (0 ∷ 1 ∷ 2 ∷ 3 ∷ []))
     -- among the broken rules the lowest: rules 3, 4 and 14
-    ∷ under (set usual 13 12) (at 1 REFRESH ∷ at 14 READ ∷ []) (breaks 1 3 1 14)
+    ∷ under (set usual 13 5) (at 1 REFRESH ∷ at 7 READ ∷ []) (breaks 1 3 1 7)
     ∷ []
 
 each-reading : Hold readings

@@ -5,7 +5,7 @@ use mathlib.Core.Path.{_≡_, refl}
 use lib.ListN.{set, take, replicate}
 use Rattle.reading.specs.Settings.{settingsOf}
 use Rattle.reading.specs.Capture.{Event}
-use Rattle.reading.specs.Schedule.{captureOf, activePins, burstPins, requestFits, badRequest, passes, earliest, freeFrom, placed, send, sendRequest, refreshInTime, served, scheduleFrom, scheduleOf}
+use Rattle.reading.specs.Schedule.{captureOf, activePins, burstPins, refreshPins, requestFits, badRequest, passes, earliest, freeFrom, placed, send, sendRequest, refreshInTime, served, scheduleFrom, scheduleOf}
 use Rattle.reading.specs.Answers.{Outcome, refused, answered, cellsOutcome, scheduleOutcome}
 use Rattle.reading.proofs.Cases.{ACTIVE, READ, WRITE, REFRESH, A10, A11, bank, at, usual, said}
 
@@ -93,11 +93,22 @@ schedules : map (λ x. scheduleOutcome (x .settings) (x .requests) (x .buffer)) 
 unfolding cases requestsM said scheduleOutcome scheduleOf scheduleFrom served refreshInTime sendRequest send placed freeFrom earliest passes badRequest requestFits
 schedules = refl
 
--- the pins of a read and of a write: without auto precharge the bank would stay open and no AUTO REFRESH come at all
+-- the pins by themselves: with other pins a row could lie beyond the part or a bank stay open, and no cycle be found at all
 request-pins :
-    activePins (settingsOf usual) 5 ∷ burstPins (settingsOf usual) 5 ∷ burstPins (settingsOf usual) (0x80000000 + 8388608)
-    ∷ burstPins (settingsOf (set usual 2 11)) 0x7ff ∷ [] ≡
-    ACTIVE ∷ (READ + A10 + 5) ∷ (WRITE + A10 + bank 1) ∷ (READ + A10 + A11 + 0x3ff) ∷ []
+    activePins (settingsOf usual) 5
+    ∷ activePins (settingsOf usual) (8388608 + 1024)
+    ∷ burstPins (settingsOf usual) 5
+    ∷ burstPins (settingsOf usual) (0x80000000 + 8388608)
+    ∷ burstPins (settingsOf (set usual 2 11)) 0x7ff
+    ∷ refreshPins
+    ∷ [] ≡
+    ACTIVE
+    ∷ (ACTIVE + bank 1 + 1)
+    ∷ (READ + A10 + 5)
+    ∷ (WRITE + A10 + bank 1)
+    ∷ (READ + A10 + A11 + 0x3ff)
+    ∷ REFRESH
+    ∷ []
 request-pins = refl
 
 -- ---- burst cells: 8 before 7, and what lies behind them stays
@@ -115,6 +126,7 @@ lists =
     lent (at 0 ACTIVE ∷ at 3 (READ + 5) ∷ []) (9 ∷ 9 ∷ 9 ∷ 9 ∷ 9 ∷ []) (record { answer = answered 4; buffer = 5 ∷ 6 ∷ 7 ∷ 4 ∷ 9 ∷ [] })
     ∷ lent (at 0 ACTIVE ∷ at 3 (READ + 5) ∷ []) (9 ∷ 9 ∷ 9 ∷ []) (record { answer = refused 7 4; buffer = 9 ∷ 9 ∷ 9 ∷ [] })
     ∷ lent (at 0 ACTIVE ∷ at 3 READ ∷ at 4 READ ∷ at 5 ACTIVE ∷ []) [] (record { answer = refused 8 3; buffer = [] })
+    ∷ lent (at 0 ACTIVE ∷ at 2 READ ∷ []) (9 ∷ []) (record { answer = refused 8 1; buffer = 9 ∷ [] })
     ∷ lent (at 7 ACTIVE ∷ at 3 READ ∷ []) (9 ∷ []) (record { answer = refused 4 1; buffer = 9 ∷ [] })
     ∷ []
 
