@@ -1,5 +1,5 @@
 /* Morgazell for C programs on x86-64 Linux: judging captures of Mobile DDR commands, listing the cells of their bursts,
- * writing schedules. Document 01 is the exact scope and rules.
+ * writing schedules. Document 01 is the exact scope and rules; docs/RULES.md stands for it.
  *
  * Every call answers one number:
  *

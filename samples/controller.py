@@ -6,7 +6,7 @@ sheets ask for and document 01 does not."""
 import random
 
 from captures import (A10, ACTIVE, AUTO_REFRESH, BURST_TERMINATE, DESELECT, MODE_REGISTER_SET, NOP, PRECHARGE, READ, WRITE,
-                      bank, column)
+                      bank, burst_length, cas_latency, column)
 
 BANKS = range(4)
 
@@ -38,11 +38,11 @@ class Controller:
 
     @property
     def h(self):
-        return 2 ** (self.mode % 8) // 2
+        return burst_length(self.mode) // 2
 
     @property
     def latency(self):
-        return self.mode // 16
+        return cas_latency(self.mode)
 
     def put(self, cycle, pins):
         self.events.append((cycle, pins))

@@ -11,7 +11,8 @@ import sys
 HERE = os.path.dirname(os.path.abspath(__file__))
 TESTS = os.path.join(HERE, "..", "tests")
 sys.path.insert(0, TESTS)
-from captures import ACTIVE, AUTO_REFRESH, PRECHARGE, READ, bank, capture, column
+from captures import (ACTIVE, AUTO_REFRESH, PRECHARGE, READ, bank, broken_lines, capture, cas_latency, clean_lines, column,
+                      mode_word)
 from controller import Controller
 
 # The columns that are settings, in the order of document 01's table.
@@ -29,23 +30,15 @@ def settings_of(part):
     return [part[name] for name in SETTINGS]
 
 
-def clean(events):
-    return [f"events {len(events)}", f"judged {len(events)}", "clean"]
-
-
-def broken(events, rule, at):
-    return [f"events {len(events)}", f"judged {at}", f"broken rule {rule} event {at} cycle {events[at][0]}"]
-
-
 # ---- samples: each takes a part and a seed, and gives the bytes and the lines of the report
 
 def clean_run(part, seed):
     c = Controller(part, seed)
     c.run(900)
-    c.mode_set(part["mode"] // 16 * 16 + 8 + 3)  # BL 8, interleaved
+    c.mode_set(mode_word(8, True, cas_latency(part["mode"])))
     c.run(1800)
     c.close_rows()
-    return capture(c.events, settings_of(part)), clean(c.events)
+    return capture(c.events, settings_of(part)), clean_lines(c.events)
 
 
 def with_fault(part, seed, fault, rule):
@@ -55,7 +48,7 @@ def with_fault(part, seed, fault, rule):
     fault(c)
     at = len(c.events) - 1
     c.run(at + 40)
-    return capture(c.events, settings_of(part)), broken(c.events, rule, at)
+    return capture(c.events, settings_of(part)), broken_lines(c.events, rule, at)
 
 
 def read_before_trcd(part, seed):
@@ -97,7 +90,7 @@ def refresh_with_open_row(part, seed):
 
 def mode_set_latency_4(part, seed):
     def fault(c):
-        c.mode_set(0x42)
+        c.mode_set(mode_word(4, False, 4))
     return with_fault(part, seed, fault, 2)
 
 
@@ -111,13 +104,13 @@ def late_refresh(part, seed):
         c.run(len(c.events) + 1)
     at = next(i for i, (cycle, _) in enumerate(c.events) if last < cycle)
     c.run(at + 40)
-    return capture(c.events, settings_of(part)), broken(c.events, 14, at)
+    return capture(c.events, settings_of(part)), broken_lines(c.events, 14, at)
 
 
 def unknown_latency(part, seed):
     c = Controller(part, seed)
     c.run(100)
-    return capture(c.events, settings_of(dict(part, mode=0x42))), ["refused 3 place 3"]
+    return capture(c.events, settings_of(dict(part, mode=mode_word(4, False, 4)))), ["refused 3 place 3"]
 
 
 def cut_short(part, seed):
@@ -136,7 +129,7 @@ def stamps_of_16_bits(part, seed):
 
 def case_b(part, seed):
     events = [(0, ACTIVE), (2, READ)]
-    return capture(events), broken(events, 8, 1)
+    return capture(events), broken_lines(events, 8, 1)
 
 
 SAMPLES = [

@@ -8,7 +8,7 @@ HERE = os.path.dirname(os.path.abspath(__file__))
 
 
 def program(name):
-    return [os.path.join(HERE, "program"), name]
+    return [os.path.join(HERE, "..", "tools", "run"), name]
 
 
 def from_file(name, data):

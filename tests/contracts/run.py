@@ -51,7 +51,7 @@ def read(*path):
 
 def libraries():
     for line in read("crates.txt").splitlines():
-        crate = line.split(":")[0]
+        crate = line.split("#")[0].split(":")[0].strip()
         if crate not in PRINTING and os.path.exists(os.path.join(ROOT, "crates", crate, "src", "lib.rt")):
             yield crate
 

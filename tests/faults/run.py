@@ -88,7 +88,7 @@ def expect_start_or_all(what, name, text, run):
 
 @functools.cache
 def command(name, preload=""):
-    """What tests/program runs, asked once, since the programs are started some thousand times."""
+    """What tools/run runs, asked once, since the programs are started some thousand times."""
     environment = dict(os.environ, SHOW="1", PRELOAD=preload)
     return subprocess.run(program(name), env=environment, stdout=subprocess.PIPE, text=True, check=True).stdout.splitlines()
 

@@ -6,24 +6,22 @@ import sys
 
 sys.dont_write_bytecode = True
 sys.path.insert(0, os.path.join(os.path.dirname(os.path.abspath(__file__)), ".."))
-from captures import ACTIVE, MODE_REGISTER_SET, NOP, PRECHARGE, READ, AUTO_REFRESH, BURST_TERMINATE, USUAL, WRITE, capture, setting, words
-
-AUTO = ALL = 1 << 10
-BANK_1 = 1 << 14
+from captures import (A10, ACTIVE, AUTO_REFRESH, BURST_TERMINATE, MODE_REGISTER_SET, NOP, PRECHARGE, READ, USUAL, WRITE, bank,
+                      capture, setting, words)
 
 CAPTURE, SPELLED, LIST, SPELLED_LIST = 0, 1, 2, 3
 
 EVENTS = {
     "nothing": [],
-    "read": [(0, ACTIVE), (3, READ | 5), (20, PRECHARGE | ALL), (23, AUTO_REFRESH), (35, NOP)],
-    "mode": [(0, MODE_REGISTER_SET | 0x24), (2, ACTIVE), (5, READ), (40, PRECHARGE), (43, MODE_REGISTER_SET | 0x8000)],
-    "writes": [(0, ACTIVE), (3, WRITE), (4, WRITE | 8), (9, READ), (20, ACTIVE | BANK_1), (23, WRITE | BANK_1 | AUTO)],
+    "read": [(0, ACTIVE), (3, READ | 5), (20, PRECHARGE | A10), (23, AUTO_REFRESH), (35, NOP)],
+    "mode": [(0, MODE_REGISTER_SET | 0x24), (2, ACTIVE), (5, READ), (40, PRECHARGE), (43, MODE_REGISTER_SET | bank(2))],
+    "writes": [(0, ACTIVE), (3, WRITE), (4, WRITE | 8), (9, READ), (20, ACTIVE | bank(1)), (23, WRITE | bank(1) | A10)],
     "rule 1": [(0, ACTIVE | 1 << 13)],
     "rule 2": [(0, MODE_REGISTER_SET | 0x42)],
     "rule 3": [(0, READ)],
     "rule 4": [(1, AUTO_REFRESH), (12, ACTIVE)],
-    "rule 5": [(0, ACTIVE), (3, READ | AUTO), (9, ACTIVE)],
-    "rule 7": [(0, ACTIVE), (1, ACTIVE | BANK_1)],
+    "rule 5": [(0, ACTIVE), (3, READ | A10), (9, ACTIVE)],
+    "rule 7": [(0, ACTIVE), (1, ACTIVE | bank(1))],
     "rule 8": [(0, ACTIVE), (2, READ)],
     "rule 9": [(0, ACTIVE), (3, WRITE), (6, PRECHARGE)],
     "rule 10": [(0, ACTIVE), (3, WRITE), (8, PRECHARGE)],
@@ -72,7 +70,7 @@ def seeds():
         if all(cycle < 256 for cycle, _ in events):
             yield "spelled " + name, SPELLED, spelled(events)
     slow = setting(7, 11)
-    yield "rule 6", SPELLED, spelled([(0, ACTIVE), (3, READ | AUTO), (10, ACTIVE)], slow)
+    yield "rule 6", SPELLED, spelled([(0, ACTIVE), (3, READ | A10), (10, ACTIVE)], slow)
     yield "spelled rule 14", SPELLED, spelled([(100, NOP)], setting(13, 99))
     yield "too short a buffer", SPELLED | 2 << 2, spelled(EVENTS["read"])
     for name, data in REFUSED.items():

@@ -1,10 +1,9 @@
 """The listing of a capture whose verdict is known, written from docs/LISTING.md and document 01. It judges nothing."""
 import os
 import re
-import struct
 
 import captures
-from captures import USUAL
+from captures import USUAL, broken_lines, burst_length, cas_latency, clean_lines, event_in, is_interleaved, settings_in
 
 ROOT = os.path.join(os.path.dirname(os.path.abspath(__file__)), "..", "..")
 
@@ -40,8 +39,8 @@ def setting_line(i, word):
 def setting_lines(settings):
     lines = [setting_line(i, word) for i, word in enumerate(settings)]
     mode = settings[3]
-    order = "interleaved" if mode & 8 else "sequential"
-    lines[3] += f", burst length {2 ** (mode & 7)}, {order}, CAS latency {mode >> 4}"
+    order = "interleaved" if is_interleaved(mode) else "sequential"
+    lines[3] += f", burst length {burst_length(mode)}, {order}, CAS latency {cas_latency(mode)}"
     return lines
 
 
@@ -91,21 +90,20 @@ def text(lines):
 
 
 def clean(events, settings):
-    return text(setting_lines(settings) + [f"events {len(events)}", f"judged {len(events)}", "clean"])
+    return text(setting_lines(settings) + clean_lines(events))
 
 
 def broken(events, settings, rule, at):
-    verdict = [f"events {len(events)}", f"judged {at}", f"broken rule {rule} event {at} cycle {events[at][0]}"]
     asks = f"rule {rule}: {with_settings(SENTENCES[str(rule)], settings)}"
-    return text(setting_lines(settings) + verdict + event_lines(events, settings, at) + [asks])
+    return text(setting_lines(settings) + broken_lines(events, rule, at) + event_lines(events, settings, at) + [asks])
 
 
 def refused(data, number, place):
     lines = [f"refused {number} place {place}"]
     if number == 3:
-        lines.append(setting_line(place, struct.unpack_from("<I", data, 24 + 4 * place)[0]))
+        lines.append(setting_line(place, settings_in(data)[place]))
     if number == 4:
         for i in range(max(0, place - 1), place + 1):
-            cycle, pins = struct.unpack_from("<II", data, 80 + 8 * i)
+            cycle, pins = event_in(data, i)
             lines.append(f"{'>' if i == place else ' '} event {i} words 0x{cycle:08x} 0x{pins:08x}")
     return text(lines)

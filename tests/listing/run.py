@@ -9,7 +9,7 @@ HERE = os.path.dirname(os.path.abspath(__file__))
 sys.path.insert(0, os.path.join(HERE, ".."))
 import rendering
 from captures import (A10, ACTIVE, AUTO_REFRESH, BURST_TERMINATE, DESELECT, MODE_REGISTER_SET, NOP, PRECHARGE, READ, USUAL,
-                      WRITE, bank, capture, column, quiet, setting)
+                      WRITE, bank, capture, column, mode_word, quiet, setting)
 from running import from_file, from_pipe, unreadable
 
 CRATE = os.path.join(HERE, "..", "..", "crates", "listing")
@@ -89,7 +89,7 @@ def any_settings(chance):
     """Settings within document 01's limits."""
     def between(least, most):
         return least + chance.randrange(most - least + 1)
-    mode = between(1, 4) + 8 * between(0, 1) + 16 * between(2, 3)
+    mode = mode_word(2 ** between(1, 4), between(0, 1), between(2, 3))
     return [between(1, 2), between(12, 14), between(8, 11), mode] + [between(1, 10_000) for _ in range(9)] + [between(1, 10**6)]
 
 

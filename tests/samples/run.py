@@ -3,13 +3,13 @@
 tools/judge-samples prints what the table says, and the clean samples stand at the limits of the rules."""
 import os
 import re
-import struct
 import subprocess
 import sys
 import tempfile
 
 HERE = os.path.dirname(os.path.abspath(__file__))
 sys.path.insert(0, os.path.join(HERE, ".."))
+from captures import settings_in, with_settings
 from running import from_file
 
 ROOT = os.path.join(HERE, "..", "..")
@@ -47,10 +47,10 @@ def expected(rows):
 def longer(name, data):
     """What is wrong if each time in turn is a cycle longer: a rule that asks for it has to be broken."""
     wrong = []
-    settings = list(struct.unpack_from("<14I", data, 24))
+    settings = settings_in(data)
     for i, rules in ASKING:
         changed = settings[:i] + [settings[i] + 1] + settings[i + 1:]
-        said = from_file("report", data[:24] + struct.pack("<14I", *changed) + data[80:]).stdout.decode()
+        said = from_file("report", with_settings(data, changed)).stdout.decode()
         hidden = i == 7 and changed[7] <= settings[5] + settings[6]
         if not hidden and not any(f"broken rule {rule} " in said for rule in rules):
             wrong.append(f"{name} with setting {i} at {changed[i]}: {said!r}")

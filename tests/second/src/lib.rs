@@ -1,12 +1,11 @@
 //! A second implementation of document 01, written from its words alone and slow on
-//! purpose, to hold the verified one against. `fast` and the C next door answer the same
-//! questions at speed.
+//! purpose, to hold the verified one against. The C next door answers the same questions
+//! at speed.
 
 pub mod archive;
 pub mod c;
 pub mod capture;
 pub mod command;
-pub mod fast;
 pub mod generate;
 pub mod memory;
 pub mod packed;

@@ -1,11 +1,11 @@
 //! Implementations held against each other on generated inputs: the literal one, the one
-//! that looks only at running bursts, the fast one and the C one.
+//! that looks only at running bursts, and the C.
 
 use second::capture::{word, Refusal};
 use second::generate::{input, Dice, Input, Tally};
 use second::schedule::schedule_literally;
 use second::verdict::{cells_literally, judge_literally};
-use second::{c, cells, fast, judge, packed, plain, replay, schedule, Answer};
+use second::{c, cells, judge, packed, plain, replay, schedule, Answer};
 
 const SEED: u64 = 1;
 const INPUTS: usize = 20_000;
@@ -110,27 +110,23 @@ fn looking_at_running_bursts_only_changes_nothing() {
 }
 
 #[test]
-fn the_fast_judges_agree() {
+fn the_judge_in_c_agrees() {
     for input in inputs(INPUTS) {
         if let Input::Capture(capture) = input {
-            let expected = judge(&capture);
-            assert_eq!(fast::judge(&capture), expected);
-            assert_eq!(c::judge(&capture), packed::of_answer(expected));
+            assert_eq!(c::judge(&capture), packed::of_answer(judge(&capture)));
         }
     }
 }
 
 #[test]
-fn the_fast_burst_lists_agree() {
-    let literal: CellsOf = &|capture, out| packed::of_count(cells(capture, out));
-    let fast: CellsOf = &|capture, out| packed::of_count(fast::cells(capture, out));
+fn the_burst_list_in_c_agrees() {
+    let rust: CellsOf = &|capture, out| packed::of_count(cells(capture, out));
     let c: CellsOf = &|capture, out| c::cells(capture, out);
     for input in inputs(INPUTS / 2) {
         if let Input::Capture(capture) = input {
             let needed = needed(cells(&capture, &mut vec![0; CELL_ROOM]));
             for length in lengths(needed, CELL_ROOM) {
-                let expected = tried_cells(literal, &capture, length);
-                assert!(tried_cells(fast, &capture, length) == expected);
+                let expected = tried_cells(rust, &capture, length);
                 assert!(tried_cells(c, &capture, length) == expected);
             }
         }
@@ -138,16 +134,14 @@ fn the_fast_burst_lists_agree() {
 }
 
 #[test]
-fn the_fast_schedules_agree() {
-    let literal: ScheduleOf = &|s, r, out| packed::of_count(schedule(s, r, out));
-    let fast: ScheduleOf = &|s, r, out| packed::of_count(fast::schedule(s, r, out));
+fn the_schedule_in_c_agrees() {
+    let rust: ScheduleOf = &|s, r, out| packed::of_count(schedule(s, r, out));
     let c: ScheduleOf = &|s, r, out| c::schedule(s, r, out);
     for input in inputs(INPUTS) {
         if let Input::Requests { settings, requests } = input {
             let needed = needed(schedule(&settings, &requests, &mut vec![0; BYTE_ROOM]));
             for length in lengths(needed, BYTE_ROOM) {
-                let expected = tried_schedule(literal, &settings, &requests, length);
-                assert!(tried_schedule(fast, &settings, &requests, length) == expected);
+                let expected = tried_schedule(rust, &settings, &requests, length);
                 assert!(tried_schedule(c, &settings, &requests, length) == expected);
             }
         }

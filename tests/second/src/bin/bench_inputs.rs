@@ -1,14 +1,10 @@
-//! How long the fast judges take an event, on captures of several kinds.
+//! The captures and the requests on which `bench/run` compares the archive with the C.
 //!
-//!     speed
-//!     speed FOLDER
+//!     bench_inputs FOLDER
 //!
-//! Prints nanoseconds an event, the least of many runs, for the Rust and the C one. With a
-//! folder it writes the captures and the requests there instead, for `bench/run`.
+//! Writes them into the folder. Every capture is clean, so that all of it is judged.
 
-use std::hint::black_box;
 use std::path::Path;
-use std::time::{Duration, Instant};
 use std::{env, fs, io};
 
 use second::capture::{bytes_of, Event, Settings, SETTINGS};
@@ -16,22 +12,23 @@ use second::command::Command;
 use second::generate::{busy_capture, Dice};
 use second::part::{LookBack, Part};
 use second::schedule::earliest;
-use second::{c, fast, judge, schedule, Answer};
+use second::{judge, schedule, Answer};
 
 /// A real part: 64M x 16 at 6 ns.
 const PART: [u32; SETTINGS] = [1, 14, 10, 0x32, 3, 3, 7, 10, 2, 3, 1, 12, 2, 10_400];
 const BL_16: u32 = 0x34;
-const RUNS: u32 = 400;
 
 fn main() {
-    match env::args().nth(1) {
-        Some(folder) => write_inputs(Path::new(&folder)).expect("a folder to write in"),
-        None => print_times(),
-    }
+    let folder = env::args().nth(1).expect("a folder to write in");
+    write_inputs(Path::new(&folder)).expect("a folder to write in");
 }
 
 fn write_inputs(folder: &Path) -> io::Result<()> {
     for (name, capture) in captures() {
+        assert!(
+            matches!(judge(&capture), Answer::Clean { .. }),
+            "{name} is not clean"
+        );
         fs::write(folder.join(format!("{name}.capture")), capture)?;
     }
     let (_, longest) = captures().swap_remove(4);
@@ -51,22 +48,6 @@ fn first_of(capture: &[u8], events: u32) -> Vec<u8> {
     shorter[..4].copy_from_slice(&total.to_le_bytes());
     shorter[12..16].copy_from_slice(&events.to_le_bytes());
     shorter
-}
-
-fn print_times() {
-    println!(
-        "{:<34}{:>8}{:>10}{:>10}",
-        "ns an event", "events", "Rust", "C"
-    );
-    for (name, capture) in captures() {
-        judge_row(name, &capture);
-    }
-    println!();
-    for (name, capture) in captures() {
-        cells_row(name, &capture);
-    }
-    println!();
-    schedule_row("schedule, an event", &requests());
 }
 
 fn captures() -> Vec<(&'static str, Vec<u8>)> {
@@ -149,47 +130,4 @@ fn schedule_capture() -> Vec<u8> {
     let total = schedule(&PART, &requests(), &mut out).expect("a schedule");
     out.truncate(total as usize);
     out
-}
-
-/// The least time that one call takes.
-fn least<T>(mut call: impl FnMut() -> T) -> Duration {
-    let timed = |_| {
-        let start = Instant::now();
-        black_box(call());
-        start.elapsed()
-    };
-    (0..RUNS).map(timed).min().expect("some runs")
-}
-
-fn row(name: &str, events: u32, times: [Duration; 2]) {
-    let per_event = times.map(|time| time.as_nanos() as f64 / f64::from(events));
-    let [rust, c] = per_event;
-    println!("{name:<34}{events:>8}{rust:>10.2}{c:>10.2}");
-}
-
-fn judge_row(name: &str, capture: &[u8]) {
-    let Answer::Clean { judged } = judge(capture) else {
-        panic!("{name} is not clean");
-    };
-    let rust = least(|| fast::judge(black_box(capture)));
-    let c = least(|| c::judge(black_box(capture)));
-    row(name, judged, [rust, c]);
-}
-
-fn cells_row(name: &str, capture: &[u8]) {
-    let Answer::Clean { judged } = judge(capture) else {
-        panic!("{name} is not clean");
-    };
-    let mut out = vec![0; 16 * 8_000];
-    let rust = least(|| fast::cells(black_box(capture), &mut out));
-    let c = least(|| c::cells(black_box(capture), &mut out));
-    row(&format!("cells, {name}"), judged, [rust, c]);
-}
-
-fn schedule_row(name: &str, requests: &[u32]) {
-    let mut out = vec![0; 64_080];
-    let bytes = fast::schedule(&PART, requests, &mut out).expect("a schedule");
-    let rust = least(|| fast::schedule(&PART, black_box(requests), &mut out));
-    let c = least(|| c::schedule(&PART, black_box(requests), &mut out));
-    row(name, (bytes - 80) / 8, [rust, c]);
 }
