@@ -36,12 +36,12 @@ QUIET = re.compile(r"""//[^\n]*|/\*(?:.|\n)*?\*/|b"(?:\\.|[^"\\])*"|b'(?:\\.|[^'
 PIECE = re.compile(
     r"""(?:\bmod\s+(?P<module>\w+)\s*|\bimpl\b(?:\s*<[^>]*>)?\s*(?P<type>\w+)(?:\s*<[^>]*>)?\s*)?(?P<open>\{)
     | (?P<close>\})
-    | \bpub\s+(?:(?:const|unsafe|extern|"C")\s+)*fn\s+(?P<name>\w+)\s*(?:<[^>]*>)?\s*\((?P<parameters>[^)]*)\)\s*(?P<answers>->)?
+    | \bpub\s+(?:(?:const|unsafe|extern|"C")\s+)*fn\s+(?P<name>\w+)\s*(?:<[^>]*>)?\s*\((?P<parameters>[^)]*)\)\s*(?P<answers>->\s*&?)?
     """,
     re.X,
 )
 
-Function = collections.namedtuple("Function", "crate path parameters answers")
+Function = collections.namedtuple("Function", "crate path parameters answer")
 
 
 def read(*path):
@@ -78,12 +78,14 @@ def functions(crate, module, text):
         else:
             path = module + [block for block in blocks if block] + [piece["name"]]
             parameters = [" ".join(p.split()) for p in re.split(r",(?![^<]*>)", piece["parameters"]) if p.strip()]
-            yield Function(crate, path, parameters, bool(piece["answers"]))
+            yield Function(crate, path, parameters, piece["answers"])
 
 
 def claims(function):
     """What the law says of two results z, z′ and of two contents e, e′ of what is lent."""
-    said = ["z ≡ z′"] if function.answers else []
+    said = []
+    if function.answer:
+        said.append("now z ≡ now z′" if function.answer.endswith("&") else "z ≡ z′")
     for place, parameter in enumerate(function.parameters):
         if re.search(r"&\s*('\w+ )?mut\b", parameter):
             at = " .1" * place + " .0"

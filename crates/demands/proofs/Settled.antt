@@ -58,7 +58,6 @@ use Rattle.requests.proofs.lowest_bad.Reads as requests-lowest-bad
 use Rattle.turns.proofs.start.Reads as turns-start
 use Rattle.turns.proofs.serve.Reads as turns-serve
 use Rattle.schedule.proofs.schedule.Reads as schedule-schedule
-use Rattle.beats.proofs.bank.Reads as beats-bank
 use Rattle.beats.proofs.gives_burst.Reads as beats-gives-burst
 use Rattle.beats.proofs.mode_after.Reads as beats-mode-after
 use Rattle.beats.proofs.column.Reads as beats-column
@@ -71,6 +70,13 @@ use Rattle.cells.proofs.burst_cells.Reads as cells-burst-cells
 use Rattle.morgazell.proofs.morgazell_judge.Reads as morgazell-morgazell-judge
 use Rattle.morgazell.proofs.morgazell_cells.Reads as morgazell-morgazell-cells
 use Rattle.morgazell.proofs.morgazell_schedule.Reads as morgazell-morgazell-schedule
+use Rattle.capture.proofs.event_part.Reads as capture-event-part
+use Rattle.deadlines.proofs.clock.due_at_start.Reads as deadlines-clock-due-at-start
+use Rattle.deadlines.proofs.clock.due_after_refresh.Reads as deadlines-clock-due-after-refresh
+use Rattle.pins.proofs.code.Reads as pins-code
+use Rattle.pins.proofs.bank.Reads as pins-bank
+use Rattle.pins.proofs.address.Reads as pins-address
+use Rattle.pins.proofs.ten.Reads as pins-ten
 
 -- ---- words
 
@@ -108,6 +114,9 @@ capture-pins-at-settles κs a z z′ e e′ p q = p ∙ sym q
 pub capture-open-settles : (κs : _) (a : _) (z z′ : _) (e e′ : _) → capture-open.Post κs a z e → capture-open.Post κs a z′ e′ → z ≡ z′
 capture-open-settles κs a z z′ e e′ p q = settings.one-answer z z′ (p ∙ sym q)
 
+pub capture-event-part-settles : (κs : _) (a : _) (z z′ : _) (e e′ : _) → capture-event-part.Post κs a z e → capture-event-part.Post κs a z′ e′ → now z ≡ now z′
+capture-event-part-settles κs a z z′ e e′ p q = p ∙ sym q
+
 -- ---- deadlines
 
 pub deadlines-sums-past-settles : (κs : _) (a : _) (z z′ : _) (e e′ : _) → deadlines-sums-past.Post κs a z e → deadlines-sums-past.Post κs a z′ e′ → z ≡ z′
@@ -139,6 +148,26 @@ deadlines-sums-pace-settles κs a z z′ e e′ p q = p ∙ sym q
 
 pub deadlines-sums-rows-settles : (κs : _) (a : _) (z z′ : _) (e e′ : _) → deadlines-sums-rows.Post κs a z e → deadlines-sums-rows.Post κs a z′ e′ → z ≡ z′
 deadlines-sums-rows-settles κs a z z′ e e′ p q = p ∙ sym q
+
+pub deadlines-clock-due-at-start-settles : (κs : _) (a : _) (z z′ : _) (e e′ : _) → deadlines-clock-due-at-start.Post κs a z e → deadlines-clock-due-at-start.Post κs a z′ e′ → z ≡ z′
+deadlines-clock-due-at-start-settles κs a z z′ e e′ p q = p ∙ sym q
+
+pub deadlines-clock-due-after-refresh-settles : (κs : _) (a : _) (z z′ : _) (e e′ : _) → deadlines-clock-due-after-refresh.Post κs a z e → deadlines-clock-due-after-refresh.Post κs a z′ e′ → z ≡ z′
+deadlines-clock-due-after-refresh-settles κs a z z′ e e′ p q = p ∙ sym q
+
+-- ---- pins
+
+pub pins-code-settles : (κs : _) (a : _) (z z′ : _) (e e′ : _) → pins-code.Post κs a z e → pins-code.Post κs a z′ e′ → z ≡ z′
+pins-code-settles κs a z z′ e e′ p q = p ∙ sym q
+
+pub pins-bank-settles : (κs : _) (a : _) (z z′ : _) (e e′ : _) → pins-bank.Post κs a z e → pins-bank.Post κs a z′ e′ → z ≡ z′
+pins-bank-settles κs a z z′ e e′ p q = p .0 ∙ sym (q .0)
+
+pub pins-address-settles : (κs : _) (a : _) (z z′ : _) (e e′ : _) → pins-address.Post κs a z e → pins-address.Post κs a z′ e′ → z ≡ z′
+pins-address-settles κs a z z′ e e′ p q = p .0 ∙ sym (q .0)
+
+pub pins-ten-settles : (κs : _) (a : _) (z z′ : _) (e e′ : _) → pins-ten.Post κs a z e → pins-ten.Post κs a z′ e′ → z ≡ z′
+pins-ten-settles κs a z z′ e e′ p q = p ∙ sym q
 
 -- ---- rules
 
@@ -242,9 +271,6 @@ pub schedule-schedule-settles : (κs : _) (a : _) (z z′ : _) (e e′ : _) → 
 schedule-schedule-settles κs a z z′ e e′ p q = (schedule.one-answer z z′ (p .0 ∙ sym (q .0)), p .1 ∙ sym (q .1))
 
 -- ---- beats
-
-pub beats-bank-settles : (κs : _) (a : _) (z z′ : _) (e e′ : _) → beats-bank.Post κs a z e → beats-bank.Post κs a z′ e′ → z ≡ z′
-beats-bank-settles κs a z z′ e e′ p q = p .0 ∙ sym (q .0)
 
 pub beats-gives-burst-settles : (κs : _) (a : _) (z z′ : _) (e e′ : _) → beats-gives-burst.Post κs a z e → beats-gives-burst.Post κs a z′ e′ → z ≡ z′
 beats-gives-burst-settles κs a z z′ e e′ p q = p ∙ sym q

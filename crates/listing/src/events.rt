@@ -26,7 +26,7 @@ fn event_at(capture: &[u8], i: u32) -> Event {
     if capture.len() < 88 + 8 * at {
         return Event { cycle: 0, pins: 0 };
     }
-    let part = capture::event_part(capture);
+    let part = &capture[80..];
     Event {
         cycle: capture::cycle_at(part, at),
         pins: capture::pins_at(part, at),

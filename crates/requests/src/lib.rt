@@ -12,8 +12,14 @@ ghost use Rattle.reading.specs.Schedule.{asksWrite, firstCell, cellBank, cellRo
 ghost use Rattle.memory.specs.Serving.{Sized};
 ghost use Rattle.requests.specs.Asked.{Asked, burstCode, cellsOf, below, EachBelow};
 
-// AUTO REFRESH.
-pub const REFRESH_PINS: u32 = 524_288;
+// The pins of each command that a schedule has, without bank and address.
+pub const REFRESH_PINS: u32 = pins::CODE * pins::REFRESH;
+
+const ACTIVE_PINS: u32 = pins::CODE * pins::ACTIVE;
+
+const READ_PINS: u32 = pins::CODE * pins::READ;
+
+const WRITE_PINS: u32 = pins::CODE * pins::WRITE;
 
 // The numbers of so many bits.
 fn numbers(bits: u32) -> u32
@@ -62,7 +68,7 @@ pub fn active_pins(s: &Settings, q: u32) -> u32
     requires { ⌜ Asked (settingsOf (now s)) q ⌝ }
     ensures { λ r. ⌜ r ≡ activePins (settingsOf (now (s .entry))) q ⌝ }
 {
-    row(s, q) + 16_384 * bank(s, q) + 786_432
+    row(s, q) + pins::BANK * bank(s, q) + ACTIVE_PINS
 }
 
 // WRITE or READ on the command pins.
@@ -70,7 +76,7 @@ fn burst_code(write: bool) -> u32
     ensures { λ r. ⌜ r ≡ burstCode write ⌝ }
     ensures { λ r. ⌜ r < 1048576 ⌝ }
 {
-    if write { 131_072 } else { 655_360 }
+    if write { WRITE_PINS } else { READ_PINS }
 }
 
 // Column bits 0-9 on A0-A9, bit 10 on A11; A10 asks for auto precharge.
@@ -87,7 +93,7 @@ pub fn burst_pins(s: &Settings, q: u32) -> u32
     ensures { λ r. ⌜ r ≡ burstPins (settingsOf (now (s .entry))) q ⌝ }
 {
     let code = burst_code(asks_write(q));
-    column_pins(column(s, q)) + 16_384 * bank(s, q) + code
+    column_pins(column(s, q)) + pins::BANK * bank(s, q) + code
 }
 
 // The cells of the part, which has four banks.

@@ -56,18 +56,18 @@ after-requires c κs = search needs
 
 request-requires-2 : tie.Need-request-requires-2
 request-requires-2 c κs =
-    let chosen = c .before .before .before .before .before .before .before .before in
+    let chosen = c .before .before .before .before .before .before .before in
     low (chosen .before .before .before .before)
 
 take-requires-2 : tie.Need-take-requires-2
 take-requires-2 c κs =
-    let chosen = c .before .before .before .before .before .before .before .before .before .before in
+    let chosen = c .before .before .before .before .before .before .before .before .before in
     low (chosen .before .before .before .before)
 
 returns-2 : tie.Need-returns-2
 returns-2 c =
     let taken = c .before .before in
-    let refreshed = taken .before .before .before .before .before .before .before .before in
+    let refreshed = taken .before .before .before .before .before .before .before in
     let chosen = refreshed .before .before .before in
     let banked = chosen .before .before .before .before in
     let start = banked .before in
@@ -80,7 +80,7 @@ returns-2 c =
 returns-3 : tie.Need-returns-3
 returns-3 c =
     let taken = c .before .before in
-    let refreshed = taken .before .before .before .before .before .before .before .before in
+    let refreshed = taken .before .before .before .before .before .before .before in
     let chosen = refreshed .before .before .before in
     let banked = chosen .before .before .before .before in
     let start = banked .before in
