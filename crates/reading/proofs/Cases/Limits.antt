@@ -74,6 +74,8 @@ shapes =
     -- the lowest of two events, and pin bits between 20 and 31
     ∷ case (at 0 NOP ∷ at 1 (NOP + 0x200000) ∷ at 2 (NOP + 0x100000) ∷ []) (refuses 4 1)
     ∷ case (at 0 (NOP + 0x8000000) ∷ []) (refuses 4 0)
+    -- and bit 20 with no pin high
+    ∷ case (at 0 0x100000 ∷ []) (refuses 4 0)
     ∷ []
 
 each-shape : Hold shapes
