@@ -1,8 +1,14 @@
 -- Every clause of rules 1 to 14, on both sides of its limit. The sums beside a case are document 01's, under the usual settings.
 use Prim.Native.Nat.{ℕ, _+_}
-use mathlib.Core.List.{List, [], _∷_, _++_}
-use mathlib.Core.Path.{refl}
+use mathlib.Core.List.{List, [], _∷_, _++_, map}
+use mathlib.Core.Option.{some}
+use mathlib.Core.Path.{_≡_, refl}
 use lib.ListN.{set}
+use Rattle.reading.specs.Settings.{settingsOf}
+use Rattle.reading.specs.Capture.{Event}
+use Rattle.reading.specs.Part.{start}
+use Rattle.reading.specs.Rules.{placingRules, rules, brokenBy}
+use Rattle.reading.specs.Verdict.{Verdict, clean, broken, judgeBy, verdictBy, judgeFrom}
 use Rattle.reading.proofs.Cases.{ACTIVE, READ, WRITE, TERMINATE, PRECHARGE, REFRESH, MODE, NOP, DESELECT, A10, bank, at, usual, four, touches, breaks, saidOf, Line, line, lineUnder, HoldLines}
 
 -- the first cells of banks 1 and 3: 8192 x 1024 a bank
@@ -296,6 +302,15 @@ rule14 =
     ∷ line (at 1001 (MODE + 0x32) ∷ []) (breaks 0 14 0 1001)
     ∷ line (at 0 ACTIVE ∷ at 1001 READ ∷ []) (breaks 1 14 1 1001)
     ∷ line (at 0 ACTIVE ∷ at 1001 WRITE ∷ []) (breaks 1 14 1 1001)
+    -- after no other command: there is no AUTO REFRESH, so 0 + 1000
+    ∷ line (at 500 NOP ∷ at 1001 NOP ∷ []) (breaks 1 14 1 1001)
+    ∷ line (at 500 DESELECT ∷ at 1001 NOP ∷ []) (breaks 1 14 1 1001)
+    ∷ line (at 500 ACTIVE ∷ at 1001 NOP ∷ []) (breaks 1 14 1 1001)
+    ∷ line (at 0 ACTIVE ∷ at 500 READ ∷ at 1001 NOP ∷ []) (breaks 2 14 2 1001)
+    ∷ line (at 0 ACTIVE ∷ at 500 WRITE ∷ at 1001 NOP ∷ []) (breaks 2 14 2 1001)
+    ∷ line (at 500 TERMINATE ∷ at 1001 NOP ∷ []) (breaks 1 14 1 1001)
+    ∷ line (at 500 PRECHARGE ∷ at 1001 NOP ∷ []) (breaks 1 14 1 1001)
+    ∷ line (at 500 (MODE + 0x32) ∷ at 1001 NOP ∷ []) (breaks 1 14 1 1001)
     ∷ []
 
 rule-14 : HoldLines rule14
@@ -347,3 +362,39 @@ ownSettings =
 own-settings : HoldLines ownSettings
 unfolding ownSettings saidOf
 own-settings = refl
+
+-- ---- judging by some of the rules
+
+-- the rules that are asked, and what is found
+record ByList : Type 0 where
+  asked : List ℕ
+  events : List Event
+  found : Verdict
+
+abbrev by : List ℕ → List Event → Verdict → ByList
+by rs es v = record { asked = rs; events = es; found = v }
+
+byLists : List ByList
+byLists =
+    -- the READ is too early for rule 8, the PRECHARGE for rule 9: who is not asked about one goes on to the other
+    by (8 ∷ 9 ∷ []) (at 0 ACTIVE ∷ at 2 READ ∷ at 6 PRECHARGE ∷ []) (broken 8 1 2)
+    ∷ by (9 ∷ 14 ∷ []) (at 0 ACTIVE ∷ at 2 READ ∷ at 6 PRECHARGE ∷ []) (broken 9 2 6)
+    ∷ by (8 ∷ 14 ∷ []) (at 0 ACTIVE ∷ at 6 PRECHARGE ∷ at 7 NOP ∷ []) clean
+    ∷ by [] (at 0 READ ∷ at 2001 READ ∷ []) clean
+    ∷ by (14 ∷ []) (at 0 READ ∷ at 1001 READ ∷ []) (broken 14 1 1001)
+    -- placing asks rules 1 to 13
+    ∷ by placingRules (at 1001 NOP ∷ []) clean
+    ∷ by rules (at 1001 NOP ∷ []) (broken 14 0 1001)
+    ∷ []
+
+by-lists : map (λ x. verdictBy (x .asked) (settingsOf usual) (x .events)) byLists ≡ map (λ x. x .found) byLists
+unfolding byLists verdictBy judgeBy
+by-lists = refl
+
+-- what is asked by all rules of one event, and of events from some event on
+by-all-rules : brokenBy (settingsOf usual) (start (settingsOf usual)) (at 1001 NOP) ≡ some 14
+by-all-rules = refl
+
+from-some-event : judgeFrom (settingsOf usual) (start (settingsOf usual)) 5 (at 1001 NOP ∷ []) ≡ broken 14 5 1001
+unfolding judgeBy
+from-some-event = refl

@@ -61,6 +61,10 @@ shapes =
     ∷ bytes (bytesOf ((80 ∷ 13 ∷ 24 ∷ 0 ∷ 80 ∷ 0 ∷ []) ++ usual)) (refuses 2 0)
     ∷ bytes (bytesOf ((80 ∷ 14 ∷ 20 ∷ 0 ∷ 80 ∷ 0 ∷ []) ++ usual)) (refuses 2 0)
     ∷ bytes (bytesOf ((80 ∷ 14 ∷ 24 ∷ 0 ∷ 72 ∷ 0 ∷ []) ++ usual)) (refuses 2 0)
+    -- thirteen and fifteen settings, and settings from byte 28 on, where all else goes with it
+    ∷ bytes (bytesOf ((84 ∷ 13 ∷ 24 ∷ 1 ∷ 76 ∷ 0 ∷ []) ++ take 13 usual ++ (0 ∷ NOP ∷ []))) (refuses 2 0)
+    ∷ bytes (bytesOf ((84 ∷ 15 ∷ 24 ∷ 0 ∷ 84 ∷ 0 ∷ []) ++ usual ++ (0 ∷ []))) (refuses 2 0)
+    ∷ bytes (bytesOf ((84 ∷ 14 ∷ 28 ∷ 0 ∷ 84 ∷ 0 ∷ []) ++ (0 ∷ []) ++ usual)) (refuses 2 0)
     -- an event that is there and not counted
     ∷ bytes (bytesOf ((88 ∷ 14 ∷ 24 ∷ 0 ∷ 80 ∷ 0 ∷ []) ++ usual ++ (0 ∷ NOP ∷ []))) (refuses 2 0)
     -- a cycle above the first and not above the one before, below it or the same
@@ -70,6 +74,8 @@ shapes =
     -- the lowest of two events, and pin bits between 20 and 31
     ∷ case (at 0 NOP ∷ at 1 (NOP + 0x200000) ∷ at 2 (NOP + 0x100000) ∷ []) (refuses 4 1)
     ∷ case (at 0 (NOP + 0x8000000) ∷ []) (refuses 4 0)
+    -- and bit 20 with no pin high
+    ∷ case (at 0 0x100000 ∷ []) (refuses 4 0)
     ∷ []
 
 each-shape : Hold shapes
