@@ -59,7 +59,8 @@ def changes(path):
     """The texts that an edit replaces and by what, by file."""
     replaced, file, old = collections.defaultdict(list), "", ""
     for line in read(path).splitlines():
-        key, _, text = line.partition(": ")
+        key, _, text = line.partition(":")
+        text = text.removeprefix(" ")
         if key == "file":
             file = text
         elif key == "old":
