@@ -4,6 +4,8 @@ use console::say;
 use console::say_number;
 use console::say_word;
 use settings::Settings;
+use settings::places::COLUMN_BITS;
+use settings::places::ROW_BITS;
 ghost use mathlib.Core.Path.{_≡_};
 ghost use Prim.Native.Nat.{_+_, _-_, _<_, min};
 ghost use Rattle.listing.specs.Kinds.{kindOf};
@@ -37,10 +39,10 @@ fn event_at(capture: &[u8], i: u32) -> Event {
 
 // An accepted capture has at most 14 row bits and 11 column bits.
 fn column(settings: &Settings, pins: u32) -> u32 {
-    if 14 < settings[1] {
+    if 14 < settings[ROW_BITS] {
         return 0;
     }
-    if 11 < settings[2] {
+    if 11 < settings[COLUMN_BITS] {
         return 0;
     }
     beats::column(settings, pins)

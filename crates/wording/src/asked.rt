@@ -3,6 +3,17 @@ use console::Out;
 use console::say;
 use console::say_number;
 use settings::Settings;
+use settings::places::GAP;
+use settings::places::ROW_BITS;
+use settings::places::T_MRD;
+use settings::places::T_RAS;
+use settings::places::T_RC;
+use settings::places::T_RCD;
+use settings::places::T_RFC;
+use settings::places::T_RP;
+use settings::places::T_RRD;
+use settings::places::T_WR;
+use settings::places::T_WTR;
 
 fn ask(out: &mut Out, before: &[u8], setting: u32, after: &[u8]) {
     say_number(out, before, setting);
@@ -13,14 +24,23 @@ fn ask_after_refresh_and_mode_set(out: &mut Out, settings: &Settings) {
     ask(
         out,
         b"a command at least tRFC (",
-        settings[11],
+        settings[T_RFC],
         b") cycles after the last AUTO REFRESH",
     );
     ask(
         out,
         b" and tMRD (",
-        settings[12],
+        settings[T_MRD],
         b") after the last MODE REGISTER SET",
+    );
+}
+
+fn ask_of_refresh(out: &mut Out, settings: &Settings) {
+    ask(
+        out,
+        b"every event at most GAP (",
+        settings[GAP],
+        b") cycles after the last AUTO REFRESH, or after cycle 0 if there was none",
     );
 }
 
@@ -29,7 +49,7 @@ fn ask_of_rows(out: &mut Out, settings: &Settings, rule: u32) {
         1 => ask(
             out,
             b"the row of an ACTIVE fits in the row bits (",
-            settings[1],
+            settings[ROW_BITS],
             b"); its pins above them are low",
         ),
         2 => say(
@@ -44,19 +64,19 @@ fn ask_of_rows(out: &mut Out, settings: &Settings, rule: u32) {
         5 => ask(
             out,
             b"ACTIVE at least tRP (",
-            settings[5],
+            settings[T_RP],
             b") cycles after its bank's precharge; AUTO REFRESH and MODE REGISTER SET after every bank's",
         ),
         6 => ask(
             out,
             b"ACTIVE at least tRC (",
-            settings[7],
+            settings[T_RC],
             b") cycles after the bank's last ACTIVE",
         ),
         _ => ask(
             out,
             b"ACTIVE at least tRRD (",
-            settings[8],
+            settings[T_RRD],
             b") cycles after the last ACTIVE of another bank",
         ),
     }
@@ -67,25 +87,25 @@ fn ask_of_bursts(out: &mut Out, settings: &Settings, rule: u32) {
         8 => ask(
             out,
             b"READ or WRITE at least tRCD (",
-            settings[4],
+            settings[T_RCD],
             b") cycles after the bank's ACTIVE",
         ),
         9 => ask(
             out,
             b"PRECHARGE at least tRAS (",
-            settings[6],
+            settings[T_RAS],
             b") cycles after the ACTIVE of each row that it closes",
         ),
         10 => ask(
             out,
             b"PRECHARGE at least tWR (",
-            settings[9],
+            settings[T_WR],
             b") cycles after the last write data of each row that it closes",
         ),
         11 => ask(
             out,
             b"READ at least tWTR (",
-            settings[10],
+            settings[T_WTR],
             b") cycles after the last write data, of whatever bank",
         ),
         12 => say(
@@ -96,12 +116,7 @@ fn ask_of_bursts(out: &mut Out, settings: &Settings, rule: u32) {
             out,
             b"READ does not cut a read with auto precharge, WRITE not a write with auto precharge, BURST TERMINATE neither such a read nor any write",
         ),
-        _ => ask(
-            out,
-            b"every event at most GAP (",
-            settings[13],
-            b") cycles after the last AUTO REFRESH, or after cycle 0 if there was none",
-        ),
+        _ => ask_of_refresh(out, settings),
     }
 }
 
