@@ -1,18 +1,17 @@
 -- Demand 1: a call is refused exactly with the number and the place of document 01's table, and then leaves the buffer as it was.
-use Prim.Native.Nat.{ℕ, _≤_, _<_}
+use Prim.Native.Nat.{ℕ, _<_}
 use mathlib.Core.Bool.{Bool, true, false, not}
 use mathlib.Core.List.{List}
 use mathlib.Core.Logic.{_↔_}
 use mathlib.Core.Option.{Option, none, some}
 use mathlib.Core.Path.{_≡_, refl, sym, ap, _∙_}
 use native.Mathlib.Omega.{arith}
-use borrow.Author.Tests.{eqb-true, eqb-false, ne-eqb, eq-eqb, ltb-true, lt-ltb, not-false}
+use borrow.Author.Tests.{eqb-true, eqb-false, ne-eqb, eq-eqb, ltb-true, lt-ltb}
 use lib.Dec.{ltb, eqb}
 use lib.ListN.{length}
 use Rattle.reading.specs.Search.{given}
 use Rattle.reading.specs.Settings.{settingsOf, badSetting}
-use Rattle.reading.specs.Capture.{Event, eventsOf}
-use Rattle.reading.specs.Part.{start}
+use Rattle.reading.specs.Capture.{eventsOf}
 use Rattle.reading.specs.Schedule.{Schedule, planned, late, badRequest, scheduleOf, captureOf}
 use Rattle.reading.specs.Verdict as is
 use Rattle.reading.specs.Answers.{Answer, Report, refused, answered, unless, accepted, settingsIn, verdictIn, notClean, judgeAnswer, cellsIn, keptUp, fitting, leaves, cellsOutcome, scheduleOutcome}
@@ -30,7 +29,7 @@ use Rattle.schedule.specs.declared.Scheduled.the-variants as scheduled
 use Rattle.schedule.specs.Meaning as schedule
 use Rattle.schedule.proofs.Unique as one-schedule
 use Rattle.demands.specs.Allowed.{Judges, Lists, Schedules}
-use Rattle.demands.specs.Refused.{opened, Accepted, Clean, ListRefused, unaccepted, unclean, ScheduleRefused}
+use Rattle.demands.specs.Refused.{opened, Accepted, ListRefused, unaccepted, unclean, ScheduleRefused}
 use Rattle.demands.specs.Refused as case
 use Rattle.demands.proofs.Judging.{one-answer}
 

@@ -12,7 +12,7 @@ use Rattle.reading.specs.Search.{later, lowest}
 use Rattle.reading.specs.Settings.{Settings}
 use Rattle.reading.specs.RefreshClock.{clockAtStart}
 use Rattle.reading.specs.Capture.{Event, lastCycle}
-use Rattle.reading.specs.Verdict.{clean, judgeFrom, verdictOf, judgeBy, verdictBy}
+use Rattle.reading.specs.Verdict.{clean, verdictOf, judgeBy, verdictBy}
 use Rattle.reading.specs.Schedule.{asksWrite, requestFits, badRequest, firstCell, cellBank, activePins, burstPins, refreshPins, freeFrom, placed, send, sendRequest, refreshInTime, served, planned, onwards, scheduleFrom, scheduleOf}
 use Rattle.memory.specs.Serving.{EachFits}
 use Rattle.words.proofs.Search.{none-below}

@@ -8,7 +8,7 @@ use Rattle.reading.specs.Words.{wordAt, wordBytes, bytesOf}
 use Rattle.reading.specs.Settings.{Settings, settingsOf, settingFits, badSetting}
 use Rattle.reading.specs.Capture.{Event, settingWords, eventsOf, badLength, goodHeader, eventFits, badEvent}
 use Rattle.reading.specs.Bursts.{burstCells, beatCell, beatColumn, place}
-use Rattle.reading.specs.Verdict.{Verdict, clean, broken, verdictOf, judgeFrom, judgedOf, judgeBy, verdictBy}
+use Rattle.reading.specs.Verdict.{Verdict, clean, broken, verdictOf, judgedOf, judgeBy, verdictBy}
 use Rattle.reading.specs.Cells.{burstsOf, cellsOf}
 use Rattle.reading.specs.Schedule.{captureOf, eventWords}
 use Rattle.reading.specs.Answers.{Answer, refused, answered, Report, accepted, judgeAnswer, verdictIn, cellsIn}
