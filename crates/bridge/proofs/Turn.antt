@@ -18,8 +18,8 @@ use Rattle.reading.proofs.Cuts.{nil}
 use Rattle.reading.proofs.Found.{find-none}
 use Rattle.deadlines.specs.Deadlines.{paceOf, startOf}
 use Rattle.pins.specs.Pins.{codeOf, bankOf, addressOf, tenOf}
-use Rattle.part.specs.Steps.{stepBreaks, stepAfter, paceAfter}
-use Rattle.part.proofs.Codes as codes
+use Rattle.steps.specs.Steps.{stepBreaks, stepAfter, paceAfter}
+use Rattle.steps.proofs.Codes as codes
 use Rattle.pins.proofs.Pins.{turned, op-is}
 use Rattle.bridge.specs.Summary.{Held, laid, summary, from}
 use Rattle.bridge.proofs.Tests.{num, first-of, after-is, leb-later, held-is, cleared-is}

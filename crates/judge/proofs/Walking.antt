@@ -21,7 +21,8 @@ use Rattle.capture.proofs.Accepted.{cycle-rises}
 use Rattle.deadlines.specs.Deadlines.{paceOf}
 use Rattle.part.specs.declared.Answer.{Answer}
 use Rattle.part.specs.declared.Answer.the-variants.{Kept, Broke}
-use Rattle.part.specs.Steps.{means, ruleOf, leftBy, stepBreaks, stepAfter, paceAfter}
+use Rattle.part.specs.Means.{means}
+use Rattle.steps.specs.Steps.{ruleOf, leftBy, stepBreaks, stepAfter, paceAfter}
 use Rattle.bridge.specs.Summary.{laid, summary}
 use Rattle.bridge.proofs.Tests.{num}
 use Rattle.bridge.proofs.Next.{Sound}

@@ -1,3 +1,2 @@
 -- Laws that callers of the step use.
-pub mod Codes
 pub mod Unique

@@ -1,2 +1,2 @@
--- What a step answers and leaves.
-pub mod Steps
+-- What a step answers.
+pub mod Means

@@ -8,7 +8,8 @@ ghost use Prim.Native.Nat.{_<_};
 ghost use lib.Dec.{eqb};
 ghost use Rattle.reading.specs.Settings.{settingsOf};
 ghost use Rattle.deadlines.specs.Deadlines as is;
-ghost use Rattle.part.specs.Steps.{means, ruleOf, leftBy, stepBreaks, stepAfter, paceAfter};
+ghost use Rattle.steps.specs.Steps.{ruleOf, leftBy, stepBreaks, stepAfter, paceAfter};
+ghost use Rattle.part.specs.Means.{means};
 
 // What an event answers: all rules are kept, or some are broken, of which this is the lowest.
 pub enum Answer {

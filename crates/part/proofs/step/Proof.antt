@@ -1,7 +1,7 @@
 use mathlib.Core.Path.{sym, _∙_}
 use Rattle.reading.specs.Settings.{settingsOf}
-use Rattle.part.proofs.Codes as codes
-use Rattle.part.proofs.Codes.{met, met-paced, met-quiet}
+use Rattle.steps.proofs.Codes as codes
+use Rattle.steps.proofs.Codes.{met, met-paced, met-quiet}
 use borrow.Author.Needs.{needs}
 use Rattle.part.proofs.step.Statement.{statement}
 use Rattle.part.proofs.step.Tie as tie

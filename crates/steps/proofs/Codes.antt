@@ -9,7 +9,7 @@ use borrow.Author.Tests.{ne-eqb}
 use Rattle.reading.specs.Settings.{Settings}
 use Rattle.deadlines.specs.Deadlines.{paceOf, dueBreaks, activeBreaks, readBreaks, writeBreaks, terminateBreaks, closeBreaks, closeAllBreaks, refreshBreaks, modeBreaks, activeAfter, readAfter, writeAfter, cutRead, closeAfter, closeAllAfter, refreshAfter, modeSetAfter}
 use Rattle.pins.specs.Pins.{codeOf, bankOf, addressOf, tenOf}
-use Rattle.part.specs.Steps.{ruleOf, leftBy, stepBreaks, stepAfter, paceAfter}
+use Rattle.steps.specs.Steps.{ruleOf, leftBy, stepBreaks, stepAfter, paceAfter}
 
 module _ (s : Settings) (d m : List ℕ) (t w : ℕ) where
   -- which rule a step breaks, the deadlines after it, and h and CL

@@ -7,13 +7,6 @@ use lib.Dec.{eqb}
 use Rattle.reading.specs.Settings.{Settings}
 use Rattle.pins.specs.Pins.{codeOf, bankOf, addressOf, tenOf, byCode}
 use Rattle.deadlines.specs.Deadlines.{paceOf, dueBreaks, activeBreaks, readBreaks, writeBreaks, terminateBreaks, closeBreaks, closeAllBreaks, refreshBreaks, modeBreaks, activeAfter, readAfter, writeAfter, cutRead, closeAfter, closeAllAfter, refreshAfter, modeSetAfter}
-use Rattle.part.specs.declared.Answer.{Answer}
-use Rattle.part.specs.declared.Answer.the-variants.{Kept, Broke}
-
--- what an answer says in document 01's words: no rule is broken, or this is the lowest that is
-abbrev pub means : Answer → Option ℕ
-means Kept = none
-means (Broke rule) = some rule
 
 -- the rule that a number stands for, 0 for none
 abbrev pub ruleOf : ℕ → Option ℕ

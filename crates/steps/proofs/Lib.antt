@@ -1,0 +1,2 @@
+-- What an event does, by its command pins.
+pub mod Codes

@@ -1,0 +1,2 @@
+-- Which rule an event breaks, and what it leaves.
+pub mod Steps
