@@ -97,6 +97,47 @@ startOf s =
     let d₅ = set d₄ (LOCKED + 2) (s .tRAS + s .tRP) in
     set d₅ (LOCKED + 3) (s .tRAS + s .tRP)
 
+-- ---- what the commands of schedules wait for
+
+-- a timed rule, and the first cycle at which it lets a command through
+pub record Wait : Type 0 where
+  pub rule : ℕ
+  pub till : ℕ
+
+abbrev pub asks : ℕ → ℕ → Wait
+asks rule till = record { rule = rule; till = till }
+
+-- a rule that asks about each bank
+abbrev pub asksEach : ℕ → (ℕ → ℕ) → List Wait → List Wait
+asksEach rule till rest = asks rule (till 0) ∷ asks rule (till 1) ∷ asks rule (till 2) ∷ asks rule (till 3) ∷ rest
+
+-- rule 7 asks nothing of the bank itself
+abbrev pub otherBank : List ℕ → ℕ → ℕ → ℕ
+otherBank d b i = cond (eqb i b) 0 (at d (OTHER + i))
+
+abbrev pub activeWaits : List ℕ → ℕ → List Wait
+activeWaits d b = asks 4 (at d BUSY) ∷ asks 5 (at d (REST + b)) ∷ asks 6 (at d (AGAIN + b)) ∷ asksEach 7 (otherBank d b) []
+
+abbrev pub readWaits : List ℕ → ℕ → List Wait
+readWaits d b = asks 4 (at d BUSY) ∷ asks 8 (at d (COLUMN + b)) ∷ asks 11 (at d END) ∷ asks 13 (at d READS) ∷ []
+
+abbrev pub writeWaits : List ℕ → ℕ → List Wait
+writeWaits d b = asks 4 (at d BUSY) ∷ asks 8 (at d (COLUMN + b)) ∷ asks 12 (at d DATA) ∷ asks 13 (at d WRITES) ∷ []
+
+abbrev pub refreshWaits : List ℕ → List Wait
+refreshWaits d = asks 4 (at d BUSY) ∷ asksEach 5 (λ i. at d (REST + i)) (asks 12 (at d DATA) ∷ [])
+
+-- the rule of the first that is not over, else what the later rules say
+unfoldable pub unmet : List Wait → ℕ → ℕ → ℕ
+unmet [] t rest = rest
+unmet (w ∷ ws) t rest = orElse (leb (w .till) t) (w .rule) (unmet ws t rest)
+
+-- when all are over: the latest of them
+unfoldable pub soonest : List Wait → ℕ
+soonest [] = 0
+soonest (w ∷ []) = w .till
+soonest (w ∷ v ∷ ws) = later (w .till) (soonest (v ∷ ws))
+
 -- ---- which rule is broken
 
 abbrev pub dueBreaks : List ℕ → ℕ → ℕ
@@ -106,29 +147,13 @@ unfoldable pub activeBreaks : Settings → List ℕ → ℕ → ℕ → ℕ → 
 activeBreaks s d t b a =
     orElse (ltb a (2 ^ (s .rowBits % 32))) 1
     (orElse (eqb (at d (OPEN + b)) 0) 3
-    (orElse (leb (at d BUSY) t) 4
-    (orElse (leb (at d (REST + b)) t) 5
-    (orElse (leb (at d (AGAIN + b)) t) 6
-    (orElse (everyBank (λ i. leb (at d (OTHER + i)) t || eqb i b)) 7
-    (dueBreaks d t))))))
+    (unmet (activeWaits d b) t (dueBreaks d t)))
 
 unfoldable pub readBreaks : List ℕ → ℕ → ℕ → ℕ
-readBreaks d t b =
-    orElse (not (eqb (at d (OPEN + b)) 0)) 3
-    (orElse (leb (at d BUSY) t) 4
-    (orElse (leb (at d (COLUMN + b)) t) 8
-    (orElse (leb (at d END) t) 11
-    (orElse (leb (at d READS) t) 13
-    (dueBreaks d t)))))
+readBreaks d t b = orElse (not (eqb (at d (OPEN + b)) 0)) 3 (unmet (readWaits d b) t (dueBreaks d t))
 
 unfoldable pub writeBreaks : List ℕ → ℕ → ℕ → ℕ
-writeBreaks d t b =
-    orElse (not (eqb (at d (OPEN + b)) 0)) 3
-    (orElse (leb (at d BUSY) t) 4
-    (orElse (leb (at d (COLUMN + b)) t) 8
-    (orElse (leb (at d DATA) t) 12
-    (orElse (leb (at d WRITES) t) 13
-    (dueBreaks d t)))))
+writeBreaks d t b = orElse (not (eqb (at d (OPEN + b)) 0)) 3 (unmet (writeWaits d b) t (dueBreaks d t))
 
 unfoldable pub terminateBreaks : Settings → List ℕ → ℕ → ℕ
 terminateBreaks s d t =
@@ -144,20 +169,21 @@ closeBreaks d t b =
     (orElse (leb (at d (WRITTEN + b)) t || eqb (at d (OPEN + b)) 0) 10
     (dueBreaks d t)))
 
+-- rules 9 and 10 of the banks that are open
+abbrev pub allHeld : List ℕ → ℕ → Bool
+allHeld d t = everyBank (λ i. leb (at d (CLOSE + i)) t || eqb (at d (OPEN + i)) 0)
+
+abbrev pub allWritten : List ℕ → ℕ → Bool
+allWritten d t = everyBank (λ i. leb (at d (WRITTEN + i)) t || eqb (at d (OPEN + i)) 0)
+
 unfoldable pub closeAllBreaks : List ℕ → ℕ → ℕ
-closeAllBreaks d t =
-    orElse (leb (at d BUSY) t) 4
-    (orElse (everyBank (λ i. leb (at d (CLOSE + i)) t || eqb (at d (OPEN + i)) 0)) 9
-    (orElse (everyBank (λ i. leb (at d (WRITTEN + i)) t || eqb (at d (OPEN + i)) 0)) 10
-    (dueBreaks d t)))
+closeAllBreaks d t = orElse (leb (at d BUSY) t) 4 (orElse (allHeld d t) 9 (orElse (allWritten d t) 10 (dueBreaks d t)))
+
+abbrev pub allIdle : List ℕ → Bool
+allIdle d = everyBank (λ i. eqb (at d (OPEN + i)) 0)
 
 unfoldable pub refreshBreaks : List ℕ → ℕ → ℕ
-refreshBreaks d t =
-    orElse (everyBank (λ i. eqb (at d (OPEN + i)) 0)) 3
-    (orElse (leb (at d BUSY) t) 4
-    (orElse (everyBank (λ i. leb (at d (REST + i)) t)) 5
-    (orElse (leb (at d DATA) t) 12
-    (dueBreaks d t))))
+refreshBreaks d t = orElse (allIdle d) 3 (unmet (refreshWaits d) t (dueBreaks d t))
 
 unfoldable pub modeBreaks : List ℕ → ℕ → ℕ → ℕ → ℕ
 modeBreaks d t b a = orElse (cond (eqb b 0) (modeWord a) (eqb b 2)) 2 (refreshBreaks d t)

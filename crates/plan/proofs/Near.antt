@@ -12,9 +12,9 @@ use Rattle.reading.specs.Search.{lesser, later}
 use Rattle.reading.specs.Mode.{h, CL}
 use Rattle.reading.specs.Settings.{Settings}
 use Rattle.reading.proofs.Cuts.{All, nil, cons}
-use Rattle.deadlines.specs.Deadlines.{OPEN, AGAIN, OTHER, REST, COLUMN, CLOSE, LOCKED, BUSY, DUE, DATA, READS, WRITES, END, WRITTEN, READER, WRITER, at, paceOf, startOf, activeAfter, autoAfter, readAfter, cutWrite, newWrite, writeAfter, refreshAfter}
+use Rattle.deadlines.specs.Deadlines.{OPEN, AGAIN, OTHER, REST, COLUMN, CLOSE, LOCKED, BUSY, DUE, DATA, READS, WRITES, END, WRITTEN, READER, WRITER, at, Wait, otherBank, soonest, paceOf, startOf, activeAfter, autoAfter, readAfter, cutWrite, newWrite, writeAfter, refreshAfter}
 use Rattle.bridge.proofs.Bursts.{lesser-left}
-use Rattle.plan.specs.Soonest.{latest, otherBank, activeSoonest, readSoonest, writeSoonest, burstSoonest, refreshSoonest}
+use Rattle.plan.specs.Soonest.{activeSoonest, readSoonest, writeSoonest, burstSoonest, refreshSoonest}
 use Rattle.plan.proofs.Ranged.{Ranged}
 
 -- two waits of at most 10,000 cycles, a burst and its latency
@@ -124,10 +124,11 @@ near-start s g =
     nothing (suc k) zero = omega arith
     nothing (suc k) (suc j) = nothing k j
 
-latest-most : (m c : ℕ) (xs : List ℕ) → c ≤ m → All (λ x. x ≤ m) xs → latest c xs ≤ m
-unfolding latest
-latest-most m c [] l nil = l
-latest-most m c (x ∷ xs) l (cons k r) = later-most c (latest x xs) m l (latest-most m x xs k r)
+soonest-most : (m : ℕ) (ws : List Wait) → All (λ w. w .till ≤ m) ws → soonest ws ≤ m
+unfolding soonest
+soonest-most m [] nil = omega arith
+soonest-most m (w ∷ []) (cons k nil) = k
+soonest-most m (w ∷ v ∷ ws) (cons k r) = later-most (w .till) (soonest (v ∷ ws)) m k (soonest-most m (v ∷ ws) r)
 
 module _ {n : ℕ} {d : List ℕ} (near : Near n d) where
   other-most : (b i : ℕ) → i < 4 → otherBank d b i ≤ n + wait
@@ -136,34 +137,38 @@ module _ {n : ℕ} {d : List ℕ} (near : Near n d) where
   pub refresh-most : refreshSoonest d ≤ n + wait
   unfolding refreshSoonest
   refresh-most =
-      latest-most (n + wait) _ _ (near .by _ (omega arith))
+      soonest-most (n + wait) _
       (cons (near .by _ (omega arith))
       (cons (near .by _ (omega arith))
       (cons (near .by _ (omega arith))
       (cons (near .by _ (omega arith))
-      (cons (near .by _ (omega arith)) nil)))))
+      (cons (near .by _ (omega arith))
+      (cons (near .by _ (omega arith)) nil))))))
 
   module _ (b : ℕ) (lb : b < 4) where
     pub active-most : activeSoonest d b ≤ n + wait
     unfolding activeSoonest
     active-most =
-        latest-most (n + wait) _ _ (near .by _ (omega arith))
+        soonest-most (n + wait) _
+        (cons (near .by _ (omega arith))
         (cons (near .by _ (omega arith))
         (cons (near .by _ (omega arith))
         (cons (other-most b 0 (omega arith))
         (cons (other-most b 1 (omega arith))
         (cons (other-most b 2 (omega arith))
-        (cons (other-most b 3 (omega arith)) nil))))))
+        (cons (other-most b 3 (omega arith)) nil)))))))
 
     pub burst-most : (write : Bool) → burstSoonest write d b ≤ n + wait
     unfolding readSoonest writeSoonest
     burst-most true =
-        latest-most (n + wait) _ _ (near .by _ (omega arith))
+        soonest-most (n + wait) _
         (cons (near .by _ (omega arith))
         (cons (near .by _ (omega arith))
-        (cons (near .by _ (omega arith)) nil)))
+        (cons (near .by _ (omega arith))
+        (cons (near .by _ (omega arith)) nil))))
     burst-most false =
-        latest-most (n + wait) _ _ (near .by _ (omega arith))
+        soonest-most (n + wait) _
         (cons (near .by _ (omega arith))
         (cons (near .by _ (omega arith))
-        (cons (near .by _ (omega arith)) nil)))
+        (cons (near .by _ (omega arith))
+        (cons (near .by _ (omega arith)) nil))))

@@ -1,26 +1,26 @@
 -- The commands of a schedule: each goes to the latest of its deadlines, and leaves the deadlines of a step.
-use Prim.Native.Nat.{ℕ, suc, _≤_, _<_}
+use Prim.Native.Nat.{ℕ, zero, suc, _≤_, _<_}
 use mathlib.Core.Bool.{Bool, true, false, cond, _&&_}
-use mathlib.Core.List.{List, [], _∷_}
+use mathlib.Core.List.{List, [], _∷_, map}
 use mathlib.Core.Path.{_≡_, refl, ap, _∙_, subst}
-use native.Mathlib.Nat.{le-trans}
+use native.Mathlib.Nat.{le-refl, le-trans}
 use native.Mathlib.Omega.{arith}
 use lib.Dec.{leb, eqb}
+use lib.ListN.{getD}
 use borrow.Author.Tests.{eq-eqb}
-use Rattle.reading.specs.Search.{later}
 use Rattle.reading.specs.Words.{bit}
 use Rattle.reading.specs.Settings.{Settings}
 use Rattle.reading.specs.Capture.{Event}
 use Rattle.reading.specs.Commands.{READ, WRITE, AUTO-REFRESH, Command}
 use Rattle.reading.specs.Part.{Bank, Part, idleFrom, partAfter}
 use Rattle.reading.specs.Schedule.{asksWrite, firstCell, cellBank, cellRow, cellColumn, requestFits, activePins, columnPins, burstPins, refreshPins, freeFrom, placed, send}
-use Rattle.deadlines.specs.Deadlines.{activeAfter, refreshAfter}
+use Rattle.deadlines.specs.Deadlines.{Wait, readWaits, writeWaits, refreshWaits, soonest, activeAfter, refreshAfter}
 use Rattle.bridge.specs.Summary.{Held, laid, summary}
 use Rattle.bridge.proofs.Rules.{does}
 use Rattle.bridge.proofs.Next.{Sound, active-next, read-next, write-next, refresh-next}
 use Rattle.bridge.proofs.Kept.{kept-plain, kept-read, kept-write}
 use Rattle.memory.proofs.Pins.{activeCommand, active-carried, burst-carried, refresh-carried}
-use Rattle.plan.specs.Soonest.{latest, activeSoonest, readSoonest, writeSoonest, burstSoonest, refreshSoonest}
+use Rattle.plan.specs.Soonest.{activeSoonest, readSoonest, writeSoonest, burstSoonest, refreshSoonest}
 use Rattle.plan.specs.Behind.{partOf, deadlinesOf, burstAfter}
 use Rattle.plan.proofs.Ranged.{Ranged}
 use Rattle.plan.proofs.Pins.{bank-small, row-low, active-small, burst-small, refresh-small}
@@ -37,14 +37,14 @@ pub record Opened (s : Settings) (es : List Event) (b : ℕ) : Type 0 where
   pub own : partOf s es .banks b .opened ≡ true
   pub others : (i : ℕ) → eqb i b ≡ false → partOf s es .banks i .opened ≡ false
 
-latest-first : (c : ℕ) (xs : List ℕ) → c ≤ latest c xs
-unfolding latest
-latest-first c [] = omega arith
-latest-first c (x ∷ xs) = later-first c (latest x xs)
-
-latest-fourth : (a b c d : ℕ) → d ≤ latest a (b ∷ c ∷ d ∷ [])
-unfolding latest
-latest-fourth a b c d = omega (arith, later-second c d, later-second b (later c d), later-second a (later b (later c d)))
+-- not before any of the waits
+pub waited : (ws : List Wait) (i : ℕ) → getD (map (λ (w : Wait). w .till) ws) i 0 ≤ soonest ws
+unfolding soonest
+waited [] i = omega arith
+waited (w ∷ []) zero = le-refl (w .till)
+waited (w ∷ []) (suc i) = omega arith
+waited (w ∷ v ∷ ws) zero = later-first (w .till) (soonest (v ∷ ws))
+waited (w ∷ v ∷ ws) (suc i) = le-trans (waited (v ∷ ws) i) (later-second (w .till) (soonest (v ∷ ws)))
 
 -- ---- READ or WRITE with auto precharge of an open bank
 
@@ -67,12 +67,12 @@ module _ (s : Settings) (p : Part) (b a : ℕ) (lb : b < 4) (own : p .banks b .o
   module _ (from t : ℕ) (l : from ≤ t) (g : Sound from p) where
     burst-leaves : (write : Bool) → burstSoonest write (laid X) b ≤ t → laid (summary s (partAfter s p t (bursts write))) ≡ burstAfter write s (laid X) (p .mode) t b
     unfolding readSoonest writeSoonest
-    burst-leaves true k = write-next s p from t l g b a true lb own (le-trans (latest-fourth _ _ _ _) k)
-    burst-leaves false k = read-next s p from t l g b a true lb own (le-trans (latest-fourth _ _ _ _) k)
+    burst-leaves true k = write-next s p from t l g b a true lb own (le-trans (waited (writeWaits (laid X) b) 3) k)
+    burst-leaves false k = read-next s p from t l g b a true lb own (le-trans (waited (readWaits (laid X) b) 3) k)
 
     burst-sound : (write : Bool) → burstSoonest write (laid X) b ≤ t → Sound (suc t) (partAfter s p t (bursts write))
     unfolding readSoonest writeSoonest
-    burst-sound true k = kept-write s p from t l g b a true lb (le-trans (latest-fourth _ _ _ _) k)
+    burst-sound true k = kept-write s p from t l g b a true lb (le-trans (waited (writeWaits (laid X) b) 3) k)
     burst-sound false k = kept-read s p from t l g b a true lb
 
     burst-near : Ranged s → Near from (laid X) → (write : Bool) → Near (suc t) (burstAfter write s (laid X) (p .mode) t b)
@@ -120,7 +120,7 @@ module _ {s : Settings} (g : Ranged s) {es : List Event} (r : Reached s es) wher
         let c = does AUTO-REFRESH 0 0 false in
         let l = goes-free refresh-goes in
         sent r refreshPins c refresh-carried refresh-goes refresh-small refl (kept-plain s p free t l (r .sound) c refl refl refl)
-        (refresh-next s p free t l (r .sound) 0 0 false (le-trans (latest-first _ _) (goes-soonest refresh-goes)))
+        (refresh-next s p free t l (r .sound) 0 0 false (le-trans (waited (refreshWaits d) 0) (goes-soonest refresh-goes)))
         (near-refresh s g (r .near) t l)
 
     pub refresh-idle : Idle s (send s es refreshPins)

@@ -16,8 +16,8 @@ use Rattle.reading.specs.Verdict.{clean, verdictOf, judgeBy, verdictBy}
 use Rattle.reading.specs.Schedule.{asksWrite, requestFits, badRequest, firstCell, cellBank, activePins, burstPins, refreshPins, freeFrom, placed, send, sendRequest, refreshInTime, served, planned, onwards, scheduleFrom, scheduleOf}
 use Rattle.memory.specs.Serving.{EachFits}
 use Rattle.words.proofs.Search.{none-below}
-use Rattle.deadlines.specs.Deadlines.{DUE, at, activeAfter, refreshAfter}
-use Rattle.plan.specs.Soonest.{latest, activeSoonest, burstSoonest, refreshSoonest}
+use Rattle.deadlines.specs.Deadlines.{DUE, at, soonest, activeAfter, refreshAfter}
+use Rattle.plan.specs.Soonest.{activeSoonest, burstSoonest, refreshSoonest}
 use Rattle.bridge.specs.Summary.{dueBy}
 use Rattle.plan.specs.Behind.{partOf, deadlinesOf, burstAfter}
 use Rattle.plan.proofs.Ranged.{Ranged}
@@ -55,7 +55,7 @@ pub record Ready (s : Settings) (es : List Event) : Type 0 where
   pub timely : refreshInTime s es ≡ true
 
 pub start-ready : (s : Settings) → Ranged s → Ready s []
-unfolding verdictBy judgeBy deadlinesOf refreshSoonest latest freeFrom
+unfolding verdictBy judgeBy deadlinesOf refreshSoonest soonest freeFrom
 start-ready s g =
     let r = start-reached s g in
     record {

@@ -20,7 +20,7 @@ use settings::Settings;
 use settings::places::ROW_BITS;
 use settings::places::T_WTR;
 ghost use mathlib.Core.Path.{_≡_};
-ghost use mathlib.Core.Bool.{_||_, cond};
+ghost use mathlib.Core.Bool.{cond};
 ghost use Prim.Native.Nat.{_+_, _<_};
 ghost use lib.Dec.{leb, eqb};
 ghost use Rattle.reading.specs.Mode.{modeWord};
@@ -41,7 +41,7 @@ pub fn due_breaks(d: &Deadlines, t: u32) -> u32
 // The searches: the banks in order, left at the first that breaks the rule, with its number; 0 if none does.
 
 fn all_idle(d: &Deadlines) -> u32
-    ensures { λ r. ⌜ r ≡ orElse (everyBank (λ i. eqb (at (now (d .entry)) (is.OPEN + i)) 0)) 3 0 ⌝ }
+    ensures { λ r. ⌜ r ≡ orElse (is.allIdle (now (d .entry))) 3 0 ⌝ }
 {
     'banks: for i in 0..4 {
         if d[OPEN + i] == 0 {
@@ -65,7 +65,7 @@ fn all_rested(d: &Deadlines, t: u32) -> u32
 }
 
 fn others_apart(d: &Deadlines, t: u32, b: usize) -> u32
-    ensures { λ r. ⌜ r ≡ orElse (everyBank (λ i. leb (at (now (d .entry)) (is.OTHER + i)) t || eqb i b)) 7 0 ⌝ }
+    ensures { λ r. ⌜ r ≡ orElse (everyBank (λ i. leb (is.otherBank (now (d .entry)) b i) t)) 7 0 ⌝ }
 {
     'banks: for i in 0..4 {
         if past(d[OTHER + i], t) {
@@ -80,7 +80,7 @@ fn others_apart(d: &Deadlines, t: u32, b: usize) -> u32
 }
 
 fn all_held(d: &Deadlines, t: u32) -> u32
-    ensures { λ r. ⌜ r ≡ orElse (everyBank (λ i. leb (at (now (d .entry)) (is.CLOSE + i)) t || eqb (at (now (d .entry)) (is.OPEN + i)) 0)) 9 0 ⌝ }
+    ensures { λ r. ⌜ r ≡ orElse (is.allHeld (now (d .entry)) t) 9 0 ⌝ }
 {
     'banks: for i in 0..4 {
         if past(d[CLOSE + i], t) {
@@ -95,7 +95,7 @@ fn all_held(d: &Deadlines, t: u32) -> u32
 }
 
 fn all_written(d: &Deadlines, t: u32) -> u32
-    ensures { λ r. ⌜ r ≡ orElse (everyBank (λ i. leb (at (now (d .entry)) (is.WRITTEN + i)) t || eqb (at (now (d .entry)) (is.OPEN + i)) 0)) 10 0 ⌝ }
+    ensures { λ r. ⌜ r ≡ orElse (is.allWritten (now (d .entry)) t) 10 0 ⌝ }
 {
     'banks: for i in 0..4 {
         if past(d[WRITTEN + i], t) {

@@ -11,11 +11,11 @@ use borrow.Author.Tests.{leb-true, leb-false, le-leb, eq-eqb, ne-eqb, eqb-true, 
 use Rattle.reading.specs.Search.{later, lesser}
 use Rattle.reading.specs.Mode.{h, CL}
 use Rattle.reading.specs.Settings.{Settings}
-use Rattle.deadlines.specs.Deadlines.{OTHER, BUSY, DATA, WRITES, paceOf, at, autoAfter, readAfter, newWrite, writeAfter}
+use Rattle.deadlines.specs.Deadlines.{OTHER, BUSY, DATA, WRITES, paceOf, at, soonest, autoAfter, readAfter, newWrite, writeAfter}
 use Rattle.deadlines.specs.Deadlines as all
 use Rattle.bridge.specs.Summary.{Held, laid}
 use Rattle.bridge.proofs.Laid.{put, activated, banked, readGiven, writeGiven, stands, auto-laid, cut-laid, new-laid}
-use Rattle.plan.specs.Soonest.{latest, readSoonest, writeSoonest}
+use Rattle.plan.specs.Soonest.{readSoonest, writeSoonest}
 use Rattle.plan.specs.Soonest as plan
 use Rattle.plan.proofs.Ranged.{Ranged}
 use Rattle.plan.proofs.Near.{later-most}
@@ -167,20 +167,20 @@ pub record Fair (s : Settings) (d : List ℕ) (free : ℕ) : Type 0 where
 -- the ACTIVE
 module _ (d : List ℕ) (f b : ℕ) (lb : b < 4) where
   pub active-same : later (later f (at d BUSY)) (activeSoonest (betweenOf d) b) ≡ later f (plan.activeSoonest d b)
-  unfolding activeSoonest plan.activeSoonest latest
+  unfolding activeSoonest plan.activeSoonest soonest
   active-same =
       rw (taken d b lb .rest, taken d b lb .again, taken d b lb .apart-is)
       (sym (later-group f (at d BUSY) (later (at d (all.REST + b)) (later (at d (all.AGAIN + b)) (apart d b)))))
 
 -- the AUTO REFRESH
 pub refresh-same : (d : List ℕ) (f : ℕ) → at d BUSY ≤ f → later f (refreshSoonest (betweenOf d)) ≡ later f (plan.refreshSoonest d)
-unfolding refreshSoonest plan.refreshSoonest latest betweenOf
+unfolding refreshSoonest plan.refreshSoonest soonest betweenOf
 refresh-same d f l =
     let z : ℕ = over (λ i. at d (all.REST + i)) (at d DATA) in
     ap (λ (y : ℕ). later y z) (sym (later-high f (at d BUSY) l)) ∙ sym (later-group f (at d BUSY) z)
 
 pub refresh-behind : (x : Held) → ((i : ℕ) → i < 4 → x .rest i ≤ plan.refreshSoonest (laid x)) × (x .bus ≤ plan.refreshSoonest (laid x))
-unfolding plan.refreshSoonest latest
+unfolding plan.refreshSoonest soonest
 refresh-behind x = (
   λ i l. omega (arith, above (x .busy) (over (x .rest) (x .bus)), over-own (x .rest) (x .bus) i l),
   omega (arith, above (x .busy) (over (x .rest) (x .bus)), over-last (x .rest) (x .bus)),
@@ -201,7 +201,7 @@ module _ (s : Settings) (g : Ranged s) (x : Held) (t b : ℕ) (lb : b < 4) (idle
       ap (later (t + 1)) l ∙ later-low (t + 1) z (omega (arith, above (t + s .tRCD) m, g .least-tRCD))
 
   pub burst-same : (write : Bool) → later (t + 1) (plan.burstSoonest write (laid (activated s t b x)) b) ≡ later (t + s .tRCD) (burstSoonest write (betweenOf (laid x)))
-  unfolding readSoonest writeSoonest latest betweenOf
+  unfolding readSoonest writeSoonest soonest betweenOf
   burst-same true = rw column-is (passing (later (x .bus) (x .writes)))
   burst-same false = rw column-is (passing (later (x .end) (x .reads)))
 
@@ -329,7 +329,7 @@ module _ (s : Settings) (g : Ranged s) (x : Held) (f t u : ℕ) (fair : Fair s (
         (over-most (After b write .rest) (After b write .bus) (x .due) (rests-most write rest) (bus-most write bus))))
 
     pub kept-same : (write : Bool) → Placed write → inTime (laid (After b write)) (u + 1) ≡ leb (later (Rest write) (Bus write)) (x .due)
-    unfolding inTime plan.refreshSoonest latest
+    unfolding inTime plan.refreshSoonest soonest
     kept-same true k = kept-at true k
     kept-same false k = kept-at false k
 

@@ -9,8 +9,7 @@ use Rattle.reading.specs.Search.{later}
 use Rattle.reading.specs.Settings.{Settings}
 use Rattle.reading.specs.Schedule.{asksWrite, firstCell, cellBank}
 use Rattle.deadlines.specs.Deadlines as all
-use Rattle.deadlines.specs.Deadlines.{PAIRS, LATENCY, at, paceOf, dueAtStart, dueAfterRefresh}
-use Rattle.plan.specs.Soonest.{otherBank}
+use Rattle.deadlines.specs.Deadlines.{PAIRS, LATENCY, at, otherBank, paceOf, dueAtStart, dueAfterRefresh}
 use Rattle.turns.specs.declared.Tried.{Tried}
 use Rattle.turns.specs.Turns.{Turn}
 use Rattle.turns.specs.Turning.{cycleFor}

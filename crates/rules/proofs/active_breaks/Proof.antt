@@ -1,9 +1,10 @@
-use Prim.Native.Nat.{_+_}
-use mathlib.Core.Bool.{_||_}
-use lib.Dec.{leb, eqb}
+use mathlib.Core.List.{[]}
+use mathlib.Core.Path.{sym, _∙_}
+use lib.Dec.{leb}
 use borrow.Author.Tests.{le-leb, lt-leb, lt-ltb, le-ltb, eq-eqb, ne-eqb}
 use Rattle.reading.specs.Rules.{everyBank}
-use Rattle.deadlines.specs.Deadlines.{OTHER, at, activeBreaks}
+use Rattle.deadlines.specs.Deadlines.{otherBank, unmet, dueBreaks, activeBreaks}
+use Rattle.deadlines.proofs.Waits.{each-over, each-waits}
 use Rattle.rules.proofs.Banks.{told-broken, told-kept}
 use borrow.Author.Needs.{needs}
 use Rattle.rules.proofs.active_breaks.Statement.{statement}
@@ -16,7 +17,7 @@ rows-requires : tie.Need-rows-requires
 rows-requires c κs = search needs
 
 returns : tie.Need-returns
-unfolding activeBreaks
+unfolding activeBreaks unmet
 returns c = rw (← c .before .rows .ensures, le-ltb _ _ (c .if1 .taken))
 
 add-if2 : tie.Need-add-if2
@@ -29,15 +30,23 @@ element-copy-out-if2 : tie.Need-element-copy-out-if2
 element-copy-out-if2 c = search needs
 
 returns-2 : tie.Need-returns-2
-unfolding activeBreaks
+unfolding activeBreaks unmet
 returns-2 c = rw (← c .before .before .before .rows .ensures, lt-ltb _ _ (c .before .before .if1 .left), ne-eqb _ _ (c .if2 .taken))
 
 element-copy-out-if3 : tie.Need-element-copy-out-if3
 element-copy-out-if3 c = search needs
 
 returns-3 : tie.Need-returns-3
-unfolding activeBreaks
-returns-3 c = rw (← c .before .before .before .before .before .rows .ensures, lt-ltb _ _ (c .before .before .before .before .if1 .left), eq-eqb _ _ (c .before .before .if2 .left), lt-leb _ _ (c .if3 .taken))
+unfolding activeBreaks unmet
+returns-3 c =
+    let asked₂ = c .before .before in
+    let asked₁ = asked₂ .before .before in
+    rw (
+      ← asked₁ .before .rows .ensures,
+      lt-ltb _ _ (asked₁ .if1 .left),
+      eq-eqb _ _ (asked₂ .if2 .left),
+      lt-leb _ _ (c .if3 .taken),
+    )
 
 add-if4 : tie.Need-add-if4
 add-if4 c = search needs
@@ -49,8 +58,18 @@ element-copy-out-if4 : tie.Need-element-copy-out-if4
 element-copy-out-if4 c = search needs
 
 returns-4 : tie.Need-returns-4
-unfolding activeBreaks
-returns-4 c = rw (← c .before .before .before .before .before .before .before .rows .ensures, lt-ltb _ _ (c .before .before .before .before .before .before .if1 .left), eq-eqb _ _ (c .before .before .before .before .if2 .left), le-leb _ _ (c .before .before .if3 .left), lt-leb _ _ (c .if4 .taken))
+unfolding activeBreaks unmet
+returns-4 c =
+    let asked₃ = c .before .before in
+    let asked₂ = asked₃ .before .before in
+    let asked₁ = asked₂ .before .before in
+    rw (
+      ← asked₁ .before .rows .ensures,
+      lt-ltb _ _ (asked₁ .if1 .left),
+      eq-eqb _ _ (asked₂ .if2 .left),
+      le-leb _ _ (asked₃ .if3 .left),
+      lt-leb _ _ (c .if4 .taken),
+    )
 
 add-if5 : tie.Need-add-if5
 add-if5 c = search needs
@@ -62,24 +81,69 @@ element-copy-out-if5 : tie.Need-element-copy-out-if5
 element-copy-out-if5 c = search needs
 
 returns-5 : tie.Need-returns-5
-unfolding activeBreaks
-returns-5 c = rw (← c .before .before .before .before .before .before .before .before .before .rows .ensures, lt-ltb _ _ (c .before .before .before .before .before .before .before .before .if1 .left), eq-eqb _ _ (c .before .before .before .before .before .before .if2 .left), le-leb _ _ (c .before .before .before .before .if3 .left), le-leb _ _ (c .before .before .if4 .left), lt-leb _ _ (c .if5 .taken))
+unfolding activeBreaks unmet
+returns-5 c =
+    let asked₄ = c .before .before in
+    let asked₃ = asked₄ .before .before in
+    let asked₂ = asked₃ .before .before in
+    let asked₁ = asked₂ .before .before in
+    rw (
+      ← asked₁ .before .rows .ensures,
+      lt-ltb _ _ (asked₁ .if1 .left),
+      eq-eqb _ _ (asked₂ .if2 .left),
+      le-leb _ _ (asked₃ .if3 .left),
+      le-leb _ _ (asked₄ .if4 .left),
+      lt-leb _ _ (c .if5 .taken),
+    )
 
 others-apart-requires : tie.Need-others-apart-requires
 others-apart-requires c κs = search needs
 
 returns-6 : tie.Need-returns-6
-unfolding activeBreaks
+unfolding activeBreaks unmet
 returns-6 c =
-    let told = told-broken (everyBank (λ i. leb (at (c .before .before .before .before .before .before .before .before .before .before .before .before .before .args .d .now) (OTHER + i)) (c .before .before .before .before .before .before .before .before .before .before .before .before .before .args .t) || eqb i (c .before .before .before .before .before .before .before .before .before .before .before .before .before .args .b))) 7 (c .before .others-apart .ensures) (c .if6 .taken) in
-    rw (← c .before .before .before .before .before .before .before .before .before .before .before .rows .ensures, lt-ltb _ _ (c .before .before .before .before .before .before .before .before .before .before .if1 .left), eq-eqb _ _ (c .before .before .before .before .before .before .before .before .if2 .left), le-leb _ _ (c .before .before .before .before .before .before .if3 .left), le-leb _ _ (c .before .before .before .before .if4 .left), le-leb _ _ (c .before .before .if5 .left), told .fails) (told .named)
+    let asked₅ = c .before .before in
+    let asked₄ = asked₅ .before .before in
+    let asked₃ = asked₄ .before .before in
+    let asked₂ = asked₃ .before .before in
+    let asked₁ = asked₂ .before .before in
+    let a = asked₁ .before .before .before .args in
+    let apart = otherBank (a .d .now) (a .b) in
+    let told = told-broken (everyBank (λ i. leb (apart i) (a .t))) 7 (c .before .others-apart .ensures) (c .if6 .taken) in
+    rw (
+      ← asked₁ .before .rows .ensures,
+      lt-ltb _ _ (asked₁ .if1 .left),
+      eq-eqb _ _ (asked₂ .if2 .left),
+      le-leb _ _ (asked₃ .if3 .left),
+      le-leb _ _ (asked₄ .if4 .left),
+      le-leb _ _ (asked₅ .if5 .left),
+    )
+    (told .named ∙ sym (each-waits 7 apart [] (a .t) (dueBreaks (a .d .now) (a .t)) (told .fails)))
 
 due-breaks-requires : tie.Need-due-breaks-requires
 due-breaks-requires c κs = search needs
 
 returns-7 : tie.Need-returns-7
-unfolding activeBreaks
-returns-7 c = rw (← c .before .before .before .before .before .before .before .before .before .before .before .before .rows .ensures, lt-ltb _ _ (c .before .before .before .before .before .before .before .before .before .before .before .if1 .left), eq-eqb _ _ (c .before .before .before .before .before .before .before .before .before .if2 .left), le-leb _ _ (c .before .before .before .before .before .before .before .if3 .left), le-leb _ _ (c .before .before .before .before .before .if4 .left), le-leb _ _ (c .before .before .before .if5 .left), told-kept (everyBank (λ i. leb (at (c .before .before .before .before .before .before .before .before .before .before .before .before .before .before .args .d .now) (OTHER + i)) (c .before .before .before .before .before .before .before .before .before .before .before .before .before .before .args .t) || eqb i (c .before .before .before .before .before .before .before .before .before .before .before .before .before .before .args .b))) 6 (c .before .before .others-apart .ensures) (c .before .if6 .left), c .due-breaks .ensures)
+unfolding activeBreaks unmet
+returns-7 c =
+    let asked₆ = c .before in
+    let asked₅ = asked₆ .before .before in
+    let asked₄ = asked₅ .before .before in
+    let asked₃ = asked₄ .before .before in
+    let asked₂ = asked₃ .before .before in
+    let asked₁ = asked₂ .before .before in
+    let a = asked₁ .before .before .before .args in
+    let apart = otherBank (a .d .now) (a .b) in
+    let kept = told-kept (everyBank (λ i. leb (apart i) (a .t))) 6 (asked₆ .before .others-apart .ensures) (asked₆ .if6 .left) in
+    rw (
+      ← asked₁ .before .rows .ensures,
+      lt-ltb _ _ (asked₁ .if1 .left),
+      eq-eqb _ _ (asked₂ .if2 .left),
+      le-leb _ _ (asked₃ .if3 .left),
+      le-leb _ _ (asked₄ .if4 .left),
+      le-leb _ _ (asked₅ .if5 .left),
+    )
+    (c .due-breaks .ensures ∙ sym (each-over 7 apart [] (a .t) (dueBreaks (a .d .now) (a .t)) kept))
 
 pub active-breaks-spec : {M : Type 1} → statement M
 active-breaks-spec =

@@ -1,9 +1,5 @@
-use Prim.Native.Nat.{_+_}
-use mathlib.Core.Bool.{_||_}
-use lib.Dec.{leb, eqb}
 use borrow.Author.Tests.{le-leb, lt-leb}
-use Rattle.reading.specs.Rules.{everyBank}
-use Rattle.deadlines.specs.Deadlines.{OPEN, CLOSE, WRITTEN, at, closeAllBreaks}
+use Rattle.deadlines.specs.Deadlines.{allHeld, allWritten, closeAllBreaks}
 use Rattle.rules.proofs.Banks.{told-broken, told-kept}
 use borrow.Author.Needs.{needs}
 use Rattle.rules.proofs.close_all_breaks.Statement.{statement}
@@ -22,8 +18,10 @@ all-held-requires c κs = search needs
 returns-2 : tie.Need-returns-2
 unfolding closeAllBreaks
 returns-2 c =
-    let told = told-broken (everyBank (λ i. leb (at (c .before .before .before .before .args .d .now) (CLOSE + i)) (c .before .before .before .before .args .t) || eqb (at (c .before .before .before .before .args .d .now) (OPEN + i)) 0)) 9 (c .before .all-held .ensures) (c .if2 .taken) in
-    rw (le-leb _ _ (c .before .before .if1 .left), told .fails) (told .named)
+    let asked₁ = c .before .before in
+    let a = asked₁ .before .before .args in
+    let told = told-broken (allHeld (a .d .now) (a .t)) 9 (c .before .all-held .ensures) (c .if2 .taken) in
+    rw (le-leb _ _ (asked₁ .if1 .left), told .fails) (told .named)
 
 all-written-requires : tie.Need-all-written-requires
 all-written-requires c κs = search needs
@@ -31,15 +29,35 @@ all-written-requires c κs = search needs
 returns-3 : tie.Need-returns-3
 unfolding closeAllBreaks
 returns-3 c =
-    let told = told-broken (everyBank (λ i. leb (at (c .before .before .before .before .before .before .args .d .now) (WRITTEN + i)) (c .before .before .before .before .before .before .args .t) || eqb (at (c .before .before .before .before .before .before .args .d .now) (OPEN + i)) 0)) 10 (c .before .all-written .ensures) (c .if3 .taken) in
-    rw (le-leb _ _ (c .before .before .before .before .if1 .left), told-kept (everyBank (λ i. leb (at (c .before .before .before .before .before .before .args .d .now) (CLOSE + i)) (c .before .before .before .before .before .before .args .t) || eqb (at (c .before .before .before .before .before .before .args .d .now) (OPEN + i)) 0)) 8 (c .before .before .before .all-held .ensures) (c .before .before .if2 .left), told .fails) (told .named)
+    let asked₂ = c .before .before in
+    let asked₁ = asked₂ .before .before in
+    let a = asked₁ .before .before .args in
+    let d = a .d .now in
+    let told = told-broken (allWritten d (a .t)) 10 (c .before .all-written .ensures) (c .if3 .taken) in
+    rw (
+      le-leb _ _ (asked₁ .if1 .left),
+      told-kept (allHeld d (a .t)) 8 (asked₂ .before .all-held .ensures) (asked₂ .if2 .left),
+      told .fails,
+    )
+    (told .named)
 
 due-breaks-requires : tie.Need-due-breaks-requires
 due-breaks-requires c κs = search needs
 
 returns-4 : tie.Need-returns-4
 unfolding closeAllBreaks
-returns-4 c = rw (le-leb _ _ (c .before .before .before .before .before .if1 .left), told-kept (everyBank (λ i. leb (at (c .before .before .before .before .before .before .before .args .d .now) (CLOSE + i)) (c .before .before .before .before .before .before .before .args .t) || eqb (at (c .before .before .before .before .before .before .before .args .d .now) (OPEN + i)) 0)) 8 (c .before .before .before .before .all-held .ensures) (c .before .before .before .if2 .left), told-kept (everyBank (λ i. leb (at (c .before .before .before .before .before .before .before .args .d .now) (WRITTEN + i)) (c .before .before .before .before .before .before .before .args .t) || eqb (at (c .before .before .before .before .before .before .before .args .d .now) (OPEN + i)) 0)) 9 (c .before .before .all-written .ensures) (c .before .if3 .left), c .due-breaks .ensures)
+returns-4 c =
+    let asked₃ = c .before in
+    let asked₂ = asked₃ .before .before in
+    let asked₁ = asked₂ .before .before in
+    let a = asked₁ .before .before .args in
+    let d = a .d .now in
+    rw (
+      le-leb _ _ (asked₁ .if1 .left),
+      told-kept (allHeld d (a .t)) 8 (asked₂ .before .all-held .ensures) (asked₂ .if2 .left),
+      told-kept (allWritten d (a .t)) 9 (asked₃ .before .all-written .ensures) (asked₃ .if3 .left),
+      c .due-breaks .ensures,
+    )
 
 pub close-all-breaks-spec : {M : Type 1} → statement M
 close-all-breaks-spec =

@@ -26,7 +26,16 @@ due-breaks-requires c κs = search needs
 
 returns-2 : tie.Need-returns-2
 unfolding closeBreaks
-returns-2 c = rw (le-leb _ _ (c .before .before .before .if1 .left), eq-eqb _ _ (c .before .if2 .taken), or-true _, or-true _, c .due-breaks .ensures)
+returns-2 c =
+    let asked₂ = c .before in
+    let asked₁ = asked₂ .before .before in
+    rw (
+      le-leb _ _ (asked₁ .if1 .left),
+      eq-eqb _ _ (asked₂ .if2 .taken),
+      or-true _,
+      or-true _,
+      c .due-breaks .ensures,
+    )
 
 add-if3 : tie.Need-add-if3
 add-if3 c = search needs
@@ -39,7 +48,14 @@ element-copy-out-if3 c = search needs
 
 returns-3 : tie.Need-returns-3
 unfolding closeBreaks
-returns-3 c = rw (le-leb _ _ (c .before .before .before .before .if1 .left), ne-eqb _ _ (c .before .before .if2 .left), lt-leb _ _ (c .if3 .taken))
+returns-3 c =
+    let asked₂ = c .before .before in
+    let asked₁ = asked₂ .before .before in
+    rw (
+      le-leb _ _ (asked₁ .if1 .left),
+      ne-eqb _ _ (asked₂ .if2 .left),
+      lt-leb _ _ (c .if3 .taken),
+    )
 
 add-if4 : tie.Need-add-if4
 add-if4 c = search needs
@@ -52,14 +68,34 @@ element-copy-out-if4 c = search needs
 
 returns-4 : tie.Need-returns-4
 unfolding closeBreaks
-returns-4 c = rw (le-leb _ _ (c .before .before .before .before .before .before .if1 .left), ne-eqb _ _ (c .before .before .before .before .if2 .left), le-leb _ _ (c .before .before .if3 .left), lt-leb _ _ (c .if4 .taken))
+returns-4 c =
+    let asked₃ = c .before .before in
+    let asked₂ = asked₃ .before .before in
+    let asked₁ = asked₂ .before .before in
+    rw (
+      le-leb _ _ (asked₁ .if1 .left),
+      ne-eqb _ _ (asked₂ .if2 .left),
+      le-leb _ _ (asked₃ .if3 .left),
+      lt-leb _ _ (c .if4 .taken),
+    )
 
 due-breaks-requires-2 : tie.Need-due-breaks-requires-2
 due-breaks-requires-2 c κs = search needs
 
 returns-5 : tie.Need-returns-5
 unfolding closeBreaks
-returns-5 c = rw (le-leb _ _ (c .before .before .before .before .before .before .before .if1 .left), ne-eqb _ _ (c .before .before .before .before .before .if2 .left), le-leb _ _ (c .before .before .before .if3 .left), le-leb _ _ (c .before .if4 .left), c .due-breaks2 .ensures)
+returns-5 c =
+    let asked₄ = c .before in
+    let asked₃ = asked₄ .before .before in
+    let asked₂ = asked₃ .before .before in
+    let asked₁ = asked₂ .before .before in
+    rw (
+      le-leb _ _ (asked₁ .if1 .left),
+      ne-eqb _ _ (asked₂ .if2 .left),
+      le-leb _ _ (asked₃ .if3 .left),
+      le-leb _ _ (asked₄ .if4 .left),
+      c .due-breaks2 .ensures,
+    )
 
 pub close-breaks-spec : {M : Type 1} → statement M
 close-breaks-spec =

@@ -1,17 +1,18 @@
-use Prim.Native.Nat.{_+_, _-_}
-use mathlib.Core.Bool.{_||_, or-true}
+use Prim.Native.Nat.{_-_}
+use mathlib.Core.Bool.{or-true}
 use mathlib.Core.Path.{sym, _∙_}
 use native.Mathlib.Omega.{arith}
-use lib.Dec.{leb, eqb}
+use lib.Dec.{leb}
 use borrow.Author.Needs.{needs}
 use borrow.Author.Tests.{eq-eqb, ne-eqb}
-use Rattle.deadlines.specs.Deadlines.{OTHER, at}
+use Rattle.deadlines.specs.Deadlines.{otherBank}
+use Rattle.deadlines.proofs.Waits.{unasked}
 use Rattle.rules.proofs.Banks.{Passed, none, more, passed, left}
 use Rattle.rules.proofs.others_apart.Statement.{statement}
 use Rattle.rules.proofs.others_apart.Tie as tie
 
 abbrev Inv-banks : tie.InvT-banks
-Inv-banks d t b i₀ i = Passed (λ j. leb (at d (OTHER + j)) t || eqb j b) i
+Inv-banks d t b i₀ i = Passed (λ j. leb (otherBank d b j) t) i
 
 abbrev μ-banks : tie.MeasureT-banks
 μ-banks d t b i₀ i = 4 - i
@@ -38,7 +39,7 @@ banks-less : tie.Need-banks-less Inv-banks μ-banks
 banks-less c = omega arith
 
 banks-again : tie.Need-banks-again Inv-banks μ-banks
-banks-again c = more (c .before .before .before .before .banks .inv) (rw (sym (c .before .past .ensures) ∙ c .if1 .taken))
+banks-again c = more (c .before .before .before .before .banks .inv) (simp unasked (rw (sym (c .before .past .ensures) ∙ c .if1 .taken, or-true _)))
 
 add-i-2 : tie.Need-add-i-2 Inv-banks μ-banks
 add-i-2 c = omega arith
@@ -47,10 +48,13 @@ banks-less-2 : tie.Need-banks-less-2 Inv-banks μ-banks
 banks-less-2 c = omega arith
 
 banks-again-2 : tie.Need-banks-again-2 Inv-banks μ-banks
-banks-again-2 c = more (c .before .before .before .before .before .banks .inv) (rw (eq-eqb _ _ (c .if2 .taken), or-true _))
+banks-again-2 c = more (c .before .before .before .before .before .banks .inv) (simp unasked (rw (eq-eqb _ _ (c .if2 .taken))))
 
 returns : tie.Need-returns Inv-banks μ-banks
-returns c = left (c .before .before .before .before .before .banks .inv) (omega arith) (rw (sym (c .before .before .past .ensures) ∙ c .before .if1 .left, ne-eqb _ _ (c .if2 .left))) _ _
+returns c =
+    let told = c .before .before in
+    left (told .before .before .before .banks .inv) (omega arith)
+    (simp unasked (rw (ne-eqb _ _ (c .if2 .left), sym (told .past .ensures) ∙ c .before .if1 .left))) _ _
 
 returns-2 : tie.Need-returns-2 Inv-banks μ-banks
 returns-2 c = passed (c .before .banks .inv) (omega arith) _ _

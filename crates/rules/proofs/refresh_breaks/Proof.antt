@@ -1,12 +1,22 @@
-use Prim.Native.Nat.{_+_}
-use lib.Dec.{leb, eqb}
+use Prim.Native.Nat.{ℕ, _+_}
+use mathlib.Core.List.{List, [], _∷_}
+use mathlib.Core.Path.{sym, _∙_}
+use lib.Dec.{leb}
 use borrow.Author.Tests.{le-leb, lt-leb}
 use Rattle.reading.specs.Rules.{everyBank}
-use Rattle.deadlines.specs.Deadlines.{OPEN, REST, at, refreshBreaks}
+use Rattle.deadlines.specs.Deadlines.{REST, DATA, at, Wait, asks, unmet, dueBreaks, allIdle, refreshBreaks}
+use Rattle.deadlines.proofs.Waits.{each-over, each-waits}
 use Rattle.rules.proofs.Banks.{told-broken, told-kept}
 use borrow.Author.Needs.{needs}
 use Rattle.rules.proofs.refresh_breaks.Statement.{statement}
 use Rattle.rules.proofs.refresh_breaks.Tie as tie
+
+-- rule 5 of a bank, and what comes after it
+abbrev rests : List ℕ → ℕ → ℕ
+rests d i = at d (REST + i)
+
+abbrev then : List ℕ → List Wait
+then d = asks 12 (at d DATA) ∷ []
 
 all-idle-requires : tie.Need-all-idle-requires
 all-idle-requires c κs = search needs
@@ -14,38 +24,72 @@ all-idle-requires c κs = search needs
 returns : tie.Need-returns
 unfolding refreshBreaks
 returns c =
-    let told = told-broken (everyBank (λ i. eqb (at (c .before .before .args .d .now) (OPEN + i)) 0)) 3 (c .before .all-idle .ensures) (c .if1 .taken) in
+    let told = told-broken (allIdle (c .before .before .args .d .now)) 3 (c .before .all-idle .ensures) (c .if1 .taken) in
     rw (told .fails) (told .named)
 
 element-copy-out-if2 : tie.Need-element-copy-out-if2
 element-copy-out-if2 c = search needs
 
 returns-2 : tie.Need-returns-2
-unfolding refreshBreaks
-returns-2 c = rw (told-kept (everyBank (λ i. eqb (at (c .before .before .before .before .args .d .now) (OPEN + i)) 0)) 2 (c .before .before .before .all-idle .ensures) (c .before .before .if1 .left), lt-leb _ _ (c .if2 .taken))
+unfolding refreshBreaks unmet
+returns-2 c =
+    let asked₁ = c .before .before in
+    let d = asked₁ .before .before .args .d .now in
+    rw (told-kept (allIdle d) 2 (asked₁ .before .all-idle .ensures) (asked₁ .if1 .left), lt-leb _ _ (c .if2 .taken))
 
 all-rested-requires : tie.Need-all-rested-requires
 all-rested-requires c κs = search needs
 
 returns-3 : tie.Need-returns-3
-unfolding refreshBreaks
+unfolding refreshBreaks unmet
 returns-3 c =
-    let told = told-broken (everyBank (λ i. leb (at (c .before .before .before .before .before .before .args .d .now) (REST + i)) (c .before .before .before .before .before .before .args .t))) 5 (c .before .all-rested .ensures) (c .if3 .taken) in
-    rw (told-kept (everyBank (λ i. eqb (at (c .before .before .before .before .before .before .args .d .now) (OPEN + i)) 0)) 2 (c .before .before .before .before .before .all-idle .ensures) (c .before .before .before .before .if1 .left), le-leb _ _ (c .before .before .if2 .left), told .fails) (told .named)
+    let asked₂ = c .before .before in
+    let asked₁ = asked₂ .before .before in
+    let a = asked₁ .before .before .args in
+    let d = a .d .now in
+    let told = told-broken (everyBank (λ i. leb (rests d i) (a .t))) 5 (c .before .all-rested .ensures) (c .if3 .taken) in
+    rw (told-kept (allIdle d) 2 (asked₁ .before .all-idle .ensures) (asked₁ .if1 .left), le-leb _ _ (asked₂ .if2 .left))
+    (told .named ∙ sym (each-waits 5 (rests d) (then d) (a .t) (dueBreaks d (a .t)) (told .fails)))
 
 element-copy-out-if4 : tie.Need-element-copy-out-if4
 element-copy-out-if4 c = search needs
 
 returns-4 : tie.Need-returns-4
-unfolding refreshBreaks
-returns-4 c = rw (told-kept (everyBank (λ i. eqb (at (c .before .before .before .before .before .before .before .before .args .d .now) (OPEN + i)) 0)) 2 (c .before .before .before .before .before .before .before .all-idle .ensures) (c .before .before .before .before .before .before .if1 .left), le-leb _ _ (c .before .before .before .before .if2 .left), told-kept (everyBank (λ i. leb (at (c .before .before .before .before .before .before .before .before .args .d .now) (REST + i)) (c .before .before .before .before .before .before .before .before .args .t))) 4 (c .before .before .before .all-rested .ensures) (c .before .before .if3 .left), lt-leb _ _ (c .if4 .taken))
+unfolding refreshBreaks unmet
+returns-4 c =
+    let asked₃ = c .before .before in
+    let asked₂ = asked₃ .before .before in
+    let asked₁ = asked₂ .before .before in
+    let a = asked₁ .before .before .args in
+    let d = a .d .now in
+    let rested = told-kept (everyBank (λ i. leb (rests d i) (a .t))) 4 (asked₃ .before .all-rested .ensures) (asked₃ .if3 .left) in
+    rw (
+      told-kept (allIdle d) 2 (asked₁ .before .all-idle .ensures) (asked₁ .if1 .left),
+      le-leb _ _ (asked₂ .if2 .left),
+      each-over 5 (rests d) (then d) (a .t) (dueBreaks d (a .t)) rested,
+      lt-leb _ _ (c .if4 .taken),
+    )
 
 due-breaks-requires : tie.Need-due-breaks-requires
 due-breaks-requires c κs = search needs
 
 returns-5 : tie.Need-returns-5
-unfolding refreshBreaks
-returns-5 c = rw (told-kept (everyBank (λ i. eqb (at (c .before .before .before .before .before .before .before .before .before .args .d .now) (OPEN + i)) 0)) 2 (c .before .before .before .before .before .before .before .before .all-idle .ensures) (c .before .before .before .before .before .before .before .if1 .left), le-leb _ _ (c .before .before .before .before .before .if2 .left), told-kept (everyBank (λ i. leb (at (c .before .before .before .before .before .before .before .before .before .args .d .now) (REST + i)) (c .before .before .before .before .before .before .before .before .before .args .t))) 4 (c .before .before .before .before .all-rested .ensures) (c .before .before .before .if3 .left), le-leb _ _ (c .before .if4 .left), c .due-breaks .ensures)
+unfolding refreshBreaks unmet
+returns-5 c =
+    let asked₄ = c .before in
+    let asked₃ = asked₄ .before .before in
+    let asked₂ = asked₃ .before .before in
+    let asked₁ = asked₂ .before .before in
+    let a = asked₁ .before .before .args in
+    let d = a .d .now in
+    let rested = told-kept (everyBank (λ i. leb (rests d i) (a .t))) 4 (asked₃ .before .all-rested .ensures) (asked₃ .if3 .left) in
+    rw (
+      told-kept (allIdle d) 2 (asked₁ .before .all-idle .ensures) (asked₁ .if1 .left),
+      le-leb _ _ (asked₂ .if2 .left),
+      each-over 5 (rests d) (then d) (a .t) (dueBreaks d (a .t)) rested,
+      le-leb _ _ (asked₄ .if4 .left),
+      c .due-breaks .ensures,
+    )
 
 pub refresh-breaks-spec : {M : Type 1} → statement M
 refresh-breaks-spec =

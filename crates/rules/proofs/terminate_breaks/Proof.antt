@@ -29,14 +29,32 @@ element-copy-out-if3 c = search needs
 
 returns-3 : tie.Need-returns-3
 unfolding terminateBreaks
-returns-3 c = rw (le-leb _ _ (c .before .before .before .before .before .before .if1 .left), le-leb _ _ (c .before .before .before .before .if2 .left), ← c .before .before .after .ensures, lt-leb _ _ (c .if3 .taken))
+returns-3 c =
+    let asked₂ = c .before .before .before .before in
+    let asked₁ = asked₂ .before .before in
+    rw (
+      le-leb _ _ (asked₁ .if1 .left),
+      le-leb _ _ (asked₂ .if2 .left),
+      ← c .before .before .after .ensures,
+      lt-leb _ _ (c .if3 .taken),
+    )
 
 due-breaks-requires : tie.Need-due-breaks-requires
 due-breaks-requires c κs = search needs
 
 returns-4 : tie.Need-returns-4
 unfolding terminateBreaks
-returns-4 c = rw (le-leb _ _ (c .before .before .before .before .before .before .before .if1 .left), le-leb _ _ (c .before .before .before .before .before .if2 .left), ← c .before .before .before .after .ensures, le-leb _ _ (c .before .if3 .left), c .due-breaks .ensures)
+returns-4 c =
+    let asked₃ = c .before in
+    let asked₂ = asked₃ .before .before .before .before in
+    let asked₁ = asked₂ .before .before in
+    rw (
+      le-leb _ _ (asked₁ .if1 .left),
+      le-leb _ _ (asked₂ .if2 .left),
+      ← asked₃ .before .before .after .ensures,
+      le-leb _ _ (asked₃ .if3 .left),
+      c .due-breaks .ensures,
+    )
 
 pub terminate-breaks-spec : {M : Type 1} → statement M
 terminate-breaks-spec =
