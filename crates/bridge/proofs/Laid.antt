@@ -8,12 +8,12 @@ use borrow.Author.Tests.{eqb-true}
 use lib.ListN.{set}
 use Rattle.reading.specs.Search.{lesser, later}
 use Rattle.reading.specs.Settings.{Settings}
-use Rattle.deadlines.specs.Deadlines.{OPEN, AGAIN, OTHER, REST, COLUMN, CLOSE, WRITTEN, LOCKED, at, activeAfter, autoAfter, cutWrite, newWrite, restAfter}
+use Rattle.deadlines.specs.Deadlines.{OPENED, AGAIN, OTHER, REST, COLUMN, CLOSE, WRITTEN, LOCKED, at, activeAfter, autoAfter, cutWrite, newWrite, restAfter}
 use Rattle.bridge.specs.Summary.{Held, laid}
 
 -- what stands at the places of bank b
 pub record Stands (x : Held) (b : ℕ) : Type 0 where
-  pub opened : at (laid x) (OPEN + b) ≡ x .opened b
+  pub opened : at (laid x) (OPENED + b) ≡ x .opened b
   pub again : at (laid x) (AGAIN + b) ≡ x .again b
   pub other : at (laid x) (OTHER + b) ≡ x .other b
   pub rest : at (laid x) (REST + b) ≡ x .rest b

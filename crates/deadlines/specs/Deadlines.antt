@@ -12,8 +12,8 @@ use Rattle.reading.specs.Rules.{everyBank}
 
 -- of each bank, from these places on: 1 if it is open; rules 6, 7, 5, 8, 9 and 10; and the first cycle at which
 -- an auto precharge that waits for tRAS lets the next ACTIVE through
-abbrev pub OPEN : ℕ
-OPEN = 0
+abbrev pub OPENED : ℕ
+OPENED = 0
 
 abbrev pub AGAIN : ℕ
 AGAIN = 4
@@ -43,8 +43,8 @@ BUSY = 32
 abbrev pub DUE : ℕ
 DUE = 33
 
-abbrev pub DATA : ℕ
-DATA = 34
+abbrev pub BUS : ℕ
+BUS = 34
 
 abbrev pub READS : ℕ
 READS = 35
@@ -122,10 +122,10 @@ abbrev pub readWaits : List ℕ → ℕ → List Wait
 readWaits d b = asks 4 (at d BUSY) ∷ asks 8 (at d (COLUMN + b)) ∷ asks 11 (at d END) ∷ asks 13 (at d READS) ∷ []
 
 abbrev pub writeWaits : List ℕ → ℕ → List Wait
-writeWaits d b = asks 4 (at d BUSY) ∷ asks 8 (at d (COLUMN + b)) ∷ asks 12 (at d DATA) ∷ asks 13 (at d WRITES) ∷ []
+writeWaits d b = asks 4 (at d BUSY) ∷ asks 8 (at d (COLUMN + b)) ∷ asks 12 (at d BUS) ∷ asks 13 (at d WRITES) ∷ []
 
 abbrev pub refreshWaits : List ℕ → List Wait
-refreshWaits d = asks 4 (at d BUSY) ∷ asksEach 5 (λ i. at d (REST + i)) (asks 12 (at d DATA) ∷ [])
+refreshWaits d = asks 4 (at d BUSY) ∷ asksEach 5 (λ i. at d (REST + i)) (asks 12 (at d BUS) ∷ [])
 
 -- the rule of the first that is not over, else what the later rules say
 unfoldable pub unmet : List Wait → ℕ → ℕ → ℕ
@@ -146,14 +146,14 @@ dueBreaks d t = orElse (leb t (at d DUE)) 14 0
 unfoldable pub activeBreaks : Settings → List ℕ → ℕ → ℕ → ℕ → ℕ
 activeBreaks s d t b a =
     orElse (ltb a (2 ^ (s .rowBits % 32))) 1
-    (orElse (eqb (at d (OPEN + b)) 0) 3
+    (orElse (eqb (at d (OPENED + b)) 0) 3
     (unmet (activeWaits d b) t (dueBreaks d t)))
 
 unfoldable pub readBreaks : List ℕ → ℕ → ℕ → ℕ
-readBreaks d t b = orElse (not (eqb (at d (OPEN + b)) 0)) 3 (unmet (readWaits d b) t (dueBreaks d t))
+readBreaks d t b = orElse (not (eqb (at d (OPENED + b)) 0)) 3 (unmet (readWaits d b) t (dueBreaks d t))
 
 unfoldable pub writeBreaks : List ℕ → ℕ → ℕ → ℕ
-writeBreaks d t b = orElse (not (eqb (at d (OPEN + b)) 0)) 3 (unmet (writeWaits d b) t (dueBreaks d t))
+writeBreaks d t b = orElse (not (eqb (at d (OPENED + b)) 0)) 3 (unmet (writeWaits d b) t (dueBreaks d t))
 
 unfoldable pub terminateBreaks : Settings → List ℕ → ℕ → ℕ
 terminateBreaks s d t =
@@ -165,22 +165,22 @@ terminateBreaks s d t =
 unfoldable pub closeBreaks : List ℕ → ℕ → ℕ → ℕ
 closeBreaks d t b =
     orElse (leb (at d BUSY) t) 4
-    (orElse (leb (at d (CLOSE + b)) t || eqb (at d (OPEN + b)) 0) 9
-    (orElse (leb (at d (WRITTEN + b)) t || eqb (at d (OPEN + b)) 0) 10
+    (orElse (leb (at d (CLOSE + b)) t || eqb (at d (OPENED + b)) 0) 9
+    (orElse (leb (at d (WRITTEN + b)) t || eqb (at d (OPENED + b)) 0) 10
     (dueBreaks d t)))
 
 -- rules 9 and 10 of the banks that are open
 abbrev pub allHeld : List ℕ → ℕ → Bool
-allHeld d t = everyBank (λ i. leb (at d (CLOSE + i)) t || eqb (at d (OPEN + i)) 0)
+allHeld d t = everyBank (λ i. leb (at d (CLOSE + i)) t || eqb (at d (OPENED + i)) 0)
 
 abbrev pub allWritten : List ℕ → ℕ → Bool
-allWritten d t = everyBank (λ i. leb (at d (WRITTEN + i)) t || eqb (at d (OPEN + i)) 0)
+allWritten d t = everyBank (λ i. leb (at d (WRITTEN + i)) t || eqb (at d (OPENED + i)) 0)
 
 unfoldable pub closeAllBreaks : List ℕ → ℕ → ℕ
 closeAllBreaks d t = orElse (leb (at d BUSY) t) 4 (orElse (allHeld d t) 9 (orElse (allWritten d t) 10 (dueBreaks d t)))
 
 abbrev pub allIdle : List ℕ → Bool
-allIdle d = everyBank (λ i. eqb (at d (OPEN + i)) 0)
+allIdle d = everyBank (λ i. eqb (at d (OPENED + i)) 0)
 
 unfoldable pub refreshBreaks : List ℕ → ℕ → ℕ
 refreshBreaks d t = orElse (allIdle d) 3 (unmet (refreshWaits d) t (dueBreaks d t))
@@ -192,7 +192,7 @@ modeBreaks d t b a = orElse (cond (eqb b 0) (modeWord a) (eqb b 2)) 2 (refreshBr
 
 unfoldable pub activeAfter : Settings → List ℕ → ℕ → ℕ → List ℕ
 activeAfter s d t b =
-    let d₁ = set d (OPEN + b) 1 in
+    let d₁ = set d (OPENED + b) 1 in
     let d₂ = set d₁ (AGAIN + b) (t + s .tRC) in
     let d₃ = set d₂ (OTHER + b) (t + s .tRRD) in
     let d₄ = set d₃ (COLUMN + b) (t + s .tRCD) in
@@ -203,12 +203,12 @@ activeAfter s d t b =
 -- auto precharge lets the next ACTIVE through from the cycle c on, and not before tRAS and tRP are over
 unfoldable pub autoAfter : List ℕ → ℕ → ℕ → List ℕ
 autoAfter d b c =
-    let d₁ = set d (OPEN + b) 0 in
+    let d₁ = set d (OPENED + b) 0 in
     set d₁ (REST + b) (later (at d₁ (LOCKED + b)) c)
 
 unfoldable pub readAfter : Settings → List ℕ → List ℕ → ℕ → ℕ → Bool → List ℕ
 readAfter s d m t b auto =
-    let d₁ = set d DATA (t + at m LATENCY + at m PAIRS) in
+    let d₁ = set d BUS (t + at m LATENCY + at m PAIRS) in
     cond auto (autoAfter (set (set d₁ READER 4) READS (t + at m PAIRS)) b (t + at m PAIRS + s .tRP)) (set d₁ READER b)
 
 -- the last write is cut, to a data end of t + 1
@@ -231,13 +231,13 @@ writeAfter s d m t b auto =
 
 -- the last read is cut, if it can be, to leave the bus CL cycles after t
 unfoldable pub cutRead : List ℕ → List ℕ → ℕ → Bool → List ℕ
-cutRead d m t cut = set d DATA (cond cut (lesser (at d DATA) (t + at m LATENCY)) (at d DATA))
+cutRead d m t cut = set d BUS (cond cut (lesser (at d BUS) (t + at m LATENCY)) (at d BUS))
 
 -- a bank that is open becomes idle
 unfoldable pub restAfter : List ℕ → ℕ → ℕ → List ℕ
 restAfter d b c =
-    let d₁ = set d (REST + b) (cond (eqb (at d (OPEN + b)) 0) (at d (REST + b)) c) in
-    set d₁ (OPEN + b) 0
+    let d₁ = set d (REST + b) (cond (eqb (at d (OPENED + b)) 0) (at d (REST + b)) c) in
+    set d₁ (OPENED + b) 0
 
 unfoldable pub closeAfter : Settings → List ℕ → List ℕ → ℕ → ℕ → List ℕ
 closeAfter s d m t b = cutRead (restAfter d b (t + s .tRP)) m t (eqb (at (restAfter d b (t + s .tRP)) READER) b)

@@ -1,7 +1,7 @@
 // Where each deadline stands (specs/Deadlines).
 
 // Of each bank.
-pub const OPEN: usize = 0;
+pub const OPENED: usize = 0;
 
 pub const AGAIN: usize = 4;
 
@@ -22,7 +22,7 @@ pub const BUSY: usize = 32;
 
 pub const DUE: usize = 33;
 
-pub const DATA: usize = 34;
+pub const BUS: usize = 34;
 
 pub const READS: usize = 35;
 

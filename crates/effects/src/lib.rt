@@ -4,15 +4,15 @@ use deadlines::KEPT;
 use deadlines::Pace;
 use deadlines::clock;
 use deadlines::places::AGAIN;
+use deadlines::places::BUS;
 use deadlines::places::BUSY;
 use deadlines::places::CLOSE;
 use deadlines::places::COLUMN;
-use deadlines::places::DATA;
 use deadlines::places::DUE;
 use deadlines::places::END;
 use deadlines::places::LATENCY;
 use deadlines::places::LOCKED;
-use deadlines::places::OPEN;
+use deadlines::places::OPENED;
 use deadlines::places::OTHER;
 use deadlines::places::PAIRS;
 use deadlines::places::READER;
@@ -47,7 +47,7 @@ pub fn active_after(s: &Settings, d: &mut Deadlines, t: u32, b: usize)
     requires { ⌜ b < 4 ⌝ }
     ensures { λ r. ⌜ now (d .exit) ≡ is.activeAfter (settingsOf (now (s .entry))) (now (d .entry)) t b ⌝ }
 {
-    d[OPEN + b] = 1;
+    d[OPENED + b] = 1;
     d[AGAIN + b] = after(t, s[T_RC]);
     d[OTHER + b] = after(t, s[T_RRD]);
     d[COLUMN + b] = after(t, s[T_RCD]);
@@ -61,7 +61,7 @@ fn auto_after(d: &mut Deadlines, b: usize, from: u64)
     requires { ⌜ b < 4 ⌝ }
     ensures { λ r. ⌜ now (d .exit) ≡ is.autoAfter (now (d .entry)) b from ⌝ }
 {
-    d[OPEN + b] = 0;
+    d[OPENED + b] = 0;
     d[REST + b] = latest(d[LOCKED + b], from);
 }
 
@@ -70,7 +70,7 @@ pub fn read_after(s: &Settings, d: &mut Deadlines, pace: &Pace, t: u32, b: usize
     ensures { λ r. ⌜ now (d .exit) ≡ is.readAfter (settingsOf (now (s .entry))) (now (d .entry)) (now (pace .entry)) t b auto ⌝ }
 {
     let pairs = pace[PAIRS];
-    d[DATA] = after2(t, pace[LATENCY], pairs);
+    d[BUS] = after2(t, pace[LATENCY], pairs);
     if auto {
         d[READER] = 4;
         d[READS] = after(t, pairs);
@@ -112,15 +112,15 @@ pub fn write_after(s: &Settings, d: &mut Deadlines, pace: &Pace, t: u32, b: usiz
 pub fn cut_read(d: &mut Deadlines, pace: &Pace, t: u32, cut: bool)
     ensures { λ r. ⌜ now (d .exit) ≡ is.cutRead (now (d .entry)) (now (pace .entry)) t cut ⌝ }
 {
-    d[DATA] = pick(cut, least(d[DATA], after(t, pace[LATENCY])), d[DATA]);
+    d[BUS] = pick(cut, least(d[BUS], after(t, pace[LATENCY])), d[BUS]);
 }
 
 fn rest_after(d: &mut Deadlines, b: usize, from: u64)
     requires { ⌜ b < 4 ⌝ }
     ensures { λ r. ⌜ now (d .exit) ≡ is.restAfter (now (d .entry)) b from ⌝ }
 {
-    d[REST + b] = pick(d[OPEN + b] == 0, d[REST + b], from);
-    d[OPEN + b] = 0;
+    d[REST + b] = pick(d[OPENED + b] == 0, d[REST + b], from);
+    d[OPENED + b] = 0;
 }
 
 pub fn close_after(s: &Settings, d: &mut Deadlines, pace: &Pace, t: u32, b: usize)

@@ -12,7 +12,7 @@ use Rattle.reading.specs.Search.{lesser, later}
 use Rattle.reading.specs.Mode.{h, CL}
 use Rattle.reading.specs.Settings.{Settings}
 use Rattle.reading.proofs.Cuts.{All, nil, cons}
-use Rattle.deadlines.specs.Deadlines.{OPEN, AGAIN, OTHER, REST, COLUMN, CLOSE, LOCKED, BUSY, DUE, DATA, READS, WRITES, END, WRITTEN, READER, WRITER, at, Wait, otherBank, soonest, paceOf, startOf, activeAfter, autoAfter, readAfter, cutWrite, newWrite, writeAfter, refreshAfter}
+use Rattle.deadlines.specs.Deadlines.{OPENED, AGAIN, OTHER, REST, COLUMN, CLOSE, LOCKED, BUSY, DUE, BUS, READS, WRITES, END, WRITTEN, READER, WRITER, at, Wait, otherBank, soonest, paceOf, startOf, activeAfter, autoAfter, readAfter, cutWrite, newWrite, writeAfter, refreshAfter}
 use Rattle.bridge.proofs.Bursts.{lesser-left}
 use Rattle.plan.specs.Soonest.{activeSoonest, readSoonest, writeSoonest, burstSoonest, refreshSoonest}
 use Rattle.plan.proofs.Ranged.{Ranged}
@@ -62,7 +62,7 @@ module _ {n : ℕ} {d : List ℕ} (near : Near n d) where
 near-auto : {n : ℕ} {d : List ℕ} → Near n d → (b c : ℕ) → b < 4 → c ≤ n + wait → Near n (autoAfter d b c)
 unfolding autoAfter
 near-auto {n} {d} near b c lb l =
-    let closed = near-set near (OPEN + b) 0 (omega arith) in
+    let closed = near-set near (OPENED + b) 0 (omega arith) in
     near-set closed (REST + b) _ (later-most _ c (n + wait) (closed .by (LOCKED + b) (omega arith)) l)
 
 module _ (s : Settings) (g : Ranged s) {n : ℕ} {d : List ℕ} (near : Near n d) (t : ℕ) (l : n ≤ t) where
@@ -77,7 +77,7 @@ module _ (s : Settings) (g : Ranged s) {n : ℕ} {d : List ℕ} (near : Near n d
     pub near-active : Near (suc t) (activeAfter s d t b)
     unfolding activeAfter
     near-active =
-        let d₁ = near-set now (OPEN + b) 1 (omega arith) in
+        let d₁ = near-set now (OPENED + b) 1 (omega arith) in
         let d₂ = near-set d₁ (AGAIN + b) (t + s .tRC) (omega (arith, g .tRC)) in
         let d₃ = near-set d₂ (OTHER + b) (t + s .tRRD) (omega (arith, g .tRRD)) in
         let d₄ = near-set d₃ (COLUMN + b) (t + s .tRCD) (omega (arith, g .tRCD)) in
@@ -89,7 +89,7 @@ module _ (s : Settings) (g : Ranged s) {n : ℕ} {d : List ℕ} (near : Near n d
       pub near-read : Near (suc t) (readAfter s d (paceOf m) t b true)
       unfolding readAfter
       near-read =
-          let d₁ = near-set now DATA (t + CL m + h m) (omega (arith, h-small m)) in
+          let d₁ = near-set now BUS (t + CL m + h m) (omega (arith, h-small m)) in
           let d₂ = near-set d₁ READER 4 (omega arith) in
           let d₃ = near-set d₂ READS (t + h m) (omega (arith, h-small m)) in
           near-auto d₃ b (t + h m + s .tRP) lb (omega (arith, h-small m, g .tRP))

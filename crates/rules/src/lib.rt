@@ -1,13 +1,13 @@
 // Which rule a command breaks: a comparison for each timed rule, a search for each rule that looks at several banks.
 use deadlines::Deadlines;
 use deadlines::places::AGAIN;
+use deadlines::places::BUS;
 use deadlines::places::BUSY;
 use deadlines::places::CLOSE;
 use deadlines::places::COLUMN;
-use deadlines::places::DATA;
 use deadlines::places::DUE;
 use deadlines::places::END;
-use deadlines::places::OPEN;
+use deadlines::places::OPENED;
 use deadlines::places::OTHER;
 use deadlines::places::READS;
 use deadlines::places::REST;
@@ -44,7 +44,7 @@ fn all_idle(d: &Deadlines) -> u32
     ensures { λ r. ⌜ r ≡ orElse (is.allIdle (now (d .entry))) 3 0 ⌝ }
 {
     'banks: for i in 0..4 {
-        if d[OPEN + i] == 0 {
+        if d[OPENED + i] == 0 {
             continue 'banks;
         }
         return 3;
@@ -86,7 +86,7 @@ fn all_held(d: &Deadlines, t: u32) -> u32
         if past(d[CLOSE + i], t) {
             continue 'banks;
         }
-        if d[OPEN + i] == 0 {
+        if d[OPENED + i] == 0 {
             continue 'banks;
         }
         return 9;
@@ -101,7 +101,7 @@ fn all_written(d: &Deadlines, t: u32) -> u32
         if past(d[WRITTEN + i], t) {
             continue 'banks;
         }
-        if d[OPEN + i] == 0 {
+        if d[OPENED + i] == 0 {
             continue 'banks;
         }
         return 10;
@@ -118,7 +118,7 @@ pub fn active_breaks(s: &Settings, d: &Deadlines, t: u32, b: usize, row: u32) ->
     if rows(s[ROW_BITS]) <= row {
         return 1;
     }
-    if d[OPEN + b] != 0 {
+    if d[OPENED + b] != 0 {
         return 3;
     }
     if (t as u64) < d[BUSY] {
@@ -141,7 +141,7 @@ pub fn read_breaks(d: &Deadlines, t: u32, b: usize) -> u32
     requires { ⌜ b < 4 ⌝ }
     ensures { λ r. ⌜ r ≡ is.readBreaks (now (d .entry)) t b ⌝ }
 {
-    if d[OPEN + b] == 0 {
+    if d[OPENED + b] == 0 {
         return 3;
     }
     if (t as u64) < d[BUSY] {
@@ -163,7 +163,7 @@ pub fn write_breaks(d: &Deadlines, t: u32, b: usize) -> u32
     requires { ⌜ b < 4 ⌝ }
     ensures { λ r. ⌜ r ≡ is.writeBreaks (now (d .entry)) t b ⌝ }
 {
-    if d[OPEN + b] == 0 {
+    if d[OPENED + b] == 0 {
         return 3;
     }
     if (t as u64) < d[BUSY] {
@@ -172,7 +172,7 @@ pub fn write_breaks(d: &Deadlines, t: u32, b: usize) -> u32
     if (t as u64) < d[COLUMN + b] {
         return 8;
     }
-    if (t as u64) < d[DATA] {
+    if (t as u64) < d[BUS] {
         return 12;
     }
     if (t as u64) < d[WRITES] {
@@ -203,7 +203,7 @@ pub fn close_breaks(d: &Deadlines, t: u32, b: usize) -> u32
     if (t as u64) < d[BUSY] {
         return 4;
     }
-    if d[OPEN + b] == 0 {
+    if d[OPENED + b] == 0 {
         return due_breaks(d, t);
     }
     if (t as u64) < d[CLOSE + b] {
@@ -246,7 +246,7 @@ pub fn refresh_breaks(d: &Deadlines, t: u32) -> u32
     if rested != 0 {
         return rested;
     }
-    if (t as u64) < d[DATA] {
+    if (t as u64) < d[BUS] {
         return 12;
     }
     due_breaks(d, t)

@@ -11,7 +11,7 @@ use borrow.Author.Tests.{leb-true, leb-false, le-leb, eq-eqb, ne-eqb, eqb-true, 
 use Rattle.reading.specs.Search.{later, lesser}
 use Rattle.reading.specs.Mode.{h, CL}
 use Rattle.reading.specs.Settings.{Settings}
-use Rattle.deadlines.specs.Deadlines.{OTHER, BUSY, DATA, WRITES, paceOf, at, soonest, autoAfter, readAfter, newWrite, writeAfter}
+use Rattle.deadlines.specs.Deadlines.{OTHER, BUSY, BUS, WRITES, paceOf, at, soonest, autoAfter, readAfter, newWrite, writeAfter}
 use Rattle.deadlines.specs.Deadlines as all
 use Rattle.bridge.specs.Summary.{Held, laid}
 use Rattle.bridge.proofs.Laid.{put, activated, banked, readGiven, writeGiven, stands, auto-laid, cut-laid, new-laid}
@@ -159,7 +159,7 @@ taken d (suc (suc (suc (suc b)))) l = absurd (omega arith)
 -- between requests: the next AUTO REFRESH is in time, and what earlier commands ask is bounded by the next free cycle
 pub record Fair (s : Settings) (d : List ℕ) (free : ℕ) : Type 0 where
   pub rests : (i : ℕ) → i < 4 → at d (all.REST + i) ≤ at d all.DUE
-  pub bus : at d all.DATA ≤ at d all.DUE
+  pub bus : at d all.BUS ≤ at d all.DUE
   pub others : (i : ℕ) → i < 4 → at d (all.OTHER + i) ≤ free + s .tRRD
   pub reads : at d all.READS ≤ free + h (s .mode)
   pub writes : at d all.WRITES ≤ free + h (s .mode)
@@ -176,7 +176,7 @@ module _ (d : List ℕ) (f b : ℕ) (lb : b < 4) where
 pub refresh-same : (d : List ℕ) (f : ℕ) → at d BUSY ≤ f → later f (refreshSoonest (betweenOf d)) ≡ later f (plan.refreshSoonest d)
 unfolding refreshSoonest plan.refreshSoonest soonest betweenOf
 refresh-same d f l =
-    let z : ℕ = over (λ i. at d (all.REST + i)) (at d DATA) in
+    let z : ℕ = over (λ i. at d (all.REST + i)) (at d BUS) in
     ap (λ (y : ℕ). later y z) (sym (later-high f (at d BUSY) l)) ∙ sym (later-group f (at d BUSY) z)
 
 pub refresh-behind : (x : Held) → ((i : ℕ) → i < 4 → x .rest i ≤ plan.refreshSoonest (laid x)) × (x .bus ≤ plan.refreshSoonest (laid x))

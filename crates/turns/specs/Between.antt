@@ -25,11 +25,11 @@ abbrev pub APART : ℕ
 APART = 8
 
 -- rules 11 and 13 for READ, 12 and 13 for WRITE; rule 14; rule 12 for AUTO REFRESH
-abbrev pub READS : ℕ
-READS = 12
+abbrev pub READ-FROM : ℕ
+READ-FROM = 12
 
-abbrev pub WRITES : ℕ
-WRITES = 13
+abbrev pub WRITE-FROM : ℕ
+WRITE-FROM = 13
 
 abbrev pub DUE : ℕ
 DUE = 14
@@ -47,7 +47,7 @@ betweenOf d =
     at d all.REST ∷ at d (all.REST + 1) ∷ at d (all.REST + 2) ∷ at d (all.REST + 3)
     ∷ at d all.AGAIN ∷ at d (all.AGAIN + 1) ∷ at d (all.AGAIN + 2) ∷ at d (all.AGAIN + 3)
     ∷ apart d 0 ∷ apart d 1 ∷ apart d 2 ∷ apart d 3
-    ∷ later (at d all.END) (at d all.READS) ∷ later (at d all.DATA) (at d all.WRITES) ∷ at d all.DUE ∷ at d all.DATA ∷ []
+    ∷ later (at d all.END) (at d all.READS) ∷ later (at d all.BUS) (at d all.WRITES) ∷ at d all.DUE ∷ at d all.BUS ∷ []
 
 unfoldable pub startOf : Settings → List ℕ
 startOf s = set (replicate 16 0) DUE (dueAtStart s)
@@ -58,7 +58,7 @@ unfoldable pub activeSoonest : List ℕ → ℕ → ℕ
 activeSoonest k b = later (at k (REST + b)) (later (at k (AGAIN + b)) (at k (APART + b)))
 
 abbrev pub burstSoonest : Bool → List ℕ → ℕ
-burstSoonest write k = cond write (at k WRITES) (at k READS)
+burstSoonest write k = cond write (at k WRITE-FROM) (at k READ-FROM)
 
 unfoldable pub refreshSoonest : List ℕ → ℕ
 refreshSoonest k = later (at k REST) (later (at k (REST + 1)) (later (at k (REST + 2)) (later (at k (REST + 3)) (at k BUS))))
@@ -99,8 +99,8 @@ apartAfter k from b =
 
 unfoldable pub burstAfter : Bool → Settings → List ℕ → List ℕ → ℕ → List ℕ
 burstAfter write s k m t =
-    cond write (set (set k WRITES (t + at m PAIRS)) READS (t + 1 + at m PAIRS + s .tWTR))
-    (set (set (set k READS (t + at m PAIRS)) WRITES (t + at m LATENCY + at m PAIRS)) BUS (t + at m LATENCY + at m PAIRS))
+    cond write (set (set k WRITE-FROM (t + at m PAIRS)) READ-FROM (t + 1 + at m PAIRS + s .tWTR))
+    (set (set (set k READ-FROM (t + at m PAIRS)) WRITE-FROM (t + at m LATENCY + at m PAIRS)) BUS (t + at m LATENCY + at m PAIRS))
 
 unfoldable pub taking : Settings → List ℕ → List ℕ → Bool → ℕ → Tried → List ℕ
 taking s m k write b r =

@@ -40,9 +40,9 @@ const AGAIN: usize = 4;
 const APART: usize = 8;
 
 // Rules 11 and 13 for READ, 12 and 13 for WRITE; rule 14; rule 12 for AUTO REFRESH.
-const READS: usize = 12;
+const READ_FROM: usize = 12;
 
-const WRITES: usize = 13;
+const WRITE_FROM: usize = 13;
 
 const DUE: usize = 14;
 
@@ -90,9 +90,9 @@ fn burst_soonest(write: bool, k: &Between) -> u64
     ensures { λ r. ⌜ r ≡ is.burstSoonest write (now (k .entry)) ⌝ }
 {
     if write {
-        return k[WRITES];
+        return k[WRITE_FROM];
     }
-    k[READS]
+    k[READ_FROM]
 }
 
 fn refresh_soonest(k: &Between) -> u64
@@ -160,13 +160,13 @@ fn burst_after(write: bool, s: &Settings, k: &mut Between, pace: &Pace, t: u32)
 {
     let pairs = pace[PAIRS];
     if write {
-        k[WRITES] = after(t, pairs);
-        k[READS] = data_after(t, pairs, s[T_WTR]);
+        k[WRITE_FROM] = after(t, pairs);
+        k[READ_FROM] = data_after(t, pairs, s[T_WTR]);
         return;
     }
     let bus = after2(t, pace[LATENCY], pairs);
-    k[READS] = after(t, pairs);
-    k[WRITES] = bus;
+    k[READ_FROM] = after(t, pairs);
+    k[WRITE_FROM] = bus;
     k[BUS] = bus;
 }
 

@@ -2,13 +2,13 @@ use Prim.Native.Nat.{_+_, _-_}
 use native.Mathlib.Omega.{arith}
 use lib.Dec.{eqb}
 use borrow.Author.Tests.{eq-eqb, ne-eqb}
-use Rattle.deadlines.specs.Deadlines.{OPEN, at}
+use Rattle.deadlines.specs.Deadlines.{OPENED, at}
 use Rattle.rules.proofs.Banks.{Passed, none, more, passed, left}
 use Rattle.rules.proofs.all_idle.Statement.{statement}
 use Rattle.rules.proofs.all_idle.Tie as tie
 
 abbrev Inv-banks : tie.InvT-banks
-Inv-banks d i₀ i = Passed (λ j. eqb (at d (OPEN + j)) 0) i
+Inv-banks d i₀ i = Passed (λ j. eqb (at d (OPENED + j)) 0) i
 
 abbrev μ-banks : tie.MeasureT-banks
 μ-banks d i₀ i = 4 - i

@@ -5,13 +5,13 @@ use native.Mathlib.Omega.{arith}
 use lib.Dec.{leb, eqb}
 use borrow.Author.Needs.{needs}
 use borrow.Author.Tests.{eq-eqb, ne-eqb}
-use Rattle.deadlines.specs.Deadlines.{OPEN, WRITTEN, at}
+use Rattle.deadlines.specs.Deadlines.{OPENED, WRITTEN, at}
 use Rattle.rules.proofs.Banks.{Passed, none, more, passed, left}
 use Rattle.rules.proofs.all_written.Statement.{statement}
 use Rattle.rules.proofs.all_written.Tie as tie
 
 abbrev Inv-banks : tie.InvT-banks
-Inv-banks d t i₀ i = Passed (λ j. leb (at d (WRITTEN + j)) t || eqb (at d (OPEN + j)) 0) i
+Inv-banks d t i₀ i = Passed (λ j. leb (at d (WRITTEN + j)) t || eqb (at d (OPENED + j)) 0) i
 
 abbrev μ-banks : tie.MeasureT-banks
 μ-banks d t i₀ i = 4 - i

@@ -4,7 +4,7 @@ use mathlib.Core.Path.{sym, _∙_}
 use lib.Dec.{leb}
 use borrow.Author.Tests.{le-leb, lt-leb}
 use Rattle.reading.specs.Rules.{everyBank}
-use Rattle.deadlines.specs.Deadlines.{REST, DATA, at, Wait, asks, unmet, dueBreaks, allIdle, refreshBreaks}
+use Rattle.deadlines.specs.Deadlines.{REST, BUS, at, Wait, asks, unmet, dueBreaks, allIdle, refreshBreaks}
 use Rattle.deadlines.proofs.Waits.{each-over, each-waits}
 use Rattle.rules.proofs.Banks.{told-broken, told-kept}
 use borrow.Author.Needs.{needs}
@@ -16,7 +16,7 @@ abbrev rests : List ℕ → ℕ → ℕ
 rests d i = at d (REST + i)
 
 abbrev then : List ℕ → List Wait
-then d = asks 12 (at d DATA) ∷ []
+then d = asks 12 (at d BUS) ∷ []
 
 all-idle-requires : tie.Need-all-idle-requires
 all-idle-requires c κs = search needs
