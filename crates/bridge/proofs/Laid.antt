@@ -1,203 +1,156 @@
 -- Reading and writing the forty places, one bank at a time.
 use Prim.Native.Nat.{ℕ, zero, suc, _+_, _%_, _<_}
-use mathlib.Core.Bool.{Bool, true, false, cond}
-use mathlib.Core.Path.{_≡_, refl, sym, ap, _∙_, fun-ext}
+use mathlib.Core.Bool.{Bool, cond}
+use mathlib.Core.Path.{_≡_, refl}
 use native.Mathlib.Omega.{arith}
 use lib.Dec.{eqb}
-use borrow.Author.Tests.{eqb-true}
 use lib.ListN.{set}
 use Rattle.reading.specs.Search.{lesser, later}
 use Rattle.reading.specs.Settings.{Settings}
 use Rattle.deadlines.specs.Deadlines.{OPENED, AGAIN, OTHER, REST, COLUMN, CLOSE, WRITTEN, LOCKED, at, activeAfter, autoAfter, cutWrite, newWrite, restAfter}
-use Rattle.bridge.specs.Summary.{Held, laid}
+use Rattle.bridge.specs.Summary.{BankHeld, ReadHeld, WriteHeld, Held, laid}
+
+-- what holds of each of the four banks
+at-bank : (P : ℕ → Type 0) → P 0 → P 1 → P 2 → P 3 → (b : ℕ) → b < 4 → P b
+at-bank P p₀ p₁ p₂ p₃ zero l = p₀
+at-bank P p₀ p₁ p₂ p₃ (suc zero) l = p₁
+at-bank P p₀ p₁ p₂ p₃ (suc (suc zero)) l = p₂
+at-bank P p₀ p₁ p₂ p₃ (suc (suc (suc zero))) l = p₃
+at-bank P p₀ p₁ p₂ p₃ (suc (suc (suc (suc b)))) l = absurd (omega arith)
 
 -- what stands at the places of bank b
 pub record Stands (x : Held) (b : ℕ) : Type 0 where
-  pub opened : at (laid x) (OPENED + b) ≡ x .opened b
-  pub again : at (laid x) (AGAIN + b) ≡ x .again b
-  pub other : at (laid x) (OTHER + b) ≡ x .other b
-  pub rest : at (laid x) (REST + b) ≡ x .rest b
-  pub column : at (laid x) (COLUMN + b) ≡ x .column b
-  pub close : at (laid x) (CLOSE + b) ≡ x .close b
-  pub written : at (laid x) (WRITTEN + b) ≡ x .written b
-  pub locked : at (laid x) (LOCKED + b) ≡ x .locked b
+  pub opened : at (laid x) (OPENED + b) ≡ x .banks b .opened
+  pub again : at (laid x) (AGAIN + b) ≡ x .banks b .again
+  pub other : at (laid x) (OTHER + b) ≡ x .banks b .other
+  pub rest : at (laid x) (REST + b) ≡ x .banks b .rest
+  pub column : at (laid x) (COLUMN + b) ≡ x .banks b .column
+  pub close : at (laid x) (CLOSE + b) ≡ x .banks b .close
+  pub written : at (laid x) (WRITTEN + b) ≡ x .banks b .written
+  pub locked : at (laid x) (LOCKED + b) ≡ x .banks b .locked
 
 pub stands : (x : Held) (b : ℕ) → b < 4 → Stands x b
-stands x zero l =
-    record { opened = refl; again = refl; other = refl; rest = refl; column = refl; close = refl; written = refl; locked = refl }
-stands x (suc zero) l =
-    record { opened = refl; again = refl; other = refl; rest = refl; column = refl; close = refl; written = refl; locked = refl }
-stands x (suc (suc zero)) l =
-    record { opened = refl; again = refl; other = refl; rest = refl; column = refl; close = refl; written = refl; locked = refl }
-stands x (suc (suc (suc zero))) l =
-    record { opened = refl; again = refl; other = refl; rest = refl; column = refl; close = refl; written = refl; locked = refl }
-stands x (suc (suc (suc (suc b)))) l = absurd (omega arith)
+stands x =
+    at-bank (Stands x)
+    (record { opened = refl; again = refl; other = refl; rest = refl; column = refl; close = refl; written = refl; locked = refl })
+    (record { opened = refl; again = refl; other = refl; rest = refl; column = refl; close = refl; written = refl; locked = refl })
+    (record { opened = refl; again = refl; other = refl; rest = refl; column = refl; close = refl; written = refl; locked = refl })
+    (record { opened = refl; again = refl; other = refl; rest = refl; column = refl; close = refl; written = refl; locked = refl })
 
--- bank b's entry replaced
-abbrev pub put : (ℕ → ℕ) → ℕ → ℕ → ℕ → ℕ
-put f b v i = cond (eqb i b) v (f i)
+-- two summaries are equal group by group
+pub same : {x y : Held} → ((b : ℕ) → x .banks b ≡ y .banks b) → x .read ≡ y .read → x .write ≡ y .write → x .busy ≡ y .busy → x .due ≡ y .due → x ≡ y
+same banks read write busy due = λ u. record { banks = λ b. banks b u; read = read u; write = write u; busy = busy u; due = due u }
 
--- an entry replaced by itself
-pub put-same : (f : ℕ → ℕ) (b v : ℕ) → f b ≡ v → put f b v ≡ f
-put-same f b v e = fun-ext (λ i. go i (eqb i b) refl)
-  where
-    go : (i : ℕ) (w : Bool) → eqb i b ≡ w → cond w v (f i) ≡ f i
-    go i true q = sym e ∙ ap f (sym (eqb-true i b q))
-    go i false q = refl
+pub same-read : {x y : ReadHeld} → x .bus ≡ y .bus → x .reads ≡ y .reads → x .reader ≡ y .reader → x ≡ y
+same-read bus reads reader = λ u. record { bus = bus u; reads = reads u; reader = reader u }
 
--- the entries of bank b replaced: of an ACTIVE, and of whether it is open and from when on it may be opened
-abbrev pub activated : Settings → ℕ → ℕ → Held → Held
-activated s t b x =
-    record {
-      opened = put (x .opened) b 1;
-      again = put (x .again) b (t + s .tRC);
-      other = put (x .other) b (t + s .tRRD);
-      rest = x .rest;
-      column = put (x .column) b (t + s .tRCD);
-      close = put (x .close) b (t + s .tRAS);
-      written = put (x .written) b 0;
-      locked = put (x .locked) b (t + s .tRAS + s .tRP);
-      busy = x .busy;
-      due = x .due;
-      bus = x .bus;
-      reads = x .reads;
-      writes = x .writes;
-      end = x .end;
-      reader = x .reader;
-      writer = x .writer;
-    }
+pub same-write : {x y : WriteHeld} → x .writes ≡ y .writes → x .end ≡ y .end → x .writer ≡ y .writer → x ≡ y
+same-write writes end writer = λ u. record { writes = writes u; end = end u; writer = writer u }
 
-abbrev pub banked : (ℕ → ℕ) → (ℕ → ℕ) → Held → Held
-banked opened rest x =
-    record {
-      opened = opened;
-      again = x .again;
-      other = x .other;
-      rest = rest;
-      column = x .column;
-      close = x .close;
-      written = x .written;
-      locked = x .locked;
-      busy = x .busy;
-      due = x .due;
-      bus = x .bus;
-      reads = x .reads;
-      writes = x .writes;
-      end = x .end;
-      reader = x .reader;
-      writer = x .writer;
-    }
+-- ---- a group replaced
 
--- the entries of the last read, and of the writes
-abbrev pub readGiven : ℕ → ℕ → ℕ → Held → Held
-readGiven bus reads reader x =
-    record {
-      opened = x .opened;
-      again = x .again;
-      other = x .other;
-      rest = x .rest;
-      column = x .column;
-      close = x .close;
-      written = x .written;
-      locked = x .locked;
-      busy = x .busy;
-      due = x .due;
-      bus = bus;
-      reads = reads;
-      writes = x .writes;
-      end = x .end;
-      reader = reader;
-      writer = x .writer;
-    }
+abbrev pub banked : (ℕ → BankHeld) → Held → Held
+banked banks x = record { banks = banks; read = x .read; write = x .write; busy = x .busy; due = x .due }
 
-abbrev pub writeGiven : (ℕ → ℕ) → ℕ → ℕ → ℕ → Held → Held
-writeGiven written writes end writer x =
-    record {
-      opened = x .opened;
-      again = x .again;
-      other = x .other;
-      rest = x .rest;
-      column = x .column;
-      close = x .close;
-      written = written;
-      locked = x .locked;
-      busy = x .busy;
-      due = x .due;
-      bus = x .bus;
-      reads = x .reads;
-      writes = writes;
-      end = end;
-      reader = x .reader;
-      writer = writer;
-    }
+abbrev pub readGiven : ReadHeld → Held → Held
+readGiven read x = record { banks = x .banks; read = read; write = x .write; busy = x .busy; due = x .due }
+
+abbrev pub writeGiven : WriteHeld → Held → Held
+writeGiven write x = record { banks = x .banks; read = x .read; write = write; busy = x .busy; due = x .due }
 
 abbrev pub timed : ℕ → ℕ → Held → Held
-timed busy due x =
+timed busy due x = record { banks = x .banks; read = x .read; write = x .write; busy = busy; due = due }
+
+-- ---- a bank changed: one of them, `own` tells whether this is it
+
+abbrev pub onBank : (Bool → BankHeld → BankHeld) → ℕ → (ℕ → BankHeld) → ℕ → BankHeld
+onBank f b banks i = f (eqb i b) (banks i)
+
+abbrev pub activated : Settings → ℕ → Bool → BankHeld → BankHeld
+activated s t own y =
     record {
-      opened = x .opened;
-      again = x .again;
-      other = x .other;
-      rest = x .rest;
-      column = x .column;
-      close = x .close;
-      written = x .written;
-      locked = x .locked;
-      busy = busy;
-      due = due;
-      bus = x .bus;
-      reads = x .reads;
-      writes = x .writes;
-      end = x .end;
-      reader = x .reader;
-      writer = x .writer;
+      opened = cond own 1 (y .opened);
+      again = cond own (t + s .tRC) (y .again);
+      other = cond own (t + s .tRRD) (y .other);
+      rest = y .rest;
+      column = cond own (t + s .tRCD) (y .column);
+      close = cond own (t + s .tRAS) (y .close);
+      written = cond own 0 (y .written);
+      locked = cond own (t + s .tRAS + s .tRP) (y .locked);
     }
 
-pub active-laid : (s : Settings) (x : Held) (t b : ℕ) → b < 4 → activeAfter s (laid x) t b ≡ laid (activated s t b x)
+-- idle, and to be opened from the cycle c on
+abbrev pub shut : ℕ → Bool → BankHeld → BankHeld
+shut c own y =
+    record {
+      opened = cond own 0 (y .opened);
+      again = y .again;
+      other = y .other;
+      rest = cond own c (y .rest);
+      column = y .column;
+      close = y .close;
+      written = y .written;
+      locked = y .locked;
+    }
+
+abbrev pub writtenTill : ℕ → Bool → BankHeld → BankHeld
+writtenTill c own y =
+    record {
+      opened = y .opened;
+      again = y .again;
+      other = y .other;
+      rest = y .rest;
+      column = y .column;
+      close = y .close;
+      written = cond own c (y .written);
+      locked = y .locked;
+    }
+
+-- by auto precharge, not before tRAS and tRP are over
+abbrev pub autoShut : ℕ → Bool → BankHeld → BankHeld
+autoShut c own y = shut (later (y .locked) c) own y
+
+-- by PRECHARGE, where it is open
+abbrev pub closed : ℕ → Bool → BankHeld → BankHeld
+closed c own y = shut (cond (eqb (y .opened) 0) (y .rest) c) own y
+
+-- its last write cut
+abbrev pub writtenBy : ℕ → Bool → BankHeld → BankHeld
+writtenBy c own y = writtenTill (lesser (y .written) c) own y
+
+-- ---- the same in the forty places
+
+pub active-laid : (s : Settings) (x : Held) (t b : ℕ) → b < 4 → activeAfter s (laid x) t b ≡ laid (banked (onBank (activated s t) b (x .banks)) x)
 unfolding activeAfter
-active-laid s x t zero l = refl
-active-laid s x t (suc zero) l = refl
-active-laid s x t (suc (suc zero)) l = refl
-active-laid s x t (suc (suc (suc zero))) l = refl
-active-laid s x t (suc (suc (suc (suc b)))) l = absurd (omega arith)
+active-laid s x t = at-bank (λ b. activeAfter s (laid x) t b ≡ laid (banked (onBank (activated s t) b (x .banks)) x)) refl refl refl refl
 
-pub auto-laid : (x : Held) (b c : ℕ) → b < 4 →
-    autoAfter (laid x) b c ≡ laid (banked (put (x .opened) b 0) (put (x .rest) b (later (x .locked b) c)) x)
+pub auto-laid : (x : Held) (c b : ℕ) → b < 4 → autoAfter (laid x) b c ≡ laid (banked (onBank (autoShut c) b (x .banks)) x)
 unfolding autoAfter
-auto-laid x zero c l = refl
-auto-laid x (suc zero) c l = refl
-auto-laid x (suc (suc zero)) c l = refl
-auto-laid x (suc (suc (suc zero))) c l = refl
-auto-laid x (suc (suc (suc (suc b)))) c l = absurd (omega arith)
-
-written-laid : (x : Held) (b v : ℕ) → b < 4 → set (laid x) (WRITTEN + b) v ≡ laid (writeGiven (put (x .written) b v) (x .writes) (x .end) (x .writer) x)
-written-laid x zero v l = refl
-written-laid x (suc zero) v l = refl
-written-laid x (suc (suc zero)) v l = refl
-written-laid x (suc (suc (suc zero))) v l = refl
-written-laid x (suc (suc (suc (suc b)))) v l = absurd (omega arith)
+auto-laid x c = at-bank (λ b. autoAfter (laid x) b c ≡ laid (banked (onBank (autoShut c) b (x .banks)) x)) refl refl refl refl
 
 pub cut-laid : (s : Settings) (x : Held) (t : ℕ) →
-    cutWrite s (laid x) t ≡
-    laid (writeGiven (put (x .written) (x .writer % 4) (lesser (x .written (x .writer % 4)) (t + 1 + 0 + s .tWR))) (x .writes) (x .end) (x .writer) x)
+    cutWrite s (laid x) t ≡ laid (banked (onBank (writtenBy (t + 1 + 0 + s .tWR)) (x .write .writer % 4) (x .banks)) x)
 unfolding cutWrite
-cut-laid s x t =
-    let l : x .writer % 4 < 4 = omega arith in
-    rw (stands x (x .writer % 4) l .written) (written-laid x (x .writer % 4) (lesser (x .written (x .writer % 4)) (t + 1 + 0 + s .tWR)) l)
+cut-laid s x t = at-bank Cut refl refl refl refl (x .write .writer % 4) (omega arith)
+  where
+    Cut : ℕ → Type 0
+    Cut b =
+        set (laid x) (WRITTEN + b) (lesser (at (laid x) (WRITTEN + b)) (t + 1 + 0 + s .tWR)) ≡
+        laid (banked (onBank (writtenBy (t + 1 + 0 + s .tWR)) b (x .banks)) x)
 
 pub new-laid : (s : Settings) (x : Held) (t pairs b : ℕ) → b < 4 →
-    newWrite s (laid x) t pairs b ≡ laid (writeGiven (put (x .written) b (t + 1 + pairs + s .tWR)) (x .writes) (t + 1 + pairs + s .tWTR) b x)
+    newWrite s (laid x) t pairs b ≡
+    laid (writeGiven (record { writes = x .write .writes; end = t + 1 + pairs + s .tWTR; writer = b })
+    (banked (onBank (writtenTill (t + 1 + pairs + s .tWR)) b (x .banks)) x))
 unfolding newWrite
-new-laid s x t pairs zero l = refl
-new-laid s x t pairs (suc zero) l = refl
-new-laid s x t pairs (suc (suc zero)) l = refl
-new-laid s x t pairs (suc (suc (suc zero))) l = refl
-new-laid s x t pairs (suc (suc (suc (suc b)))) l = absurd (omega arith)
+new-laid s x t pairs = at-bank New refl refl refl refl
+  where
+    New : ℕ → Type 0
+    New b =
+        newWrite s (laid x) t pairs b ≡
+        laid (writeGiven (record { writes = x .write .writes; end = t + 1 + pairs + s .tWTR; writer = b })
+        (banked (onBank (writtenTill (t + 1 + pairs + s .tWR)) b (x .banks)) x))
 
-pub rest-laid : (x : Held) (b c : ℕ) → b < 4 →
-    restAfter (laid x) b c ≡ laid (banked (put (x .opened) b 0) (put (x .rest) b (cond (eqb (x .opened b) 0) (x .rest b) c)) x)
+pub rest-laid : (x : Held) (c b : ℕ) → b < 4 → restAfter (laid x) b c ≡ laid (banked (onBank (closed c) b (x .banks)) x)
 unfolding restAfter
-rest-laid x zero c l = refl
-rest-laid x (suc zero) c l = refl
-rest-laid x (suc (suc zero)) c l = refl
-rest-laid x (suc (suc (suc zero))) c l = refl
-rest-laid x (suc (suc (suc (suc b)))) c l = absurd (omega arith)
+rest-laid x c = at-bank (λ b. restAfter (laid x) b c ≡ laid (banked (onBank (closed c) b (x .banks)) x)) refl refl refl refl

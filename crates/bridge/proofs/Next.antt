@@ -3,23 +3,23 @@ use Prim.Native.Nat.{ℕ, _+_, _%_, _≤_, _<_}
 use mathlib.Core.Bool.{Bool, true, false, cond, _&&_, _||_, and-false}
 use mathlib.Core.List.{List, [], _∷_, map}
 use mathlib.Core.Option.{Option, none, some, Option·map}
-use mathlib.Core.Path.{_≡_, refl, sym, ap, _∙_, fun-ext}
+use mathlib.Core.Path.{_≡_, refl, sym, ap, _∙_}
 use native.Mathlib.Nat.{mod-eq-of-lt}
 use native.Mathlib.Omega.{arith}
 use lib.Dec.{leb, ltb, eqb, leb·zero}
-use lib.ListN.{getD, set}
-use borrow.Author.Tests.{leb-true, leb-false, le-leb, lt-leb, lt-ltb, eqb-true, eqb-false, ne-eqb, not-true}
+use lib.ListN.{set}
+use borrow.Author.Tests.{leb-true, leb-false, le-leb, lt-leb, lt-ltb, eqb-false, ne-eqb, not-true}
 use Rattle.reading.specs.Search.{ever, find, lesser, later, orZero}
 use Rattle.reading.specs.Mode.{h, CL}
 use Rattle.reading.specs.Settings.{Settings}
 use Rattle.reading.specs.RefreshClock.{clockAfterRefresh}
 use Rattle.reading.specs.Commands.{ACTIVE, READ, WRITE, BURST-TERMINATE, PRECHARGE, AUTO-REFRESH, MODE-REGISTER-SET, NOP, DESELECT, Command, is}
 use Rattle.reading.specs.Bursts.{Burst, reads, dataEnd, cuts, cutBy}
-use Rattle.reading.specs.Part.{Part, Bank, openOn, idleFrom, burstGiven, partAfter, bankWrite}
+use Rattle.reading.specs.Part.{Part, Bank, openOn, idleFrom, burstGiven, partAfter, bankWrite, lastBankWrite}
 use Rattle.reading.proofs.Cuts.{All, nil, cons, auto-uncut}
-use Rattle.deadlines.specs.Deadlines.{paceOf, activeAfter, readAfter, writeAfter, cutRead, closeAfter, closeAllAfter, restAll, restAfter, refreshAfter, modeSetAfter, cutWrite, newWrite, autoAfter, dueAfterRefresh}
-use Rattle.bridge.specs.Summary.{Held, laid, summary, from, ended, cleared, readerOf, writerOf}
-use Rattle.bridge.proofs.Laid.{put, put-same, activated, banked, readGiven, writeGiven, timed, active-laid, auto-laid, cut-laid, new-laid, rest-laid}
+use Rattle.deadlines.specs.Deadlines.{WRITES, READER, at, paceOf, activeAfter, readAfter, writeAfter, cutRead, closeAfter, closeAllAfter, restAll, restAfter, refreshAfter, modeSetAfter, cutWrite, newWrite, autoAfter, dueAfterRefresh}
+use Rattle.bridge.specs.Summary.{BankHeld, Held, laid, summary, bankHeld, writeHeld, from, ended, cleared, readerOf, writerOf}
+use Rattle.bridge.proofs.Laid.{same, same-read, same-write, banked, readGiven, writeGiven, timed, onBank, activated, shut, writtenTill, autoShut, closed, writtenBy, active-laid, auto-laid, cut-laid, new-laid, rest-laid}
 use Rattle.bridge.proofs.Bursts.{blind, uncut, find-same, find-map, held-cut, Given, Late, nothing, read, write, Over, held-over, find-all, find-holds, lesser-low, lesser-add, later-low, later-high, later-add}
 use Rattle.bridge.proofs.Tests.{first-of}
 use Rattle.bridge.proofs.Cut.{cut-until, Latency, same-latency, same-reader}
@@ -35,40 +35,6 @@ pub record Sound (from : ℕ) (p : Part) : Type 0 where
   pub banks : (b : ℕ) → Before from (p .banks b .active)
   pub late : Late from (p .bursts)
   pub latency : Latency from (p .mode) (find reads (p .bursts))
-
--- two summaries are equal entry by entry
-same : {x y : Held} → x .opened ≡ y .opened → x .again ≡ y .again → x .other ≡ y .other → x .rest ≡ y .rest →
-    x .column ≡ y .column → x .close ≡ y .close → x .written ≡ y .written → x .locked ≡ y .locked → x .busy ≡ y .busy → x .due ≡ y .due →
-    x .bus ≡ y .bus → x .reads ≡ y .reads → x .writes ≡ y .writes → x .end ≡ y .end → x .reader ≡ y .reader → x .writer ≡ y .writer → x ≡ y
-same a b c d e f g h i j k l m n o q =
-    λ u.
-    record {
-      opened = a u;
-      again = b u;
-      other = c u;
-      rest = d u;
-      column = e u;
-      close = f u;
-      written = g u;
-      locked = h u;
-      busy = i u;
-      due = j u;
-      bus = k u;
-      reads = l u;
-      writes = m u;
-      end = n u;
-      reader = o u;
-      writer = q u;
-    }
-
--- a field of one of two banks
-either : (F : Bank → ℕ) (x y : Bank) (new : ℕ) → F y ≡ new → (v : Bool) → F (cond v y x) ≡ cond v new (F x)
-either F x y new e true = e
-either F x y new e false = refl
-
-neither : {A : Type 0} (F : Bank → A) (x y : Bank) → F y ≡ F x → (v : Bool) → F (cond v y x) ≡ F x
-neither F x y e true = e
-neither F x y e false = refl
 
 map-same : (f : Burst → Burst) → ((x : Burst) → f x ≡ x) → (xs : List Burst) → map f xs ≡ xs
 map-same f e [] = refl
@@ -143,40 +109,18 @@ module _ (s : Settings) (p : Part) (from₀ t : ℕ) (l : from₀ ≤ t) (g : So
   pub active-next : (b a : ℕ) (ten : Bool) → b < 4 → laid (after (does ACTIVE b a ten)) ≡ activeAfter s (laid X) t b
   active-next b a ten m = ap laid entries ∙ sym (active-laid s X t b m)
     where
-      B : ℕ → Bank
-      B i = p .banks i
-
-      new : ℕ → Bank
-      new i = openOn a t (p .banks i)
-
       cut : map (cutBy t (does ACTIVE b a ten)) xs ≡ xs
       cut = whole (does ACTIVE b a ten) (λ x. none-cut (x .writes))
 
-      written : (i : ℕ) (v : Bool) →
-          ended (find (λ x. x .writes && (eqb i (x .bank) && ever ((cond v (new i) (B i)) .active) (λ c. leb c (x .k)))) xs) (s .tWR) ≡
-          cond v 0 (X .written i)
-      written i true = rw (fresh from₀ t i l (g .bursts))
-      written i false = refl
+      bank : (i : ℕ) (v : Bool) →
+          let k = cond v (openOn a t (p .banks i)) (p .banks i) in
+          bankHeld s k (find (λ x. x .writes && (eqb i (x .bank) && ever (k .active) (λ c. leb c (x .k)))) xs) ≡
+          activated s t v (X .banks i)
+      bank i true = ap (bankHeld s (openOn a t (p .banks i))) (fresh from₀ t i l (g .bursts))
+      bank i false = refl
 
-      entries : after (does ACTIVE b a ten) ≡ activated s t b X
-      entries =
-          same
-          (fun-ext (λ i. either (λ x. cond (x .opened) 1 0) (B i) (new i) 1 refl (eqb i b)))
-          (fun-ext (λ i. either (λ x. from (x .active) (s .tRC)) (B i) (new i) (t + s .tRC) refl (eqb i b)))
-          (fun-ext (λ i. either (λ x. from (x .active) (s .tRRD)) (B i) (new i) (t + s .tRRD) refl (eqb i b)))
-          (fun-ext (λ i. neither (λ x. from (x .precharged) (s .tRP)) (B i) (new i) refl (eqb i b)))
-          (fun-ext (λ i. either (λ x. from (x .active) (s .tRCD)) (B i) (new i) (t + s .tRCD) refl (eqb i b)))
-          (fun-ext (λ i. either (λ x. from (x .active) (s .tRAS)) (B i) (new i) (t + s .tRAS) refl (eqb i b)))
-          (fun-ext (λ i. rw cut (written i (eqb i b))))
-          (fun-ext (λ i. either (λ x. orZero (x .active) + s .tRAS + s .tRP) (B i) (new i) (t + s .tRAS + s .tRP) refl (eqb i b)))
-          refl
-          refl
-          (rw cut)
-          (rw cut)
-          (rw cut)
-          (rw cut)
-          (rw cut)
-          (rw cut)
+      entries : after (does ACTIVE b a ten) ≡ banked (onBank (activated s t) b (X .banks)) X
+      entries = same (λ i. rw cut (bank i (eqb i b))) (rw cut) (rw cut) refl refl
 
   -- ---- what a command that is no WRITE leaves of the writes
 
@@ -192,84 +136,74 @@ module _ (s : Settings) (p : Part) (from₀ t : ℕ) (l : from₀ ≤ t) (g : So
       (λ x h. uncut t c x (rw (first-of (x .writes) _ h, e))) xs
       ∙ ap (λ (v : Option ℕ). find (λ x. x .writes && (eqb i (x .bank) && ever v (λ a. leb a (x .k)))) xs) q
 
+  writes-left : (c : Command) → is WRITE c ≡ false → writeHeld s (map (cutBy t c) xs) ≡ X .write
+  writes-left c e =
+      same-write (held-cut (λ x. x .writes) (λ n x. refl) t c xs) (ap (λ (v : Option Burst). ended v (s .tWTR)) (writes-stay c e)) (ap writerOf (writes-stay c e))
+
+  -- a bank that becomes idle, or not, keeps its ACTIVE and its last write
+  abbrev idled : ℕ → Bank → Bool → Bank
+  idled c k v = cond v (idleFrom c k) k
+
+  keeps-active : (c : ℕ) (k : Bank) (v : Bool) → idled c k v .active ≡ k .active
+  keeps-active c k true = refl
+  keeps-active c k false = refl
+
+  bank-stays : (c : Command) → is WRITE c ≡ false → (e i : ℕ) (v : Bool) →
+      let k = idled e (p .banks i) v in
+      bankHeld s k (find (λ x. x .writes && (eqb i (x .bank) && ever (k .active) (λ a. leb a (x .k)))) (map (cutBy t c) xs)) ≡ bankHeld s k (lastBankWrite p i)
+  bank-stays c w e i v =
+      let k = idled e (p .banks i) v in
+      ap (bankHeld s k) (written-stays c w i (k .active) (keeps-active e (p .banks i) v))
+
   -- ---- auto precharge
 
-  -- the bank of a burst that is open, and every other bank
-  auto-opened : (b i : ℕ) (ten : Bool) (y : Bank) → p .banks b .opened ≡ true → y .opened ≡ false →
-      cond ((cond (eqb i b && ten) y (p .banks i)) .opened) 1 0 ≡ put (X .opened) b (cond ten 0 1) i
-  auto-opened b i ten y o z = go (eqb i b) refl ten
-    where
-      go : (v : Bool) → eqb i b ≡ v → (w : Bool) → cond ((cond (v && w) y (p .banks i)) .opened) 1 0 ≡ cond v (cond w 0 1) (X .opened i)
-      go true e true = rw z
-      go true e false = rw (eqb-true i b e, o)
-      go false e w = refl
+  -- READ or WRITE of bank b: its bank is shut if it has auto precharge
+  abbrev autoBanks : Bool → ℕ → ℕ → (ℕ → BankHeld) → ℕ → BankHeld
+  autoBanks ten c b banks i = cond ten (onBank (autoShut c) b banks i) (banks i)
 
-  auto-rest : (b i : ℕ) (ten : Bool) (c : ℕ) →
-      from ((cond (eqb i b && ten) (idleFrom (later (orZero (p .banks i .active) + s .tRAS) c) (p .banks i)) (p .banks i)) .precharged) (s .tRP) ≡
-      put (X .rest) b (cond ten (later (X .locked b) (c + s .tRP)) (X .rest b)) i
-  auto-rest b i ten c = go (eqb i b) refl ten
-    where
-      go : (v : Bool) → eqb i b ≡ v → (w : Bool) →
-          from ((cond (v && w) (idleFrom (later (orZero (p .banks i .active) + s .tRAS) c) (p .banks i)) (p .banks i)) .precharged) (s .tRP) ≡
-          cond v (cond w (later (X .locked b) (c + s .tRP)) (X .rest b)) (X .rest i)
-      go true e true =
-          sym (later-add (s .tRP) (orZero (p .banks i .active) + s .tRAS) c)
-          ∙ ap (λ (j : ℕ). later (orZero (p .banks j .active) + s .tRAS + s .tRP) (c + s .tRP)) (eqb-true i b e)
-      go true e false = ap (λ (j : ℕ). from (p .banks j .precharged) (s .tRP)) (eqb-true i b e)
-      go false e w = refl
+  abbrev idleAt : ℕ → Bank → ℕ
+  idleAt c k = later (orZero (k .active) + s .tRAS) c
 
-  -- a bank that stays open
-  left-open : (b : ℕ) → p .banks b .opened ≡ true → (x : Held) → laid (banked (put (X .opened) b 1) (put (X .rest) b (X .rest b)) x) ≡ laid (banked (X .opened) (X .rest) x)
-  left-open b o x = λ i. laid (banked (put-same (X .opened) b 1 (rw o) i) (put-same (X .rest) b (X .rest b) refl i) x)
+  auto-bank : (k : Bank) (w : Option Burst) (c : ℕ) (v ten : Bool) →
+      bankHeld s (idled (idleAt c k) k (v && ten)) w ≡
+      cond ten (autoShut (c + s .tRP) v (bankHeld s k w)) (bankHeld s k w)
+  auto-bank k w c true true = ap (λ (r : ℕ). shut r true (bankHeld s k w)) (sym (later-add (s .tRP) (orZero (k .active) + s .tRAS) c))
+  auto-bank k w c true false = refl
+  auto-bank k w c false true = refl
+  auto-bank k w c false false = refl
 
   held-new : (auto : Bool) (c H : ℕ) → H ≤ c → later (cond auto c 0) H ≡ cond auto c H
   held-new true c H q = later-high c H q
   held-new false c H q = rw (leb·zero H)
 
-  pub read-next : (b a : ℕ) (ten : Bool) → b < 4 → p .banks b .opened ≡ true → X .reads ≤ t →
-      laid (after (does READ b a ten)) ≡ readAfter s (laid X) (paceOf (p .mode)) t b ten
+  pub read-next : (b a : ℕ) (ten : Bool) → b < 4 → X .read .reads ≤ t → laid (after (does READ b a ten)) ≡ readAfter s (laid X) (paceOf (p .mode)) t b ten
   unfolding readAfter
-  read-next b a ten m o q = ap laid entries ∙ stored ten
+  read-next b a ten m q = ap laid entries ∙ stored ten
     where
-      given : Bool → Held
-      given v = readGiven (t + CL (p .mode) + h (p .mode)) (cond v (t + h (p .mode)) (X .reads)) (cond v 4 b) X
-
-      stored : (v : Bool) →
-          laid (banked (put (X .opened) b (cond v 0 1)) (put (X .rest) b (cond v (later (X .locked b) (t + h (p .mode) + s .tRP)) (X .rest b))) (given v)) ≡
-          readAfter s (laid X) (paceOf (p .mode)) t b v
-      stored true = sym (auto-laid (given true) b (t + h (p .mode) + s .tRP) m)
-      stored false = left-open b o (given false)
-
       c : Command
       c = does READ b a ten
 
-      y : ℕ → Bank
-      y i = idleFrom (later (orZero (p .banks i .active) + s .tRAS) (t + h (p .mode))) (p .banks i)
+      over : ℕ
+      over = t + h (p .mode)
 
-      keeps-active : (i : ℕ) → (cond (eqb i b && ten) (y i) (p .banks i)) .active ≡ p .banks i .active
-      keeps-active i = neither (λ x. x .active) (p .banks i) (y i) refl (eqb i b && ten)
+      given : Bool → Held
+      given v = readGiven (record { bus = t + CL (p .mode) + h (p .mode); reads = cond v over (X .read .reads); reader = cond v 4 b }) X
 
-      entries : after c ≡
-          banked (put (X .opened) b (cond ten 0 1)) (put (X .rest) b (cond ten (later (X .locked b) (t + h (p .mode) + s .tRP)) (X .rest b)))
-          (given ten)
+      stored : (v : Bool) → laid (banked (autoBanks v (over + s .tRP) b (X .banks)) (given v)) ≡ readAfter s (laid X) (paceOf (p .mode)) t b v
+      stored true = sym (auto-laid (given true) (over + s .tRP) b m)
+      stored false = refl
+
+      bank : (i : ℕ) → after c .banks i ≡ autoBanks ten (over + s .tRP) b (X .banks) i
+      bank i =
+          bank-stays c refl (idleAt over (p .banks i)) i (eqb i b && ten)
+          ∙ auto-bank (p .banks i) (lastBankWrite p i) over (eqb i b) ten
+
+      entries : after c ≡ banked (autoBanks ten (over + s .tRP) b (X .banks)) (given ten)
       entries =
-          same
-          (fun-ext (λ i. auto-opened b i ten (y i) o refl))
-          (fun-ext (λ i. ap (λ (v : Option ℕ). from v (s .tRC)) (keeps-active i)))
-          (fun-ext (λ i. ap (λ (v : Option ℕ). from v (s .tRRD)) (keeps-active i)))
-          (fun-ext (λ i. auto-rest b i ten (t + h (p .mode))))
-          (fun-ext (λ i. ap (λ (v : Option ℕ). from v (s .tRCD)) (keeps-active i)))
-          (fun-ext (λ i. ap (λ (v : Option ℕ). from v (s .tRAS)) (keeps-active i)))
-          (fun-ext (λ i. ap (λ (v : Option Burst). ended v (s .tWR)) (written-stays c refl i _ (keeps-active i))))
-          (fun-ext (λ i. ap (λ (v : Option ℕ). orZero v + s .tRAS + s .tRP) (keeps-active i)))
-          refl
-          refl
-          refl
-          (rw (held-cut reads (λ n x. refl) t c xs) (held-new ten (t + h (p .mode)) (X .reads) (omega (arith, q))))
-          (rw (held-cut (λ x. x .writes) (λ n x. refl) t c xs, leb·zero (X .writes)))
-          (rw (writes-stay c refl))
-          refl
-          (rw (writes-stay c refl))
+          same bank
+          (same-read refl (rw (held-cut reads (λ n x. refl) t c xs) (held-new ten over (X .read .reads) (omega (arith, q)))) refl)
+          (same-write (rw (held-cut (λ x. x .writes) (λ n x. refl) t c xs, leb·zero (X .write .writes))) (rw (writes-stay c refl)) (rw (writes-stay c refl)))
+          refl refl
 
   -- ---- WRITE: every write's data now ends by t + 1; only the last one's could end later
 
@@ -305,7 +239,7 @@ module _ (s : Settings) (p : Part) (from₀ t : ℕ) (l : from₀ ≤ t) (g : So
       found : find (bankWrite p i) ys ≡ some x
       found = rw (other, and-false (y .writes)) at e
 
-  writer-small : X .writer % 4 ≡ X .writer
+  writer-small : X .write .writer % 4 ≡ X .write .writer
   writer-small = go (find isWrite xs) refl
     where
       go : (o : Option Burst) → find isWrite xs ≡ o → writerOf o % 4 ≡ writerOf o
@@ -313,10 +247,10 @@ module _ (s : Settings) (p : Part) (from₀ t : ℕ) (l : from₀ ≤ t) (g : So
       go (some x) e = mod-eq-of-lt (find-all isWrite (g .bursts) e .bank)
 
   -- the entry of bank i that is not written now
-  cut-written : (b a : ℕ) (ten : Bool) → X .writes ≤ t → (i : ℕ) (o : Option Burst) → find (bankWrite p i) xs ≡ o →
+  cut-written : (b a : ℕ) (ten : Bool) → X .write .writes ≤ t → (i : ℕ) (o : Option Burst) → find (bankWrite p i) xs ≡ o →
       ended (Option·map (cutBy t (does WRITE b a ten)) o) (s .tWR) ≡
-      put (X .written) (X .writer % 4) (lesser (X .written (X .writer % 4)) (t + 1 + 0 + s .tWR)) i
-  cut-written b a ten q i o e = rw writer-small (go (eqb i (X .writer)) refl o e)
+      cond (eqb i (X .write .writer % 4)) (lesser (X .banks i .written) (t + 1 + 0 + s .tWR)) (X .banks i .written)
+  cut-written b a ten q i o e = rw writer-small (go (eqb i (X .write .writer)) refl o e)
     where
       c : Command
       c = does WRITE b a ten
@@ -326,94 +260,88 @@ module _ (s : Settings) (p : Part) (from₀ t : ℕ) (l : from₀ ≤ t) (g : So
           write-end b a ten x (find-all (bankWrite p i) (g .bursts) f) (find-all (bankWrite p i) (held-over isWrite t xs q) f)
           (first-of (x .writes) _ (find-holds (bankWrite p i) xs f))
 
-      go : (v : Bool) → eqb i (X .writer) ≡ v → (o : Option Burst) → find (bankWrite p i) xs ≡ o →
-          ended (Option·map (cutBy t c) o) (s .tWR) ≡ cond v (lesser (X .written (X .writer)) (t + 1 + 0 + s .tWR)) (X .written i)
+      go : (v : Bool) → eqb i (X .write .writer) ≡ v → (o : Option Burst) → find (bankWrite p i) xs ≡ o →
+          ended (Option·map (cutBy t c) o) (s .tWR) ≡ cond v (lesser (X .banks i .written) (t + 1 + 0 + s .tWR)) (X .banks i .written)
       go true f none h =
-          sym (ap (λ (j : ℕ). lesser (X .written j) (t + 1 + 0 + s .tWR)) (sym (eqb-true i (X .writer) f))
-          ∙ ap (λ (u : Option Burst). lesser (ended u (s .tWR)) (t + 1 + 0 + s .tWR)) h ∙ lesser-low 0 (t + 1 + 0 + s .tWR) (omega arith))
+          sym (ap (λ (u : Option Burst). lesser (ended u (s .tWR)) (t + 1 + 0 + s .tWR)) h ∙ lesser-low 0 (t + 1 + 0 + s .tWR) (omega arith))
       go true f (some x) h =
           ap (λ (u : ℕ). u + s .tWR) (is-written x h) ∙ sym (lesser-add (s .tWR) (dataEnd x) (t + 1))
           ∙ ap (λ (u : ℕ). lesser (dataEnd x + s .tWR) (u + s .tWR)) (omega arith)
           ∙ ap (λ (u : Option Burst). lesser (ended u (s .tWR)) (t + 1 + 0 + s .tWR)) (sym h)
-          ∙ ap (λ (j : ℕ). lesser (X .written j) (t + 1 + 0 + s .tWR)) (eqb-true i (X .writer) f)
       go false f none h = ap (λ (u : Option Burst). ended u (s .tWR)) (sym h)
       go false f (some x) h =
           ap (λ (u : ℕ). u + s .tWR)
-          (is-written x h ∙ lesser-low (dataEnd x) (t + 1) (omega (arith, ended-other (g .late) i x h (eqb-false i (X .writer) f))))
+          (is-written x h ∙ lesser-low (dataEnd x) (t + 1) (omega (arith, ended-other (g .late) i x h (eqb-false i (X .write .writer) f))))
           ∙ ap (λ (u : Option Burst). ended u (s .tWR)) (sym h)
 
   open-by : (i : ℕ) (o : Option ℕ) → Before from₀ o → ever o (λ a. leb a t) ≡ true
   open-by i none q = refl
   open-by i (some a) q = le-leb a t (omega arith)
 
-  pub write-next : (b a : ℕ) (ten : Bool) → b < 4 → p .banks b .opened ≡ true → X .writes ≤ t →
+  pub write-next : (b a : ℕ) (ten : Bool) → b < 4 → X .write .writes ≤ t →
       laid (after (does WRITE b a ten)) ≡ writeAfter s (laid X) (paceOf (p .mode)) t b ten
   unfolding writeAfter
-  write-next b a ten m o q = ap laid entries ∙ stored ten
+  write-next b a ten m q = ap laid entries ∙ stored ten
     where
       c : Command
       c = does WRITE b a ten
 
-      W : ℕ → ℕ
-      W = put (X .written) (X .writer % 4) (lesser (X .written (X .writer % 4)) (t + 1 + 0 + s .tWR))
+      new : ℕ
+      new = t + 1 + h (p .mode) + s .tWR
+
+      -- the last write cut, and the new one
+      cut : ℕ → BankHeld
+      cut = onBank (writtenBy (t + 1 + 0 + s .tWR)) (X .write .writer % 4) (X .banks)
+
+      W : ℕ → BankHeld
+      W = onBank (writtenTill new) b cut
 
       given : Bool → Held
-      given v = writeGiven (put W b (t + 1 + h (p .mode) + s .tWR)) (cond v (t + h (p .mode)) (X .writes)) (t + 1 + h (p .mode) + s .tWTR) b X
+      given v =
+          writeGiven (record { writes = cond v (t + h (p .mode)) (X .write .writes); end = t + 1 + h (p .mode) + s .tWTR; writer = b })
+          (banked W X)
 
       new-stored : newWrite s (cutWrite s (laid X) t) t (h (p .mode)) b ≡ laid (given false)
-      new-stored =
-          ap (λ (d : List ℕ). newWrite s d t (h (p .mode)) b) (cut-laid s X t)
-          ∙ new-laid s (writeGiven W (X .writes) (X .end) (X .writer) X) t (h (p .mode)) b m
+      new-stored = ap (λ (d : List ℕ). newWrite s d t (h (p .mode)) b) (cut-laid s X t) ∙ new-laid s (banked cut X) t (h (p .mode)) b m
 
-      stored : (v : Bool) →
-          laid (banked (put (X .opened) b (cond v 0 1)) (put (X .rest) b (cond v (later (X .locked b) (t + 1 + h (p .mode) + s .tWR + s .tRP)) (X .rest b))) (given v)) ≡
-          writeAfter s (laid X) (paceOf (p .mode)) t b v
+      stored : (v : Bool) → laid (banked (autoBanks v (new + s .tRP) b W) (given v)) ≡ writeAfter s (laid X) (paceOf (p .mode)) t b v
       stored true =
-          sym (ap (λ (d : List ℕ). autoAfter (set d 36 (t + h (p .mode))) b (t + 1 + h (p .mode) + s .tWR + s .tRP)) new-stored
-          ∙ auto-laid (given true) b (t + 1 + h (p .mode) + s .tWR + s .tRP) m)
-      stored false = left-open b o (given false) ∙ sym new-stored
-
-      y : ℕ → Bank
-      y i = idleFrom (later (orZero (p .banks i .active) + s .tRAS) (t + 1 + h (p .mode) + s .tWR)) (p .banks i)
-
-      keeps-active : (i : ℕ) → (cond (eqb i b && ten) (y i) (p .banks i)) .active ≡ p .banks i .active
-      keeps-active i = neither (λ x. x .active) (p .banks i) (y i) refl (eqb i b && ten)
+          sym (ap (λ (d : List ℕ). autoAfter (set d WRITES (t + h (p .mode))) b (new + s .tRP)) new-stored
+          ∙ auto-laid (given true) (new + s .tRP) b m)
+      stored false = sym new-stored
 
       reads-whole : find reads (map (cutBy t c) xs) ≡ find reads xs
       reads-whole = reads-stay c (λ x f. rw f)
 
-      written : (i : ℕ) (u : Option ℕ) → u ≡ p .banks i .active → (v : Bool) → eqb i b ≡ v →
-          ended
-          (cond (v && ever u (λ r. leb r t)) (some (burstGiven s p t c))
-          (find (λ x. x .writes && (eqb i (x .bank) && ever u (λ r. leb r (x .k)))) (map (cutBy t c) xs))) (s .tWR) ≡
-          cond v (t + 1 + h (p .mode) + s .tWR) (W i)
-      written i u e true f = rw (e, open-by i (p .banks i .active) (g .banks i))
-      written i u e false f =
+      -- the last write to bank i since its ACTIVE, which is u
+      last : ℕ → Option ℕ → Bool → Option Burst
+      last i u v =
+          cond (v && ever u (λ r. leb r t)) (some (burstGiven s p t c))
+          (find (λ x. x .writes && (eqb i (x .bank) && ever u (λ r. leb r (x .k)))) (map (cutBy t c) xs))
+
+      written : (i : ℕ) (u : Option ℕ) → u ≡ p .banks i .active → (v : Bool) →
+          ended (last i u v) (s .tWR) ≡ cond v new (cond (eqb i (X .write .writer % 4)) (lesser (X .banks i .written) (t + 1 + 0 + s .tWR)) (X .banks i .written))
+      written i u e true = rw (e, open-by i (p .banks i .active) (g .banks i))
+      written i u e false =
           ap (λ (r : Option ℕ). ended (find (λ x. x .writes && (eqb i (x .bank) && ever r (λ n. leb n (x .k)))) (map (cutBy t c) xs)) (s .tWR)) e
           ∙ ap (λ (r : Option Burst). ended r (s .tWR)) (find-map (bankWrite p i) (cutBy t c) (blind (bankWrite p i) (λ n x. refl) t c) xs)
           ∙ cut-written b a ten q i (find (bankWrite p i) xs) refl
 
-      entries : after c ≡
-          banked (put (X .opened) b (cond ten 0 1))
-          (put (X .rest) b (cond ten (later (X .locked b) (t + 1 + h (p .mode) + s .tWR + s .tRP)) (X .rest b))) (given ten)
+      bank : (i : ℕ) → after c .banks i ≡ autoBanks ten (new + s .tRP) b W i
+      bank i =
+          let k = p .banks i in
+          let idle = idleAt new k in
+          let active = idled idle k (eqb i b && ten) .active in
+          auto-bank k (last i active (eqb i b)) new (eqb i b) ten
+          ∙ ap (λ (n : ℕ). let y = writtenTill n true (X .banks i) in cond ten (autoShut (new + s .tRP) (eqb i b) y) y)
+          (written i active (keeps-active idle k (eqb i b && ten)) (eqb i b))
+
+      entries : after c ≡ banked (autoBanks ten (new + s .tRP) b W) (given ten)
       entries =
-          same
-          (fun-ext (λ i. auto-opened b i ten (y i) o refl))
-          (fun-ext (λ i. ap (λ (v : Option ℕ). from v (s .tRC)) (keeps-active i)))
-          (fun-ext (λ i. ap (λ (v : Option ℕ). from v (s .tRRD)) (keeps-active i)))
-          (fun-ext (λ i. auto-rest b i ten (t + 1 + h (p .mode) + s .tWR)))
-          (fun-ext (λ i. ap (λ (v : Option ℕ). from v (s .tRCD)) (keeps-active i)))
-          (fun-ext (λ i. ap (λ (v : Option ℕ). from v (s .tRAS)) (keeps-active i)))
-          (fun-ext (λ i. written i _ (keeps-active i) (eqb i b) refl))
-          (fun-ext (λ i. ap (λ (v : Option ℕ). orZero v + s .tRAS + s .tRP) (keeps-active i)))
-          refl
-          refl
-          (rw reads-whole)
-          (rw (held-cut reads (λ n x. refl) t c xs, leb·zero (X .reads)))
-          (rw (held-cut isWrite (λ n x. refl) t c xs) (held-new ten (t + h (p .mode)) (X .writes) (omega (arith, q))))
-          refl
-          (rw reads-whole)
-          refl
+          same bank
+          (same-read (rw reads-whole) (rw (held-cut reads (λ n x. refl) t c xs, leb·zero (X .read .reads))) (rw reads-whole))
+          (same-write (rw (held-cut isWrite (λ n x. refl) t c xs) (held-new ten (t + h (p .mode)) (X .write .writes) (omega (arith, q)))) refl refl)
+          refl refl
 
   -- ---- cuts of reads
 
@@ -431,12 +359,12 @@ module _ (s : Settings) (p : Part) (from₀ t : ℕ) (l : from₀ ≤ t) (g : So
   found-cut : (c : Command) → find reads (map (cutBy t c) xs) ≡ Option·map (cutBy t c) (find reads xs)
   found-cut c = find-map reads (cutBy t c) (blind reads (λ n x. refl) t c) xs
 
-  same-reads : (c : Command) → readerOf (find reads (map (cutBy t c) xs)) ≡ X .reader
+  same-reads : (c : Command) → readerOf (find reads (map (cutBy t c) xs)) ≡ X .read .reader
   same-reads c = ap readerOf (found-cut c) ∙ same-reader t c (find reads xs)
 
   -- BURST TERMINATE cuts the last read, unless it has auto precharge and so is over
-  bus-ends : (b a : ℕ) (ten : Bool) → X .reads ≤ t →
-      cleared (find reads (map (cutBy t (does BURST-TERMINATE b a ten)) xs)) ≡ lesser (X .bus) (t + CL (p .mode))
+  bus-ends : (b a : ℕ) (ten : Bool) → X .read .reads ≤ t →
+      cleared (find reads (map (cutBy t (does BURST-TERMINATE b a ten)) xs)) ≡ lesser (X .read .bus) (t + CL (p .mode))
   bus-ends b a ten q = ap cleared (found-cut c) ∙ go (find reads xs) refl (g .latency)
     where
       c : Command
@@ -449,29 +377,23 @@ module _ (s : Settings) (p : Part) (from₀ t : ℕ) (l : from₀ ≤ t) (g : So
           cut-clear c x f y (rw (not-true (x .writes) (find-holds reads xs f)))
           (λ a. find-all reads (held-over reads t xs q) f .by (find-holds reads xs f) a)
 
-  pub terminate-next : (b a : ℕ) (ten : Bool) → X .reads ≤ t → laid (after (does BURST-TERMINATE b a ten)) ≡ cutRead (laid X) (paceOf (p .mode)) t true
+  pub terminate-next : (b a : ℕ) (ten : Bool) → X .read .reads ≤ t → laid (after (does BURST-TERMINATE b a ten)) ≡ cutRead (laid X) (paceOf (p .mode)) t true
   unfolding cutRead
   terminate-next b a ten q = ap laid entries
     where
       c : Command
       c = does BURST-TERMINATE b a ten
 
-      entries : after c ≡ readGiven (lesser (X .bus) (t + CL (p .mode))) (X .reads) (X .reader) X
-      entries =
-          same refl refl refl refl refl refl
-          (fun-ext (λ i. ap (λ (v : Option Burst). ended v (s .tWR)) (written-stays c refl i _ refl)))
-          refl refl refl
-          (bus-ends b a ten q)
-          (held-cut reads (λ n x. refl) t c xs)
-          (held-cut isWrite (λ n x. refl) t c xs)
-          (rw (writes-stay c refl))
-          (same-reads c)
-          (rw (writes-stay c refl))
+      bank : (i : ℕ) → after c .banks i ≡ X .banks i
+      bank i = ap (bankHeld s (p .banks i)) (written-stays c refl i _ refl)
+
+      entries : after c ≡ readGiven (record { bus = lesser (X .read .bus) (t + CL (p .mode)); reads = X .read .reads; reader = X .read .reader }) X
+      entries = same bank (same-read (bus-ends b a ten q) (held-cut reads (λ n x. refl) t c xs) (same-reads c)) (writes-left c refl) refl refl
 
   -- PRECHARGE cuts the last read if the reader, which is 4 for auto precharge, is a bank that it names
   bus-closes : (b a : ℕ) (ten : Bool) (named : ℕ → Bool) → named 4 ≡ false →
       ((x : Burst) → find reads xs ≡ some x → (ten || eqb (x .bank) b) ≡ named (x .bank)) →
-      cleared (find reads (map (cutBy t (does PRECHARGE b a ten)) xs)) ≡ cond (named (X .reader)) (lesser (X .bus) (t + CL (p .mode))) (X .bus)
+      cleared (find reads (map (cutBy t (does PRECHARGE b a ten)) xs)) ≡ cond (named (X .read .reader)) (lesser (X .read .bus) (t + CL (p .mode))) (X .read .bus)
   bus-closes b a ten named four e = ap cleared (found-cut c) ∙ go (find reads xs) refl (g .latency)
     where
       c : Command
@@ -497,69 +419,40 @@ module _ (s : Settings) (p : Part) (from₀ t : ℕ) (l : from₀ ≤ t) (g : So
       go (some x) f y = by x f y (x .auto) refl (named (x .bank)) refl
 
   -- a bank that a PRECHARGE names, where it is open
-  rests : (i : ℕ) (v : Bool) → from ((cond (p .banks i .opened && v) (idleFrom t (p .banks i)) (p .banks i)) .precharged) (s .tRP) ≡
-      cond v (cond (eqb (X .opened i) 0) (X .rest i) (t + s .tRP)) (X .rest i)
-  rests i v = go (p .banks i .opened) v
-    where
-      go : (o v : Bool) → from ((cond (o && v) (idleFrom t (p .banks i)) (p .banks i)) .precharged) (s .tRP) ≡
-          cond v (cond (eqb (cond o 1 0) 0) (X .rest i) (t + s .tRP)) (X .rest i)
-      go true true = refl
-      go true false = refl
-      go false true = refl
-      go false false = refl
+  close-bank : (o : Bool) (row : ℕ) (active precharged : Option ℕ) (w : Option Burst) (v : Bool) →
+      let k : Bank = record { opened = o; row = row; active = active; precharged = precharged } in
+      bankHeld s (cond (o && v) (idleFrom t k) k) w ≡ closed (t + s .tRP) v (bankHeld s k w)
+  close-bank true row active precharged w true = refl
+  close-bank true row active precharged w false = refl
+  close-bank false row active precharged w true = refl
+  close-bank false row active precharged w false = refl
 
-  shuts : (i : ℕ) (v : Bool) → cond ((cond (p .banks i .opened && v) (idleFrom t (p .banks i)) (p .banks i)) .opened) 1 0 ≡ cond v 0 (X .opened i)
-  shuts i v = go (p .banks i .opened) refl v
-    where
-      go : (o : Bool) → p .banks i .opened ≡ o → (v : Bool) →
-          cond ((cond (o && v) (idleFrom t (p .banks i)) (p .banks i)) .opened) 1 0 ≡ cond v 0 (X .opened i)
-      go true e true = refl
-      go true e false = refl
-      go false e true = rw e
-      go false e false = refl
+  closed-is : (b a : ℕ) (ten : Bool) (i : ℕ) (v : Bool) →
+      let k = idled t (p .banks i) (p .banks i .opened && v) in
+      let found = find (λ x. x .writes && (eqb i (x .bank) && ever (k .active) (λ r. leb r (x .k)))) (map (cutBy t (does PRECHARGE b a ten)) xs) in
+      bankHeld s k found ≡ closed (t + s .tRP) v (X .banks i)
+  closed-is b a ten i v =
+      let k = p .banks i in
+      bank-stays (does PRECHARGE b a ten) refl t i (k .opened && v)
+      ∙ close-bank (k .opened) (k .row) (k .active) (k .precharged) (lastBankWrite p i) v
 
   pub close-next : (b a : ℕ) → b < 4 → laid (after (does PRECHARGE b a false)) ≡ closeAfter s (laid X) (paceOf (p .mode)) t b
   unfolding closeAfter cutRead
   close-next b a m =
       ap laid entries
-      ∙ sym (ap (λ (d : List ℕ). cutRead d (paceOf (p .mode)) t (eqb (getD d 38 0) b)) (rest-laid X b (t + s .tRP) m))
+      ∙ sym (ap (λ (d : List ℕ). cutRead d (paceOf (p .mode)) t (eqb (at d READER) b)) (rest-laid X (t + s .tRP) b m))
     where
       c : Command
       c = does PRECHARGE b a false
 
-      y : ℕ → Bank
-      y i = idleFrom t (p .banks i)
+      bus : ℕ
+      bus = cond (eqb (X .read .reader) b) (lesser (X .read .bus) (t + CL (p .mode))) (X .read .bus)
 
-      keeps-active : (i : ℕ) → (cond (p .banks i .opened && eqb i b) (y i) (p .banks i)) .active ≡ p .banks i .active
-      keeps-active i = neither (λ x. x .active) (p .banks i) (y i) refl (p .banks i .opened && eqb i b)
-
-      at-own : (i : ℕ) (v : Bool) → eqb i b ≡ v →
-          cond v (cond (eqb (X .opened i) 0) (X .rest i) (t + s .tRP)) (X .rest i) ≡
-          cond v (cond (eqb (X .opened b) 0) (X .rest b) (t + s .tRP)) (X .rest i)
-      at-own i true e = ap (λ (j : ℕ). cond (eqb (X .opened j) 0) (X .rest j) (t + s .tRP)) (eqb-true i b e)
-      at-own i false e = refl
-
-      entries : after c ≡
-          readGiven (cond (eqb (X .reader) b) (lesser (X .bus) (t + CL (p .mode))) (X .bus)) (X .reads) (X .reader)
-          (banked (put (X .opened) b 0) (put (X .rest) b (cond (eqb (X .opened b) 0) (X .rest b) (t + s .tRP))) X)
+      entries : after c ≡ readGiven (record { bus = bus; reads = X .read .reads; reader = X .read .reader }) (banked (onBank (closed (t + s .tRP)) b (X .banks)) X)
       entries =
-          same
-          (fun-ext (λ i. shuts i (eqb i b)))
-          (fun-ext (λ i. ap (λ (v : Option ℕ). from v (s .tRC)) (keeps-active i)))
-          (fun-ext (λ i. ap (λ (v : Option ℕ). from v (s .tRRD)) (keeps-active i)))
-          (fun-ext (λ i. rests i (eqb i b) ∙ at-own i (eqb i b) refl))
-          (fun-ext (λ i. ap (λ (v : Option ℕ). from v (s .tRCD)) (keeps-active i)))
-          (fun-ext (λ i. ap (λ (v : Option ℕ). from v (s .tRAS)) (keeps-active i)))
-          (fun-ext (λ i. ap (λ (v : Option Burst). ended v (s .tWR)) (written-stays c refl i _ (keeps-active i))))
-          (fun-ext (λ i. ap (λ (v : Option ℕ). orZero v + s .tRAS + s .tRP) (keeps-active i)))
-          refl
-          refl
-          (bus-closes b a false (λ i. eqb i b) (ne-eqb 4 b (omega arith)) (λ x f. refl))
-          (held-cut reads (λ n x. refl) t c xs)
-          (held-cut isWrite (λ n x. refl) t c xs)
-          (rw (writes-stay c refl))
-          (same-reads c)
-          (rw (writes-stay c refl))
+          same (λ i. closed-is b a false i (eqb i b))
+          (same-read (bus-closes b a false (λ i. eqb i b) (ne-eqb 4 b (omega arith)) (λ x f. refl)) (held-cut reads (λ n x. refl) t c xs) (same-reads c))
+          (writes-left c refl) refl refl
 
   pub close-all-next : (b a : ℕ) → laid (after (does PRECHARGE b a true)) ≡ closeAllAfter s (laid X) (paceOf (p .mode)) t
   unfolding closeAllAfter cutRead restAll restAfter
@@ -568,33 +461,15 @@ module _ (s : Settings) (p : Part) (from₀ t : ℕ) (l : from₀ ≤ t) (g : So
       c : Command
       c = does PRECHARGE b a true
 
-      y : ℕ → Bank
-      y i = idleFrom t (p .banks i)
-
-      keeps-active : (i : ℕ) → (cond (p .banks i .opened && true) (y i) (p .banks i)) .active ≡ p .banks i .active
-      keeps-active i = neither (λ x. x .active) (p .banks i) (y i) refl (p .banks i .opened && true)
-
       small : (x : Burst) → find reads xs ≡ some x → true ≡ ltb (x .bank) 4
       small x f = sym (lt-ltb (x .bank) 4 (read-given x f .bank))
 
+      bus : ℕ
+      bus = cond (ltb (X .read .reader) 4) (lesser (X .read .bus) (t + CL (p .mode))) (X .read .bus)
+
       entries : after c ≡
-          readGiven (cond (ltb (X .reader) 4) (lesser (X .bus) (t + CL (p .mode))) (X .bus)) (X .reads) (X .reader)
-          (banked (λ i. 0) (λ i. cond (eqb (X .opened i) 0) (X .rest i) (t + s .tRP)) X)
+          readGiven (record { bus = bus; reads = X .read .reads; reader = X .read .reader }) (banked (λ i. closed (t + s .tRP) true (X .banks i)) X)
       entries =
-          same
-          (fun-ext (λ i. shuts i true))
-          (fun-ext (λ i. ap (λ (v : Option ℕ). from v (s .tRC)) (keeps-active i)))
-          (fun-ext (λ i. ap (λ (v : Option ℕ). from v (s .tRRD)) (keeps-active i)))
-          (fun-ext (λ i. rests i true))
-          (fun-ext (λ i. ap (λ (v : Option ℕ). from v (s .tRCD)) (keeps-active i)))
-          (fun-ext (λ i. ap (λ (v : Option ℕ). from v (s .tRAS)) (keeps-active i)))
-          (fun-ext (λ i. ap (λ (v : Option Burst). ended v (s .tWR)) (written-stays c refl i _ (keeps-active i))))
-          (fun-ext (λ i. ap (λ (v : Option ℕ). orZero v + s .tRAS + s .tRP) (keeps-active i)))
-          refl
-          refl
-          (bus-closes b a true (λ i. ltb i 4) refl small)
-          (held-cut reads (λ n x. refl) t c xs)
-          (held-cut isWrite (λ n x. refl) t c xs)
-          (rw (writes-stay c refl))
-          (same-reads c)
-          (rw (writes-stay c refl))
+          same (λ i. closed-is b a true i true)
+          (same-read (bus-closes b a true (λ i. ltb i 4) refl small) (held-cut reads (λ n x. refl) t c xs) (same-reads c))
+          (writes-left c refl) refl refl

@@ -54,9 +54,6 @@ module _ (s : Settings) (wide : s .rowBits < 32) (p : Part) (from₀ t : ℕ) (l
   abbrev there : {r q : ℕ} {rs : List ℕ} → List·Memᴰ r rs → List·Memᴰ r (q ∷ rs)
   there m = List·Memᴰ.List·Memᴰ·tail m
 
-  third : List·Memᴰ 3 rules
-  third = there (there here)
-
   fourth : List·Memᴰ 4 rules
   fourth = there (there (there here))
 
@@ -110,7 +107,7 @@ module _ (s : Settings) (wide : s .rowBits < 32) (p : Part) (from₀ t : ℕ) (l
   unfolding b a ten
   turn-read e =
       turn 10 c (carries w 10 e) (codes.read s (laid X) (paceOf (p .mode)) t w refl refl e) (read-agrees s p t b a ten small)
-      (λ z. read-next s p from₀ t l g b a ten small (kept c z 3 third) (leb-true (X .reads) t (sym (held-is reads t (p .bursts)) ∙ kept c z 13 thirteenth)))
+      (λ z. read-next s p from₀ t l g b a ten small (leb-true (X .read .reads) t (sym (held-is reads t (p .bursts)) ∙ kept c z 13 thirteenth)))
       refl (λ z. kept-read s p from₀ t l g b a ten small)
     where
       c : Command
@@ -120,13 +117,13 @@ module _ (s : Settings) (wide : s .rowBits < 32) (p : Part) (from₀ t : ℕ) (l
   unfolding b a ten
   turn-write e =
       turn 2 c (carries w 2 e) (codes.write s (laid X) (paceOf (p .mode)) t w refl refl e) (write-agrees s p t b a ten small)
-      (λ z. write-next s p from₀ t l g b a ten small (kept c z 3 third) (held z)) refl (λ z. kept-write s p from₀ t l g b a ten small (held z))
+      (λ z. write-next s p from₀ t l g b a ten small (held z)) refl (λ z. kept-write s p from₀ t l g b a ten small (held z))
     where
       c : Command
       c = does WRITE b a ten
 
-      held : lowestBroken rules s p t c ≡ none → X .writes ≤ t
-      held z = leb-true (X .writes) t (sym (held-is (λ x. x .writes) t (p .bursts)) ∙ kept c z 13 thirteenth)
+      held : lowestBroken rules s p t c ≡ none → X .write .writes ≤ t
+      held z = leb-true (X .write .writes) t (sym (held-is (λ x. x .writes) t (p .bursts)) ∙ kept c z 13 thirteenth)
 
   turn-close : codeOf w ≡ 4 → Turned (commandOf w)
   unfolding b a ten
@@ -151,10 +148,10 @@ module _ (s : Settings) (wide : s .rowBits < 32) (p : Part) (from₀ t : ℕ) (l
       c : Command
       c = does BURST-TERMINATE b a ten
 
-      held : lowestBroken rules s p t c ≡ none → X .reads ≤ t
+      held : lowestBroken rules s p t c ≡ none → X .read .reads ≤ t
       held z =
-          leb-true (X .reads) t
-          (first-of (leb (X .reads) t) _ (sym (terminate-is from₀ t l (s .tWTR) (g .bursts) (g .late)) ∙ kept c z 13 thirteenth))
+          leb-true (X .read .reads) t
+          (first-of (leb (X .read .reads) t) _ (sym (terminate-is from₀ t l (s .tWTR) (g .bursts) (g .late)) ∙ kept c z 13 thirteenth))
 
   turn-refresh : codeOf w ≡ 8 → Turned (commandOf w)
   unfolding b a ten
@@ -170,7 +167,7 @@ module _ (s : Settings) (wide : s .rowBits < 32) (p : Part) (from₀ t : ℕ) (l
   turn-mode e =
       turn 0 c (carries w 0 e) (codes.mode-set s (laid X) (paceOf (p .mode)) t w refl refl e) (mode-agrees s p t b a ten)
       (λ z. mode-next s p from₀ t l g b a ten (both-after (kept c z 4 fourth))) (which (eqb b 0))
-      (λ z. kept-mode s p from₀ t l g b a ten (leb-true (X .bus) t (sym (cleared-is (find reads (p .bursts)) t) ∙ kept c z 12 twelfth)))
+      (λ z. kept-mode s p from₀ t l g b a ten (leb-true (X .read .bus) t (sym (cleared-is (find reads (p .bursts)) t) ∙ kept c z 12 twelfth)))
     where
       c : Command
       c = does MODE-REGISTER-SET b a ten

@@ -4,11 +4,11 @@ use Prim.Native.Nat.{ℕ, _+_}
 use mathlib.Core.Bool.{Bool, cond, _&&_}
 use mathlib.Core.List.{List, [], _∷_}
 use mathlib.Core.Option.{Option, none, some}
-use Rattle.reading.specs.Search.{orZero, later}
+use Rattle.reading.specs.Search.{orZero, find, later}
 use Rattle.reading.specs.Settings.{Settings}
 use Rattle.reading.specs.RefreshClock.{Clock}
 use Rattle.reading.specs.Bursts.{Burst, reads, wholeEnd, readEnd, dataEnd}
-use Rattle.reading.specs.Part.{Part, lastRead, lastWrite, lastBankWrite}
+use Rattle.reading.specs.Part.{Bank, Part, lastBankWrite}
 
 -- so long after it, 0 where it has not happened
 abbrev pub from : Option ℕ → ℕ → ℕ
@@ -42,57 +42,89 @@ abbrev pub writerOf : Option Burst → ℕ
 writerOf none = 0
 writerOf (some x) = x .bank
 
-pub record Held : Type 0 where
-  pub opened : ℕ → ℕ
-  pub again : ℕ → ℕ
-  pub other : ℕ → ℕ
-  pub rest : ℕ → ℕ
-  pub column : ℕ → ℕ
-  pub close : ℕ → ℕ
-  pub written : ℕ → ℕ
-  pub locked : ℕ → ℕ
-  pub busy : ℕ
-  pub due : ℕ
+-- ---- the deadlines in groups
+
+-- of a bank
+pub record BankHeld : Type 0 where
+  pub opened : ℕ
+  pub again : ℕ
+  pub other : ℕ
+  pub rest : ℕ
+  pub column : ℕ
+  pub close : ℕ
+  pub written : ℕ
+  pub locked : ℕ
+
+-- of the reads
+pub record ReadHeld : Type 0 where
   pub bus : ℕ
   pub reads : ℕ
+  pub reader : ℕ
+
+-- of the writes
+pub record WriteHeld : Type 0 where
   pub writes : ℕ
   pub end : ℕ
-  pub reader : ℕ
   pub writer : ℕ
 
-abbrev pub four : (ℕ → ℕ) → List ℕ → List ℕ
-four f tail = f 0 ∷ f 1 ∷ f 2 ∷ f 3 ∷ tail
+-- busy: of the commands that make all others wait; due: of the refresh clock
+pub record Held : Type 0 where
+  pub banks : ℕ → BankHeld
+  pub read : ReadHeld
+  pub write : WriteHeld
+  pub busy : ℕ
+  pub due : ℕ
+
+abbrev pub four : (ℕ → BankHeld) → (BankHeld → ℕ) → List ℕ → List ℕ
+four banks f tail = f (banks 0) ∷ f (banks 1) ∷ f (banks 2) ∷ f (banks 3) ∷ tail
 
 -- in the order of the forty places
 abbrev pub laid : Held → List ℕ
 laid x =
-    four (x .opened)
-    (four (x .again)
-    (four (x .other)
-    (four (x .rest)
-    (four (x .column)
-    (four (x .close)
-    (four (x .written)
-    (four (x .locked)
-    (x .busy ∷ x .due ∷ x .bus ∷ x .reads ∷ x .writes ∷ x .end ∷ x .reader ∷ x .writer ∷ []))))))))
+    four (x .banks) (λ b. b .opened)
+    (four (x .banks) (λ b. b .again)
+    (four (x .banks) (λ b. b .other)
+    (four (x .banks) (λ b. b .rest)
+    (four (x .banks) (λ b. b .column)
+    (four (x .banks) (λ b. b .close)
+    (four (x .banks) (λ b. b .written)
+    (four (x .banks) (λ b. b .locked)
+    (x .busy ∷ x .due
+    ∷ x .read .bus ∷ x .read .reads ∷ x .write .writes ∷ x .write .end ∷ x .read .reader ∷ x .write .writer ∷ []))))))))
+
+-- ---- of the reading's part
+
+-- of a bank and its last write since its ACTIVE
+abbrev pub bankHeld : Settings → Bank → Option Burst → BankHeld
+bankHeld s b w =
+    record {
+      opened = cond (b .opened) 1 0;
+      again = from (b .active) (s .tRC);
+      other = from (b .active) (s .tRRD);
+      rest = from (b .precharged) (s .tRP);
+      column = from (b .active) (s .tRCD);
+      close = from (b .active) (s .tRAS);
+      written = ended w (s .tWR);
+      locked = orZero (b .active) + s .tRAS + s .tRP;
+    }
+
+abbrev pub readHeld : List Burst → ReadHeld
+readHeld xs = record { bus = cleared (find reads xs); reads = heldBy reads xs; reader = readerOf (find reads xs) }
+
+abbrev pub writeHeld : Settings → List Burst → WriteHeld
+writeHeld s xs =
+    record {
+      writes = heldBy (λ x. x .writes) xs;
+      end = ended (find (λ x. x .writes) xs) (s .tWTR);
+      writer = writerOf (find (λ x. x .writes) xs);
+    }
 
 abbrev pub summary : Settings → Part → Held
 summary s p =
     record {
-      opened = λ b. cond (p .banks b .opened) 1 0;
-      again = λ b. from (p .banks b .active) (s .tRC);
-      other = λ b. from (p .banks b .active) (s .tRRD);
-      rest = λ b. from (p .banks b .precharged) (s .tRP);
-      column = λ b. from (p .banks b .active) (s .tRCD);
-      close = λ b. from (p .banks b .active) (s .tRAS);
-      written = λ b. ended (lastBankWrite p b) (s .tWR);
-      locked = λ b. orZero (p .banks b .active) + s .tRAS + s .tRP;
+      banks = λ b. bankHeld s (p .banks b) (lastBankWrite p b);
+      read = readHeld (p .bursts);
+      write = writeHeld s (p .bursts);
       busy = later (from (p .refreshed) (s .tRFC)) (from (p .modeSet) (s .tMRD));
       due = dueBy s (p .clock);
-      bus = cleared (lastRead p);
-      reads = heldBy reads (p .bursts);
-      writes = heldBy (λ x. x .writes) (p .bursts);
-      end = ended (lastWrite p) (s .tWTR);
-      reader = readerOf (lastRead p);
-      writer = writerOf (lastWrite p);
     }

@@ -8,13 +8,13 @@ use native.Mathlib.Omega.{arith}
 use lib.Dec.{leb, eqb}
 use lib.ListN.{set}
 use borrow.Author.Tests.{leb-true, leb-false, le-leb, eq-eqb, ne-eqb, eqb-true, eqb-false}
-use Rattle.reading.specs.Search.{later, lesser}
+use Rattle.reading.specs.Search.{later}
 use Rattle.reading.specs.Mode.{h, CL}
 use Rattle.reading.specs.Settings.{Settings}
 use Rattle.deadlines.specs.Deadlines.{OTHER, BUSY, BUS, WRITES, paceOf, at, soonest, autoAfter, readAfter, newWrite, writeAfter}
 use Rattle.deadlines.specs.Deadlines as all
 use Rattle.bridge.specs.Summary.{Held, laid}
-use Rattle.bridge.proofs.Laid.{put, activated, banked, readGiven, writeGiven, stands, auto-laid, cut-laid, new-laid}
+use Rattle.bridge.proofs.Laid.{stands, banked, readGiven, writeGiven, onBank, activated, writtenTill, autoShut, writtenBy, auto-laid, cut-laid, new-laid}
 use Rattle.plan.specs.Soonest.{readSoonest, writeSoonest}
 use Rattle.plan.specs.Soonest as plan
 use Rattle.plan.proofs.Ranged.{Ranged}
@@ -58,6 +58,9 @@ leb-same a b c f g = go (leb a c) refl
         by false k = refl
 
 -- ---- bank b's entry replaced
+
+abbrev put : (ℕ → ℕ) → ℕ → ℕ → ℕ → ℕ
+put f b v i = cond (eqb i b) v (f i)
 
 put-own : (f : ℕ → ℕ) (b v : ℕ) → put f b v b ≡ v
 put-own f b v = rw (eq-eqb b b refl)
@@ -179,20 +182,26 @@ refresh-same d f l =
     let z : ℕ = over (λ i. at d (all.REST + i)) (at d BUS) in
     ap (λ (y : ℕ). later y z) (sym (later-high f (at d BUSY) l)) ∙ sym (later-group f (at d BUSY) z)
 
-pub refresh-behind : (x : Held) → ((i : ℕ) → i < 4 → x .rest i ≤ plan.refreshSoonest (laid x)) × (x .bus ≤ plan.refreshSoonest (laid x))
+pub refresh-behind : (x : Held) →
+    ((i : ℕ) → i < 4 → x .banks i .rest ≤ plan.refreshSoonest (laid x)) × (x .read .bus ≤ plan.refreshSoonest (laid x))
 unfolding plan.refreshSoonest soonest
-refresh-behind x = (
-  λ i l. omega (arith, above (x .busy) (over (x .rest) (x .bus)), over-own (x .rest) (x .bus) i l),
-  omega (arith, above (x .busy) (over (x .rest) (x .bus)), over-last (x .rest) (x .bus)),
-)
+refresh-behind x =
+    let rests : ℕ → ℕ = λ i. x .banks i .rest in
+    let bus = x .read .bus in (
+      λ i l. omega (arith, above (x .busy) (over rests bus), over-own rests bus i l),
+      omega (arith, above (x .busy) (over rests bus), over-last rests bus),
+    )
 
 -- its READ or WRITE
+abbrev pub withActive : Settings → ℕ → ℕ → Held → Held
+withActive s t b x = banked (onBank (activated s t) b (x .banks)) x
+
 module _ (s : Settings) (g : Ranged s) (x : Held) (t b : ℕ) (lb : b < 4) (idle : x .busy ≤ t) where
   abbrev Y : Held
-  Y = activated s t b x
+  Y = withActive s t b x
 
   column-is : at (laid Y) (all.COLUMN + b) ≡ t + s .tRCD
-  column-is = stands Y b lb .column ∙ put-own (x .column) b (t + s .tRCD)
+  column-is = stands Y b lb .column ∙ put-own (λ i. x .banks i .column) b (t + s .tRCD)
 
   passing : (m : ℕ) → later (t + 1) (later (x .busy) (later (t + s .tRCD) m)) ≡ later (t + s .tRCD) m
   passing m =
@@ -200,36 +209,47 @@ module _ (s : Settings) (g : Ranged s) (x : Held) (t b : ℕ) (lb : b < 4) (idle
       let l : later (x .busy) z ≡ z = later-low (x .busy) z (omega (arith, above (t + s .tRCD) m)) in
       ap (later (t + 1)) l ∙ later-low (t + 1) z (omega (arith, above (t + s .tRCD) m, g .least-tRCD))
 
-  pub burst-same : (write : Bool) → later (t + 1) (plan.burstSoonest write (laid (activated s t b x)) b) ≡ later (t + s .tRCD) (burstSoonest write (betweenOf (laid x)))
+  pub burst-same : (write : Bool) →
+      later (t + 1) (plan.burstSoonest write (laid (withActive s t b x)) b) ≡ later (t + s .tRCD) (burstSoonest write (betweenOf (laid x)))
   unfolding readSoonest writeSoonest soonest betweenOf
-  burst-same true = rw column-is (passing (later (x .bus) (x .writes)))
-  burst-same false = rw column-is (passing (later (x .end) (x .reads)))
+  burst-same true = rw column-is (passing (later (x .read .bus) (x .write .writes)))
+  burst-same false = rw column-is (passing (later (x .write .end) (x .read .reads)))
 
 -- what they leave
 abbrev pub landed : Bool → Settings → ℕ → ℕ → ℕ → Held → Held
 landed true s m u b y =
-    let y₁ = writeGiven (put (y .written) (y .writer % 4) (lesser (y .written (y .writer % 4)) (u + 1 + 0 + s .tWR))) (y .writes) (y .end) (y .writer) y in
-    let y₂ = writeGiven (put (y₁ .written) b (u + 1 + h m + s .tWR)) (u + h m) (u + 1 + h m + s .tWTR) b y₁ in
-    banked (put (y .opened) b 0) (put (y .rest) b (later (y .locked b) (u + 1 + h m + s .tWR + s .tRP))) y₂
+    let new = u + 1 + h m + s .tWR in
+    let y₁ = banked (onBank (writtenBy (u + 1 + 0 + s .tWR)) (y .write .writer % 4) (y .banks)) y in
+    let y₂ = banked (onBank (writtenTill new) b (y₁ .banks)) y₁ in
+    let y₃ = writeGiven (record { writes = u + h m; end = u + 1 + h m + s .tWTR; writer = b }) y₂ in
+    banked (onBank (autoShut (new + s .tRP)) b (y₃ .banks)) y₃
 landed false s m u b y =
-    banked (put (y .opened) b 0) (put (y .rest) b (later (y .locked b) (u + h m + s .tRP))) (readGiven (u + CL m + h m) (u + h m) 4 y)
+    let y₁ = readGiven (record { bus = u + CL m + h m; reads = u + h m; reader = 4 }) y in
+    banked (onBank (autoShut (u + h m + s .tRP)) b (y₁ .banks)) y₁
 
 pub landed-is : (write : Bool) (s : Settings) (m u b : ℕ) (y : Held) → b < 4 → burstLeaves write s (laid y) (paceOf m) u b ≡ laid (landed write s m u b y)
 unfolding readAfter writeAfter
 landed-is true s m u b y l =
-    let y₁ : Held = writeGiven (put (y .written) (y .writer % 4) (lesser (y .written (y .writer % 4)) (u + 1 + 0 + s .tWR))) (y .writes) (y .end) (y .writer) y in
-    let y₂ : Held = writeGiven (put (y₁ .written) b (u + 1 + h m + s .tWR)) (u + h m) (u + 1 + h m + s .tWTR) b y₁ in
-    ap (λ (d : List ℕ). autoAfter (set (newWrite s d u (h m) b) WRITES (u + h m)) b (u + 1 + h m + s .tWR + s .tRP)) (cut-laid s y u)
-    ∙ ap (λ (d : List ℕ). autoAfter (set d WRITES (u + h m)) b (u + 1 + h m + s .tWR + s .tRP)) (new-laid s y₁ u (h m) b l)
-    ∙ auto-laid y₂ b (u + 1 + h m + s .tWR + s .tRP) l
-landed-is false s m u b y l = auto-laid (readGiven (u + CL m + h m) (u + h m) 4 y) b (u + h m + s .tRP) l
+    let new : ℕ = u + 1 + h m + s .tWR in
+    let y₁ : Held = banked (onBank (writtenBy (u + 1 + 0 + s .tWR)) (y .write .writer % 4) (y .banks)) y in
+    let y₂ : Held = banked (onBank (writtenTill new) b (y₁ .banks)) y₁ in
+    let y₃ : Held = writeGiven (record { writes = u + h m; end = u + 1 + h m + s .tWTR; writer = b }) y₂ in
+    ap (λ (d : List ℕ). autoAfter (set (newWrite s d u (h m) b) WRITES (u + h m)) b (new + s .tRP)) (cut-laid s y u)
+    ∙ ap (λ (d : List ℕ). autoAfter (set d WRITES (u + h m)) b (new + s .tRP)) (new-laid s y₁ u (h m) b l)
+    ∙ auto-laid y₃ (new + s .tRP) b l
+landed-is false s m u b y l = auto-laid (readGiven (record { bus = u + CL m + h m; reads = u + h m; reader = 4 }) y) (u + h m + s .tRP) b l
 
 -- a list of sixteen
-listed : (x₀ x₁ x₂ x₃ x₄ x₅ x₆ x₇ due bus : ℕ) {a₀ a₁ a₂ a₃ r w b₀ b₁ b₂ b₃ v y : ℕ} → a₀ ≡ b₀ → a₁ ≡ b₁ → a₂ ≡ b₂ → a₃ ≡ b₃ → r ≡ v → w ≡ y →
-    (x₀ ∷ x₁ ∷ x₂ ∷ x₃ ∷ x₄ ∷ x₅ ∷ x₆ ∷ x₇ ∷ a₀ ∷ a₁ ∷ a₂ ∷ a₃ ∷ r ∷ w ∷ due ∷ bus ∷ []) ≡
-    (x₀ ∷ x₁ ∷ x₂ ∷ x₃ ∷ x₄ ∷ x₅ ∷ x₆ ∷ x₇ ∷ b₀ ∷ b₁ ∷ b₂ ∷ b₃ ∷ v ∷ y ∷ due ∷ bus ∷ [])
-listed x₀ x₁ x₂ x₃ x₄ x₅ x₆ x₇ due bus p₀ p₁ p₂ p₃ p q i =
-    x₀ ∷ x₁ ∷ x₂ ∷ x₃ ∷ x₄ ∷ x₅ ∷ x₆ ∷ x₇ ∷ p₀ i ∷ p₁ i ∷ p₂ i ∷ p₃ i ∷ p i ∷ q i ∷ due ∷ bus ∷ []
+listed : (x₀ x₁ x₂ x₃ x₄ x₅ x₆ x₇ due bus : ℕ) {a b : ℕ → ℕ} {r w v y : ℕ} → ((i : ℕ) → a i ≡ b i) → r ≡ v → w ≡ y →
+    (x₀ ∷ x₁ ∷ x₂ ∷ x₃ ∷ x₄ ∷ x₅ ∷ x₆ ∷ x₇ ∷ a 0 ∷ a 1 ∷ a 2 ∷ a 3 ∷ r ∷ w ∷ due ∷ bus ∷ []) ≡
+    (x₀ ∷ x₁ ∷ x₂ ∷ x₃ ∷ x₄ ∷ x₅ ∷ x₆ ∷ x₇ ∷ b 0 ∷ b 1 ∷ b 2 ∷ b 3 ∷ v ∷ y ∷ due ∷ bus ∷ [])
+listed x₀ x₁ x₂ x₃ x₄ x₅ x₆ x₇ due bus e p q i =
+    x₀ ∷ x₁ ∷ x₂ ∷ x₃ ∷ x₄ ∷ x₅ ∷ x₆ ∷ x₇ ∷ e 0 i ∷ e 1 i ∷ e 2 i ∷ e 3 i ∷ p i ∷ q i ∷ due ∷ bus ∷ []
+
+-- a bank's tRAS and tRP since its own ACTIVE
+own-locked : (own : Bool) (l k c r : ℕ) → cond own (later (cond own l k) c) r ≡ cond own (later l c) r
+own-locked true l k c r = refl
+own-locked false l k c r = refl
 
 -- ACTIVE at t, READ or WRITE at u
 module _ (s : Settings) (g : Ranged s) (x : Held) (f t u : ℕ) (fair : Fair s (laid x) f) (l : f ≤ t) (idle : x .busy ≤ t) where
@@ -237,7 +257,7 @@ module _ (s : Settings) (g : Ranged s) (x : Held) (f t u : ℕ) (fair : Fair s (
   m = s .mode
 
   abbrev pub After : ℕ → Bool → Held
-  After b write = landed write s m u b (activated s t b x)
+  After b write = landed write s m u b (withActive s t b x)
 
   abbrev Rest : Bool → ℕ
   Rest write = restAfter write s (paceOf m) t u
@@ -252,59 +272,73 @@ module _ (s : Settings) (g : Ranged s) (x : Held) (f t u : ℕ) (fair : Fair s (
   not-before : (write : Bool) → Placed write → t + s .tRCD ≤ u
   not-before write k = omega (arith, above (t + s .tRCD) (burstSoonest write (betweenOf (laid x))))
 
-  low : (i : ℕ) → i < 4 → x .other i ≤ t + s .tRRD
+  abbrev others : ℕ → ℕ
+  others i = x .banks i .other
+
+  low : (i : ℕ) → i < 4 → others i ≤ t + s .tRRD
   low i li = omega (arith, stands x i li .other, fair .others i li)
 
-  settled : (b : ℕ) → b < 4 → (i : ℕ) → apartIn (put (x .other) b (t + s .tRRD)) i ≡ cond (eqb i b) (apartIn (x .other) i) (t + s .tRRD)
-  settled b lb i = apart-after (x .other) (t + s .tRRD) low b lb i
+  settled : (b : ℕ) → b < 4 → (i : ℕ) → apartIn (put others b (t + s .tRRD)) i ≡ cond (eqb i b) (apartIn others i) (t + s .tRRD)
+  settled b lb i = apart-after others (t + s .tRRD) low b lb i
 
-  read-from : (write : Bool) → Placed write → later (After 0 write .end) (After 0 write .reads) ≡ cond write (u + 1 + h m + s .tWTR) (u + h m)
-  unfolding betweenOf
-  read-from true k = later-high (u + 1 + h m + s .tWTR) (x .reads) (omega (arith, fair .reads, above (t + s .tRCD) (later (x .bus) (x .writes))))
-  read-from false k = later-low (x .end) (u + h m) (omega (arith, above (t + s .tRCD) (later (x .end) (x .reads)), above (x .end) (x .reads)))
+  -- when the forty let a READ, and a WRITE, through: before, and after
+  abbrev read-at : ℕ
+  read-at = later (x .write .end) (x .read .reads)
 
-  write-from : (write : Bool) → Placed write → later (After 0 write .bus) (After 0 write .writes) ≡ cond write (u + h m) (u + CL m + h m)
+  abbrev write-at : ℕ
+  write-at = later (x .read .bus) (x .write .writes)
+
+  read-from : (write : Bool) → Placed write → later (After 0 write .write .end) (After 0 write .read .reads) ≡ cond write (u + 1 + h m + s .tWTR) (u + h m)
   unfolding betweenOf
-  write-from true k = later-low (x .bus) (u + h m) (omega (arith, above (t + s .tRCD) (later (x .bus) (x .writes)), above (x .bus) (x .writes)))
-  write-from false k = later-high (u + CL m + h m) (x .writes) (omega (arith, fair .writes, above (t + s .tRCD) (later (x .end) (x .reads))))
+  read-from true k = later-high (u + 1 + h m + s .tWTR) (x .read .reads) (omega (arith, fair .reads, above (t + s .tRCD) write-at))
+  read-from false k = later-low (x .write .end) (u + h m) (omega (arith, above (t + s .tRCD) read-at, above (x .write .end) (x .read .reads)))
+
+  write-from : (write : Bool) → Placed write → later (After 0 write .read .bus) (After 0 write .write .writes) ≡ cond write (u + h m) (u + CL m + h m)
+  unfolding betweenOf
+  write-from true k = later-low (x .read .bus) (u + h m) (omega (arith, above (t + s .tRCD) write-at, above (x .read .bus) (x .write .writes)))
+  write-from false k = later-high (u + CL m + h m) (x .write .writes) (omega (arith, fair .writes, above (t + s .tRCD) read-at))
 
   pub taken-same : (b : ℕ) → b < 4 → (write v : Bool) → Placed write →
       betweenOf (laid (After b write)) ≡
       taking s (paceOf m) (betweenOf (laid x)) write b (record { active = t; burst = u; rest = Rest write; kept = v })
   unfolding betweenOf taking apartAfter burstAfter
-  taken-same zero l true v k =
-      listed _ _ _ _ _ _ _ _ _ _ (settled zero l 0) (settled zero l 1) (settled zero l 2) (settled zero l 3) (read-from true k) (write-from true k)
-  taken-same zero l false v k =
-      listed _ _ _ _ _ _ _ _ _ _ (settled zero l 0) (settled zero l 1) (settled zero l 2) (settled zero l 3) (read-from false k) (write-from false k)
-  taken-same (suc zero) l true v k =
-      listed _ _ _ _ _ _ _ _ _ _ (settled (suc zero) l 0) (settled (suc zero) l 1) (settled (suc zero) l 2) (settled (suc zero) l 3) (read-from true k) (write-from true k)
-  taken-same (suc zero) l false v k =
-      listed _ _ _ _ _ _ _ _ _ _ (settled (suc zero) l 0) (settled (suc zero) l 1) (settled (suc zero) l 2) (settled (suc zero) l 3) (read-from false k) (write-from false k)
-  taken-same (suc (suc zero)) l true v k =
-      listed _ _ _ _ _ _ _ _ _ _ (settled (suc (suc zero)) l 0) (settled (suc (suc zero)) l 1) (settled (suc (suc zero)) l 2) (settled (suc (suc zero)) l 3) (read-from true k) (write-from true k)
-  taken-same (suc (suc zero)) l false v k =
-      listed _ _ _ _ _ _ _ _ _ _ (settled (suc (suc zero)) l 0) (settled (suc (suc zero)) l 1) (settled (suc (suc zero)) l 2) (settled (suc (suc zero)) l 3) (read-from false k) (write-from false k)
-  taken-same (suc (suc (suc zero))) l true v k =
-      listed _ _ _ _ _ _ _ _ _ _ (settled (suc (suc (suc zero))) l 0) (settled (suc (suc (suc zero))) l 1) (settled (suc (suc (suc zero))) l 2) (settled (suc (suc (suc zero))) l 3) (read-from true k) (write-from true k)
-  taken-same (suc (suc (suc zero))) l false v k =
-      listed _ _ _ _ _ _ _ _ _ _ (settled (suc (suc (suc zero))) l 0) (settled (suc (suc (suc zero))) l 1) (settled (suc (suc (suc zero))) l 2) (settled (suc (suc (suc zero))) l 3) (read-from false k) (write-from false k)
+  taken-same zero l true v k = listed _ _ _ _ _ _ _ _ _ _ (settled 0 l) (read-from true k) (write-from true k)
+  taken-same zero l false v k = listed _ _ _ _ _ _ _ _ _ _ (settled 0 l) (read-from false k) (write-from false k)
+  taken-same (suc zero) l true v k = listed _ _ _ _ _ _ _ _ _ _ (settled 1 l) (read-from true k) (write-from true k)
+  taken-same (suc zero) l false v k = listed _ _ _ _ _ _ _ _ _ _ (settled 1 l) (read-from false k) (write-from false k)
+  taken-same (suc (suc zero)) l true v k = listed _ _ _ _ _ _ _ _ _ _ (settled 2 l) (read-from true k) (write-from true k)
+  taken-same (suc (suc zero)) l false v k = listed _ _ _ _ _ _ _ _ _ _ (settled 2 l) (read-from false k) (write-from false k)
+  taken-same (suc (suc (suc zero))) l true v k = listed _ _ _ _ _ _ _ _ _ _ (settled 3 l) (read-from true k) (write-from true k)
+  taken-same (suc (suc (suc zero))) l false v k = listed _ _ _ _ _ _ _ _ _ _ (settled 3 l) (read-from false k) (write-from false k)
   taken-same (suc (suc (suc (suc b)))) l write v k = absurd (omega arith)
 
   -- the next AUTO REFRESH
   module _ (b : ℕ) (lb : b < 4) where
-    own : (write : Bool) → After b write .rest b ≡ Rest write
-    own true = put-own (x .rest) b _ ∙ ap (λ (z : ℕ). later z (u + 1 + h m + s .tWR + s .tRP)) (put-own (x .locked) b (t + s .tRAS + s .tRP))
-    own false = put-own (x .rest) b _ ∙ ap (λ (z : ℕ). later z (u + h m + s .tRP)) (put-own (x .locked) b (t + s .tRAS + s .tRP))
+    abbrev rests : ℕ → ℕ
+    rests i = x .banks i .rest
 
-    rests-most : (write : Bool) → Rest write ≤ x .due → (i : ℕ) → i < 4 → After b write .rest i ≤ x .due
-    rests-most true k i li = put-most (x .rest) b _ i (x .due) (omega (arith, stands x i li .rest, fair .rests i li)) (omega (arith, own true, put-own (x .rest) b (later (activated s t b x .locked b) (u + 1 + h m + s .tWR + s .tRP))))
-    rests-most false k i li = put-most (x .rest) b _ i (x .due) (omega (arith, stands x i li .rest, fair .rests i li)) (omega (arith, own false, put-own (x .rest) b (later (activated s t b x .locked b) (u + h m + s .tRP))))
+    abbrev after : Bool → ℕ → ℕ
+    after write i = After b write .banks i .rest
 
-    bus-most : (write : Bool) → Bus write ≤ x .due → After b write .bus ≤ x .due
+    abbrev bus : Bool → ℕ
+    bus write = After b write .read .bus
+
+    rests-are : (write : Bool) (i : ℕ) → after write i ≡ put rests b (Rest write) i
+    rests-are true i = own-locked (eqb i b) (t + s .tRAS + s .tRP) (x .banks i .locked) (u + 1 + h m + s .tWR + s .tRP) (rests i)
+    rests-are false i = own-locked (eqb i b) (t + s .tRAS + s .tRP) (x .banks i .locked) (u + h m + s .tRP) (rests i)
+
+    own : (write : Bool) → after write b ≡ Rest write
+    own write = rests-are write b ∙ put-own rests b (Rest write)
+
+    rests-most : (write : Bool) → Rest write ≤ x .due → (i : ℕ) → i < 4 → after write i ≤ x .due
+    rests-most write k i li =
+        rw (rests-are write i) (put-most rests b (Rest write) i (x .due) (omega (arith, stands x i li .rest, fair .rests i li)) k)
+
+    bus-most : (write : Bool) → Bus write ≤ x .due → bus write ≤ x .due
     bus-most true k = fair .bus
     bus-most false k = k
 
-    bus-least : (write : Bool) → Bus write ≤ After b write .bus
+    bus-least : (write : Bool) → Bus write ≤ bus write
     bus-least true = omega arith
     bus-least false = omega arith
 
@@ -313,32 +347,36 @@ module _ (s : Settings) (g : Ranged s) (x : Held) (f t u : ℕ) (fair : Fair s (
     behind-burst false = omega (arith, above (t + s .tRAS + s .tRP) (u + h m + s .tRP), g .least-tRP)
 
     kept-at : (write : Bool) → Placed write →
-        leb (later (u + 1) (later (x .busy) (over (After b write .rest) (After b write .bus)))) (x .due) ≡ leb (later (Rest write) (Bus write)) (x .due)
+        leb (later (u + 1) (later (x .busy) (over (after write) (bus write)))) (x .due) ≡ leb (later (Rest write) (Bus write)) (x .due)
     kept-at write k =
-        let z : ℕ = over (After b write .rest) (After b write .bus) in
+        let z : ℕ = over (after write) (bus write) in
         leb-same (later (u + 1) (later (x .busy) z)) (later (Rest write) (Bus write)) (x .due)
         (λ j.
         later-most (Rest write) (Bus write) (x .due)
-        (omega (arith, above (u + 1) (later (x .busy) z), above (x .busy) z, over-own (After b write .rest) (After b write .bus) b lb, own write))
-        (omega (arith, above (u + 1) (later (x .busy) z), above (x .busy) z, over-last (After b write .rest) (After b write .bus), bus-least write)))
+        (omega (arith, above (u + 1) (later (x .busy) z), above (x .busy) z, over-own (after write) (bus write) b lb, own write))
+        (omega (arith, above (u + 1) (later (x .busy) z), above (x .busy) z, over-last (after write) (bus write), bus-least write)))
         (λ j.
         let rest : Rest write ≤ x .due = omega (arith, above (Rest write) (Bus write)) in
-        let bus : Bus write ≤ x .due = omega (arith, above (Rest write) (Bus write)) in
+        let free : Bus write ≤ x .due = omega (arith, above (Rest write) (Bus write)) in
         later-most (u + 1) (later (x .busy) z) (x .due) (omega (arith, behind-burst write))
         (later-most (x .busy) z (x .due) (omega (arith, behind-burst write, not-before write k))
-        (over-most (After b write .rest) (After b write .bus) (x .due) (rests-most write rest) (bus-most write bus))))
+        (over-most (after write) (bus write) (x .due) (rests-most write rest) (bus-most write free))))
 
     pub kept-same : (write : Bool) → Placed write → inTime (laid (After b write)) (u + 1) ≡ leb (later (Rest write) (Bus write)) (x .due)
     unfolding inTime plan.refreshSoonest soonest
     kept-same true k = kept-at true k
     kept-same false k = kept-at false k
 
+    others-most : (write : Bool) → Placed write → (i : ℕ) → i < 4 → put others b (t + s .tRRD) i ≤ u + 1 + s .tRRD
+    others-most write k i li =
+        put-most others b (t + s .tRRD) i (u + 1 + s .tRRD) (omega (arith, low i li, not-before write k)) (omega (arith, not-before write k))
+
     pub fair-after : (write : Bool) → Placed write → later (Rest write) (Bus write) ≤ x .due → Fair s (laid (After b write)) (u + 1)
     fair-after true k j =
         record {
           rests = λ i li. rw (stands (After b true) i li .rest) (rests-most true (omega (arith, above (Rest true) (Bus true))) i li);
           bus = bus-most true (omega (arith, above (Rest true) (Bus true)));
-          others = λ i li. rw (stands (After b true) i li .other) (put-most (x .other) b (t + s .tRRD) i (u + 1 + s .tRRD) (omega (arith, low i li, not-before true k)) (omega (arith, not-before true k)));
+          others = λ i li. rw (stands (After b true) i li .other) (others-most true k i li);
           reads = omega (arith, fair .reads, not-before true k);
           writes = omega arith;
         }
@@ -346,7 +384,7 @@ module _ (s : Settings) (g : Ranged s) (x : Held) (f t u : ℕ) (fair : Fair s (
         record {
           rests = λ i li. rw (stands (After b false) i li .rest) (rests-most false (omega (arith, above (Rest false) (Bus false))) i li);
           bus = bus-most false (omega (arith, above (Rest false) (Bus false)));
-          others = λ i li. rw (stands (After b false) i li .other) (put-most (x .other) b (t + s .tRRD) i (u + 1 + s .tRRD) (omega (arith, low i li, not-before false k)) (omega (arith, not-before false k)));
+          others = λ i li. rw (stands (After b false) i li .other) (others-most false k i li);
           reads = omega arith;
           writes = omega (arith, fair .writes, not-before false k);
         }
