@@ -32,7 +32,7 @@ Before from (some c) = c < from
 -- what holds of a part that was reached without a broken rule, the next event not before the cycle
 pub record Sound (from : ℕ) (p : Part) : Type 0 where
   pub bursts : All (Given from) (p .bursts)
-  pub banks : (b : ℕ) → Before from (p .banks b .active)
+  pub banks : (b : ℕ) → Before from (p .banks b .lastActive)
   pub late : Late from (p .bursts)
   pub latency : Latency from (p .mode) (find reads (p .bursts))
 
@@ -68,42 +68,42 @@ module _ (s : Settings) (p : Part) (from₀ t : ℕ) (l : from₀ ≤ t) (g : So
 
   pub quiet-next : (b a : ℕ) (ten : Bool) → laid (after (does NOP b a ten)) ≡ laid X
   quiet-next b a ten =
-      ap (λ (zs : List Burst). laid (summary s (record { banks = p .banks; mode = p .mode; refreshed = p .refreshed; modeSet = p .modeSet; clock = p .clock; bursts = zs })))
+      ap (λ (zs : List Burst). laid (summary s (record { banks = p .banks; mode = p .mode; lastRefresh = p .lastRefresh; lastModeSet = p .lastModeSet; clock = p .clock; bursts = zs })))
       (whole (does NOP b a ten) (λ x. none-cut (x .writes)))
 
   pub deselect-next : (b a : ℕ) (ten : Bool) → laid (after (does DESELECT b a ten)) ≡ laid X
   deselect-next b a ten =
-      ap (λ (zs : List Burst). laid (summary s (record { banks = p .banks; mode = p .mode; refreshed = p .refreshed; modeSet = p .modeSet; clock = p .clock; bursts = zs })))
+      ap (λ (zs : List Burst). laid (summary s (record { banks = p .banks; mode = p .mode; lastRefresh = p .lastRefresh; lastModeSet = p .lastModeSet; clock = p .clock; bursts = zs })))
       (whole (does DESELECT b a ten) (λ x. none-cut (x .writes)))
 
   pub refresh-next : (b a : ℕ) (ten : Bool) → X .busy ≤ t → laid (after (does AUTO-REFRESH b a ten)) ≡ refreshAfter s (laid X) t
   unfolding refreshAfter
   refresh-next b a ten busy =
-      ap (λ (zs : List Burst). laid (summary s (record { banks = p .banks; mode = p .mode; refreshed = some t; modeSet = p .modeSet; clock = clockAfterRefresh s t (p .clock); bursts = zs })))
+      ap (λ (zs : List Burst). laid (summary s (record { banks = p .banks; mode = p .mode; lastRefresh = some t; lastModeSet = p .lastModeSet; clock = clockAfterRefresh s t (p .clock); bursts = zs })))
       (whole (does AUTO-REFRESH b a ten) (λ x. none-cut (x .writes)))
-      ∙ ap (λ (v : ℕ). laid (timed v (dueAfterRefresh s t) X)) (later-high (t + s .tRFC) (from (p .modeSet) (s .tMRD)) (omega (arith, busy, later-least)))
+      ∙ ap (λ (v : ℕ). laid (timed v (dueAfterRefresh s t) X)) (later-high (t + s .tRFC) (from (p .lastModeSet) (s .tMRD)) (omega (arith, busy, later-least)))
     where
-      later-least : from (p .modeSet) (s .tMRD) ≤ X .busy
-      later-least = go (leb (from (p .refreshed) (s .tRFC)) (from (p .modeSet) (s .tMRD))) refl
+      later-least : from (p .lastModeSet) (s .tMRD) ≤ X .busy
+      later-least = go (leb (from (p .lastRefresh) (s .tRFC)) (from (p .lastModeSet) (s .tMRD))) refl
         where
-          go : (v : Bool) → leb (from (p .refreshed) (s .tRFC)) (from (p .modeSet) (s .tMRD)) ≡ v →
-              from (p .modeSet) (s .tMRD) ≤ cond v (from (p .modeSet) (s .tMRD)) (from (p .refreshed) (s .tRFC))
+          go : (v : Bool) → leb (from (p .lastRefresh) (s .tRFC)) (from (p .lastModeSet) (s .tMRD)) ≡ v →
+              from (p .lastModeSet) (s .tMRD) ≤ cond v (from (p .lastModeSet) (s .tMRD)) (from (p .lastRefresh) (s .tRFC))
           go true e = omega arith
-          go false e = omega (arith, leb-false (from (p .refreshed) (s .tRFC)) (from (p .modeSet) (s .tMRD)) e)
+          go false e = omega (arith, leb-false (from (p .lastRefresh) (s .tRFC)) (from (p .lastModeSet) (s .tMRD)) e)
 
   pub mode-next : (b a : ℕ) (ten : Bool) → X .busy ≤ t → laid (after (does MODE-REGISTER-SET b a ten)) ≡ modeSetAfter s (laid X) t
   unfolding modeSetAfter
   mode-next b a ten busy =
-      ap (λ (zs : List Burst). laid (summary s (record { banks = p .banks; mode = cond (eqb b 0) a (p .mode); refreshed = p .refreshed; modeSet = some t; clock = p .clock; bursts = zs })))
+      ap (λ (zs : List Burst). laid (summary s (record { banks = p .banks; mode = cond (eqb b 0) a (p .mode); lastRefresh = p .lastRefresh; lastModeSet = some t; clock = p .clock; bursts = zs })))
       (whole (does MODE-REGISTER-SET b a ten) (λ x. none-cut (x .writes)))
-      ∙ ap (λ (v : ℕ). laid (timed v (X .due) X)) (later-low (from (p .refreshed) (s .tRFC)) (t + s .tMRD) (omega (arith, busy, later-least)))
+      ∙ ap (λ (v : ℕ). laid (timed v (X .due) X)) (later-low (from (p .lastRefresh) (s .tRFC)) (t + s .tMRD) (omega (arith, busy, later-least)))
     where
-      later-least : from (p .refreshed) (s .tRFC) ≤ X .busy
-      later-least = go (leb (from (p .refreshed) (s .tRFC)) (from (p .modeSet) (s .tMRD))) refl
+      later-least : from (p .lastRefresh) (s .tRFC) ≤ X .busy
+      later-least = go (leb (from (p .lastRefresh) (s .tRFC)) (from (p .lastModeSet) (s .tMRD))) refl
         where
-          go : (v : Bool) → leb (from (p .refreshed) (s .tRFC)) (from (p .modeSet) (s .tMRD)) ≡ v →
-              from (p .refreshed) (s .tRFC) ≤ cond v (from (p .modeSet) (s .tMRD)) (from (p .refreshed) (s .tRFC))
-          go true e = leb-true (from (p .refreshed) (s .tRFC)) (from (p .modeSet) (s .tMRD)) e
+          go : (v : Bool) → leb (from (p .lastRefresh) (s .tRFC)) (from (p .lastModeSet) (s .tMRD)) ≡ v →
+              from (p .lastRefresh) (s .tRFC) ≤ cond v (from (p .lastModeSet) (s .tMRD)) (from (p .lastRefresh) (s .tRFC))
+          go true e = leb-true (from (p .lastRefresh) (s .tRFC)) (from (p .lastModeSet) (s .tMRD)) e
           go false e = omega arith
 
   pub active-next : (b a : ℕ) (ten : Bool) → b < 4 → laid (after (does ACTIVE b a ten)) ≡ activeAfter s (laid X) t b
@@ -114,7 +114,7 @@ module _ (s : Settings) (p : Part) (from₀ t : ℕ) (l : from₀ ≤ t) (g : So
 
       bank : (i : ℕ) (v : Bool) →
           let k = cond v (openOn a t (p .banks i)) (p .banks i) in
-          bankHeld s k (find (λ x. x .writes && (eqb i (x .bank) && ever (k .active) (λ c. leb c (x .k)))) xs) ≡
+          bankHeld s k (find (λ x. x .writes && (eqb i (x .bank) && ever (k .lastActive) (λ c. leb c (x .k)))) xs) ≡
           activated s t v (X .banks i)
       bank i true = ap (bankHeld s (openOn a t (p .banks i))) (fresh from₀ t i l (g .bursts))
       bank i false = refl
@@ -128,7 +128,7 @@ module _ (s : Settings) (p : Part) (from₀ t : ℕ) (l : from₀ ≤ t) (g : So
   writes-stay c e =
       find-same (λ x. x .writes) (cutBy t c) (blind (λ x. x .writes) (λ n x. refl) t c) (λ x h. uncut t c x (rw (h, e))) xs
 
-  written-stays : (c : Command) → is WRITE c ≡ false → (i : ℕ) (o : Option ℕ) → o ≡ p .banks i .active →
+  written-stays : (c : Command) → is WRITE c ≡ false → (i : ℕ) (o : Option ℕ) → o ≡ p .banks i .lastActive →
       find (λ x. x .writes && (eqb i (x .bank) && ever o (λ a. leb a (x .k)))) (map (cutBy t c) xs) ≡ find (bankWrite p i) xs
   written-stays c e i o q =
       find-same (λ x. x .writes && (eqb i (x .bank) && ever o (λ a. leb a (x .k)))) (cutBy t c)
@@ -144,16 +144,16 @@ module _ (s : Settings) (p : Part) (from₀ t : ℕ) (l : from₀ ≤ t) (g : So
   abbrev idled : ℕ → Bank → Bool → Bank
   idled c k v = cond v (idleFrom c k) k
 
-  keeps-active : (c : ℕ) (k : Bank) (v : Bool) → idled c k v .active ≡ k .active
+  keeps-active : (c : ℕ) (k : Bank) (v : Bool) → idled c k v .lastActive ≡ k .lastActive
   keeps-active c k true = refl
   keeps-active c k false = refl
 
   bank-stays : (c : Command) → is WRITE c ≡ false → (e i : ℕ) (v : Bool) →
       let k = idled e (p .banks i) v in
-      bankHeld s k (find (λ x. x .writes && (eqb i (x .bank) && ever (k .active) (λ a. leb a (x .k)))) (map (cutBy t c) xs)) ≡ bankHeld s k (lastBankWrite p i)
+      bankHeld s k (find (λ x. x .writes && (eqb i (x .bank) && ever (k .lastActive) (λ a. leb a (x .k)))) (map (cutBy t c) xs)) ≡ bankHeld s k (lastBankWrite p i)
   bank-stays c w e i v =
       let k = idled e (p .banks i) v in
-      ap (bankHeld s k) (written-stays c w i (k .active) (keeps-active e (p .banks i) v))
+      ap (bankHeld s k) (written-stays c w i (k .lastActive) (keeps-active e (p .banks i) v))
 
   -- ---- auto precharge
 
@@ -162,12 +162,12 @@ module _ (s : Settings) (p : Part) (from₀ t : ℕ) (l : from₀ ≤ t) (g : So
   autoBanks ten c b banks i = cond ten (onBank (autoShut c) b banks i) (banks i)
 
   abbrev idleAt : ℕ → Bank → ℕ
-  idleAt c k = later (orZero (k .active) + s .tRAS) c
+  idleAt c k = later (orZero (k .lastActive) + s .tRAS) c
 
   auto-bank : (k : Bank) (w : Option Burst) (c : ℕ) (v ten : Bool) →
       bankHeld s (idled (idleAt c k) k (v && ten)) w ≡
       cond ten (autoShut (c + s .tRP) v (bankHeld s k w)) (bankHeld s k w)
-  auto-bank k w c true true = ap (λ (r : ℕ). shut r true (bankHeld s k w)) (sym (later-add (s .tRP) (orZero (k .active) + s .tRAS) c))
+  auto-bank k w c true true = ap (λ (r : ℕ). shut r true (bankHeld s k w)) (sym (later-add (s .tRP) (orZero (k .lastActive) + s .tRAS) c))
   auto-bank k w c true false = refl
   auto-bank k w c false true = refl
   auto-bank k w c false false = refl
@@ -319,9 +319,9 @@ module _ (s : Settings) (p : Part) (from₀ t : ℕ) (l : from₀ ≤ t) (g : So
           cond (v && ever u (λ r. leb r t)) (some (burstGiven s p t c))
           (find (λ x. x .writes && (eqb i (x .bank) && ever u (λ r. leb r (x .k)))) (map (cutBy t c) xs))
 
-      written : (i : ℕ) (u : Option ℕ) → u ≡ p .banks i .active → (v : Bool) →
+      written : (i : ℕ) (u : Option ℕ) → u ≡ p .banks i .lastActive → (v : Bool) →
           ended (last i u v) (s .tWR) ≡ cond v new (cond (eqb i (X .write .writer % 4)) (lesser (X .banks i .written) (t + 1 + 0 + s .tWR)) (X .banks i .written))
-      written i u e true = rw (e, open-by i (p .banks i .active) (g .banks i))
+      written i u e true = rw (e, open-by i (p .banks i .lastActive) (g .banks i))
       written i u e false =
           ap (λ (r : Option ℕ). ended (find (λ x. x .writes && (eqb i (x .bank) && ever r (λ n. leb n (x .k)))) (map (cutBy t c) xs)) (s .tWR)) e
           ∙ ap (λ (r : Option Burst). ended r (s .tWR)) (find-map (bankWrite p i) (cutBy t c) (blind (bankWrite p i) (λ n x. refl) t c) xs)
@@ -331,7 +331,7 @@ module _ (s : Settings) (p : Part) (from₀ t : ℕ) (l : from₀ ≤ t) (g : So
       bank i =
           let k = p .banks i in
           let idle = idleAt new k in
-          let active = idled idle k (eqb i b && ten) .active in
+          let lastActive = idled idle k (eqb i b && ten) .lastActive in
           auto-bank k (last i active (eqb i b)) new (eqb i b) ten
           ∙ ap (λ (n : ℕ). let y = writtenTill n true (X .banks i) in cond ten (autoShut (new + s .tRP) (eqb i b) y) y)
           (written i active (keeps-active idle k (eqb i b && ten)) (eqb i b))
@@ -420,7 +420,7 @@ module _ (s : Settings) (p : Part) (from₀ t : ℕ) (l : from₀ ≤ t) (g : So
 
   -- a bank that a PRECHARGE names, where it is open
   close-bank : (o : Bool) (row : ℕ) (active precharged : Option ℕ) (w : Option Burst) (v : Bool) →
-      let k : Bank = record { opened = o; row = row; active = active; precharged = precharged } in
+      let k : Bank = record { opened = o; row = row; lastActive = active; prechargeCycle = precharged } in
       bankHeld s (cond (o && v) (idleFrom t k) k) w ≡ closed (t + s .tRP) v (bankHeld s k w)
   close-bank true row active precharged w true = refl
   close-bank true row active precharged w false = refl
@@ -429,12 +429,12 @@ module _ (s : Settings) (p : Part) (from₀ t : ℕ) (l : from₀ ≤ t) (g : So
 
   closed-is : (b a : ℕ) (ten : Bool) (i : ℕ) (v : Bool) →
       let k = idled t (p .banks i) (p .banks i .opened && v) in
-      let found = find (λ x. x .writes && (eqb i (x .bank) && ever (k .active) (λ r. leb r (x .k)))) (map (cutBy t (does PRECHARGE b a ten)) xs) in
+      let found = find (λ x. x .writes && (eqb i (x .bank) && ever (k .lastActive) (λ r. leb r (x .k)))) (map (cutBy t (does PRECHARGE b a ten)) xs) in
       bankHeld s k found ≡ closed (t + s .tRP) v (X .banks i)
   closed-is b a ten i v =
       let k = p .banks i in
       bank-stays (does PRECHARGE b a ten) refl t i (k .opened && v)
-      ∙ close-bank (k .opened) (k .row) (k .active) (k .precharged) (lastBankWrite p i) v
+      ∙ close-bank (k .opened) (k .row) (k .lastActive) (k .prechargeCycle) (lastBankWrite p i) v
 
   pub close-next : (b a : ℕ) → b < 4 → laid (after (does PRECHARGE b a false)) ≡ closeAfter s (laid X) (paceOf (p .mode)) t b
   unfolding closeAfter cutRead

@@ -84,7 +84,7 @@ module _ (s : Settings) (p : Part) (t : ℕ) where
   close-agrees b a l =
       simp num-cond
       (rw (
-        one-is (λ i. p .banks i .opened) (λ i. after (s .tRAS) (p .banks i .active) t) b l,
+        one-is (λ i. p .banks i .opened) (λ i. after (s .tRAS) (p .banks i .lastActive) t) b l,
         one-is (λ i. p .banks i .opened) (λ i. ever (find (bankWrite p i) (p .bursts)) (λ x. leb (dataEnd x + s .tWR) t)) b l,
         stands (summary s p) b l .opened,
         stands (summary s p) b l .close,

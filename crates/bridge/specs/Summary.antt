@@ -99,13 +99,13 @@ abbrev pub bankHeld : Settings → Bank → Option Burst → BankHeld
 bankHeld s b w =
     record {
       opened = cond (b .opened) 1 0;
-      again = from (b .active) (s .tRC);
-      other = from (b .active) (s .tRRD);
-      rest = from (b .precharged) (s .tRP);
-      column = from (b .active) (s .tRCD);
-      close = from (b .active) (s .tRAS);
+      again = from (b .lastActive) (s .tRC);
+      other = from (b .lastActive) (s .tRRD);
+      rest = from (b .prechargeCycle) (s .tRP);
+      column = from (b .lastActive) (s .tRCD);
+      close = from (b .lastActive) (s .tRAS);
       written = ended w (s .tWR);
-      locked = orZero (b .active) + s .tRAS + s .tRP;
+      locked = orZero (b .lastActive) + s .tRAS + s .tRP;
     }
 
 abbrev pub readHeld : List Burst → ReadHeld
@@ -125,6 +125,6 @@ summary s p =
       banks = λ b. bankHeld s (p .banks b) (lastBankWrite p b);
       read = readHeld (p .bursts);
       write = writeHeld s (p .bursts);
-      busy = later (from (p .refreshed) (s .tRFC)) (from (p .modeSet) (s .tMRD));
+      busy = later (from (p .lastRefresh) (s .tRFC)) (from (p .lastModeSet) (s .tMRD));
       due = dueBy s (p .clock);
     }

@@ -14,7 +14,7 @@ use Rattle.reading.specs.Settings.{settingsOf, badSetting}
 use Rattle.reading.specs.Capture.{Event, eventCount, eventsOf}
 use Rattle.reading.specs.Schedule.{Schedule, planned, late, badRequest, scheduleOf, captureOf}
 use Rattle.reading.specs.Memory.{Run, replay, plain}
-use Rattle.reading.specs.Answers.{Answer, refused, answered, unless, leaves, fitting, keptUp, settingsIn, judgeAnswer, scheduleOutcome}
+use Rattle.reading.specs.Answers.{Answer, refused, answered, unless, leaves, fitting, whenPlanned, settingsIn, judgeAnswer, scheduleOutcome}
 use Rattle.judge.specs.declared.Verdict.{Verdict}
 use Rattle.judge.specs.declared.Verdict.the-variants.{Clean}
 use Rattle.schedule.specs.declared.Scheduled.the-variants as said
@@ -64,7 +64,7 @@ module _ (ws qs out : List ℕ) (n : ℕ) (e : scheduleOutcome ws qs out .answer
   -- no refusal applied
   go : (a b c : Option ℕ) (x : Schedule) → given 0 (not (eqb (length ws) 14)) ≡ a → badSetting ws ≡ b → badRequest (settingsOf ws) qs ≡ c →
       scheduleOf (settingsOf ws) qs ≡ x →
-      leaves (unless 2 a (unless 3 b (unless 5 c (keptUp x (λ es. fitting out (captureOf ws es)))))) out ≡ scheduleOutcome ws qs out → Written ws qs out n
+      leaves (unless 2 a (unless 3 b (unless 5 c (whenPlanned x (λ es. fitting out (captureOf ws es)))))) out ≡ scheduleOutcome ws qs out → Written ws qs out n
   go (some i) b c x p q r s h = unrefused (ap (λ o. o .answer) h ∙ e)
   go none (some i) c x p q r s h = unrefused (ap (λ o. o .answer) h ∙ e)
   go none none (some i) x p q r s h = unrefused (ap (λ o. o .answer) h ∙ e)

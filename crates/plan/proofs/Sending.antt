@@ -14,8 +14,8 @@ use Rattle.reading.specs.Settings.{Settings}
 use Rattle.reading.specs.Capture.{Event, lastCycle}
 use Rattle.reading.specs.Commands.{commandOf}
 use Rattle.reading.specs.Part.{Part, start, partAfter, step, run}
-use Rattle.reading.specs.Rules.{keeps, rule14, placingRules, brokenBy}
-use Rattle.reading.specs.Verdict.{clean, onward, judgeFrom, verdictOf, judgeBy, verdictBy}
+use Rattle.reading.specs.Rules.{keepsRule, rule14, placing, brokenBy}
+use Rattle.reading.specs.Verdict.{clean, brokenOr, judgeFrom, verdictOf, judgeBy, verdictBy}
 use Rattle.reading.specs.Schedule.{passes, earliest, freeFrom, placed, send}
 use Rattle.reading.proofs.Found.{earliest-is}
 use Rattle.plan.specs.Behind.{partOf}
@@ -64,9 +64,9 @@ unfolding judgeBy
 clean-more s p i [] e c n = rw n
 clean-more s p i (x ∷ es) e c n = go (brokenBy s p x) c (λ k. clean-more s (step s p x) (suc i) es e k n)
   where
-    go : (o : Option ℕ) → onward o i (x .cycle) (judgeFrom s (step s p x) (suc i) es) ≡ clean →
+    go : (o : Option ℕ) → brokenOr o i (x .cycle) (judgeFrom s (step s p x) (suc i) es) ≡ clean →
         (judgeFrom s (step s p x) (suc i) es ≡ clean → judgeFrom s (step s p x) (suc i) (es ++ (e ∷ [])) ≡ clean) →
-        onward o i (x .cycle) (judgeFrom s (step s p x) (suc i) (es ++ (e ∷ []))) ≡ clean
+        brokenOr o i (x .cycle) (judgeFrom s (step s p x) (suc i) (es ++ (e ∷ []))) ≡ clean
     go none k ih = ih k
     go (some r) k ih = let z : _≡_ {A = ℕ} 0 1 = cc in absurd (omega arith)
 
@@ -103,7 +103,7 @@ module _ (s : Settings) (es : List Event) (pins : ℕ) where
       rule14 s (partOf s es) (placed s es pins) (commandOf pins) ≡ true → verdictOf s (send s es pins) ≡ clean
   unfolding verdictBy send passes
   clean-sent c k l =
-      clean-more s (start s) 0 es event c (none-with (λ r. keeps r s (partOf s es) (placed s es pins) (commandOf pins)) 14 placingRules k l)
+      clean-more s (start s) 0 es event c (none-with (λ r. keepsRule r s (partOf s es) (placed s es pins) (commandOf pins)) 14 placing k l)
 
 -- rules 1 to 13 pass it from the cycle `soonest` on, which is not far
 pub record Goes (s : Settings) (es : List Event) (pins soonest : ℕ) : Type 0 where

@@ -44,14 +44,14 @@ unfoldable pub settingWords : List ℕ → List ℕ
 settingWords capture = map (λ i. wordAt capture (settingsStart + 4 * i)) (count 0 (countIn capture))
 
 -- the part of the capture that starts where events start; event i stands at 8 i in it
-abbrev pub eventPart : List ℕ → List ℕ
-eventPart capture = drop (eventsStart (countIn capture)) capture
+abbrev pub eventBytes : List ℕ → List ℕ
+eventBytes capture = drop (eventsStart (countIn capture)) capture
 
 abbrev pub eventAt : List ℕ → ℕ → Event
 eventAt part i = record { cycle = wordAt part (8 * i); pins = wordAt part (8 * i + 4) }
 
 unfoldable pub eventsOf : List ℕ → List Event
-eventsOf capture = map (eventAt (eventPart capture)) (count 0 (eventCount capture))
+eventsOf capture = map (eventAt (eventBytes capture)) (count 0 (eventCount capture))
 
 -- shorter than without events, longer than with the most, or not of its stated total
 unfoldable pub badLength : List ℕ → Bool
@@ -61,8 +61,8 @@ badLength capture =
     || not (eqb (headerWord capture 0) (length capture))
 
 -- every other header word is as it should be, and the total is that of N events
-unfoldable pub goodHeader : List ℕ → Bool
-goodHeader capture =
+unfoldable pub headerFits : List ℕ → Bool
+headerFits capture =
     eqb (headerWord capture 1) (countIn capture)
     && eqb (headerWord capture 2) settingsStart
     && leb (eventCount capture) mostEvents

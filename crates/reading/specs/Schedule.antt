@@ -12,7 +12,7 @@ use Rattle.reading.specs.Capture.{Event, settingsStart, eventsStart, cap
 use Rattle.reading.specs.RefreshClock.{inTime}
 use Rattle.reading.specs.Commands.{ACTIVE, READ, WRITE, AUTO-REFRESH, commandOf, pinsOf}
 use Rattle.reading.specs.Part.{Part, start, run}
-use Rattle.reading.specs.Rules.{keeps, placingRules}
+use Rattle.reading.specs.Rules.{keepsRule, placing}
 
 -- bit 31 write, bits 27-30 zero, bits 0-26 the cell where the burst starts
 abbrev pub asksWrite : ℕ → Bool
@@ -54,7 +54,7 @@ refreshPins = pinsOf AUTO-REFRESH 0 0
 
 -- rules 1-13 pass the pins at t
 unfoldable pub passes : Settings → Part → ℕ → ℕ → Bool
-passes s p pins t = every (λ r. keeps r s p t (commandOf pins)) placingRules
+passes s p pins t = every (λ r. keepsRule r s p t (commandOf pins)) placing
 
 -- the earliest cycle, not before `from`, at which f holds, looked for through n cycles
 unfoldable pub earliest : (ℕ → Bool) → ℕ → ℕ → ℕ
@@ -84,7 +84,7 @@ refreshInTime s es = inTime s (run s (start s) es .clock) (placed s es refreshPi
 unfoldable pub served : Settings → List Event → ℕ → Option (List Event)
 served s es q =
     let alone = sendRequest s es q in
-    let refreshed = sendRequest s (send s es refreshPins) q in
+    let lastRefresh = sendRequest s (send s es refreshPins) q in
     cond (refreshInTime s alone) (some alone) (cond (refreshInTime s refreshed) (some refreshed) none)
 
 pub data Schedule : Type 0 where

@@ -7,7 +7,7 @@ use mathlib.Core.Path.{_≡_, refl}
 use lib.ListN.{length, set, take}
 use Rattle.reading.specs.Words.{bytesOf}
 use Rattle.reading.specs.Settings.{settingFits, badSetting}
-use Rattle.reading.specs.Capture.{headerWord, eventCount, settingWords, eventPart, badLength, goodHeader, pinBits, badEvent}
+use Rattle.reading.specs.Capture.{headerWord, eventCount, settingWords, eventBytes, badLength, headerFits, pinBits, badEvent}
 use Rattle.reading.specs.Answers.{Answer, refused, unless, accepted}
 use Rattle.reading.proofs.Cases.{NOP, at, usual, refuses, touches, said, Case, case, bytes, Hold}
 
@@ -99,6 +99,6 @@ module _ {A : Type 0} (capture : List ℕ) (rest : Answer A) where
       eventCount capture ≡ 8000 →
       headerWord capture 4 ≡ 80 →
       headerWord capture 5 ≡ 0 →
-      accepted capture rest ≡ unless 3 (badSetting (settingWords capture)) (unless 4 (badEvent (pinBits capture) (eventPart capture) 8000) rest)
-  unfolding accepted badLength goodHeader
+      accepted capture rest ≡ unless 3 (badSetting (settingWords capture)) (unless 4 (badEvent (pinBits capture) (eventBytes capture) 8000) rest)
+  unfolding accepted badLength headerFits
   longest l total settings from events onwards zeros = rw (l, total, settings, from, events, onwards, zeros)

@@ -1,7 +1,7 @@
 use borrow.Author.Needs.{needs}
 use Rattle.capture.proofs.Opening.{part-is}
-use Rattle.capture.proofs.event_part.Statement.{statement}
-use Rattle.capture.proofs.event_part.Tie as tie
+use Rattle.capture.proofs.event_bytes.Statement.{statement}
+use Rattle.capture.proofs.event_bytes.Tie as tie
 
 sub-result : tie.Need-sub-result
 sub-result c = search needs
