@@ -6,7 +6,7 @@ use mathlib.Core.Path.{_≡_, refl, sym, ap, _∙_}
 use Rattle.reading.specs.Settings.{Settings}
 use Rattle.reading.specs.Capture.{Event}
 use Rattle.reading.specs.Commands.{commandOf}
-use Rattle.reading.specs.Bursts.{Burst, keep, columnOf, cutBy, beatCell, burstCells}
+use Rattle.reading.specs.Bursts.{Burst, withPairs, columnOf, cutBy, beatCell, burstCells}
 use Rattle.reading.specs.Part.{Part, start, burstGiven, burstsAfter, step, run}
 use Rattle.reading.specs.Cells.{burstsOf, cellsOf}
 use Rattle.pins.specs.Pins.{bankOf, addressOf}
@@ -44,7 +44,7 @@ module _ (s : Settings) where
     abbrev x : Burst
     x = burstGiven s p (e .cycle) (commandOf (e .pins))
 
-    kept-cells : (n : ℕ) → burstCells s (keep n x) ≡
+    kept-cells : (n : ℕ) → burstCells s (withPairs n x) ≡
         beatCells (firstCell s (bankOf (e .pins)) (p .banks (bankOf (e .pins)) .row)) (p .mode) (columnOf s (addressOf (e .pins))) (2 * n)
     unfolding burstCells beatCell beatCells
     kept-cells n = refl

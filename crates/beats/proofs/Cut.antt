@@ -11,7 +11,7 @@ use Rattle.reading.specs.Mode.{h}
 use Rattle.reading.specs.Settings.{Settings}
 use Rattle.reading.specs.Capture.{Event}
 use Rattle.reading.specs.Commands.{commandOf}
-use Rattle.reading.specs.Bursts.{Burst, keep, cuts, cutBy}
+use Rattle.reading.specs.Bursts.{Burst, withPairs, cuts, cutBy}
 use Rattle.reading.specs.Part.{Part, burstGiven}
 use Rattle.reading.proofs.Cuts.{auto-uncut}
 use Rattle.pins.specs.Pins.{codeOf, bankOf, tenOf}
@@ -55,30 +55,30 @@ module _ (b : ℕ) (x : Burst) (w : x .writes ≡ eqb (codeOf b) 2) (f : x .bank
   end = x .k + h (x .mode)
 
   one-cut : (pairs : ℕ) (e : Event) (v : Bool) → ltb (e .cycle) end ≡ v →
-      cutBy (e .cycle) (commandOf (e .pins)) (keep pairs x) ≡ keep (cond v (keptBy b (x .k) pairs e) pairs) x
+      cutBy (e .cycle) (commandOf (e .pins)) (withPairs pairs x) ≡ withPairs (cond v (keptBy b (x .k) pairs e) pairs) x
   one-cut pairs e v l =
-      ap (λ (z : Bool). cond z (keep (lesser pairs (e .cycle - x .k)) x) (keep pairs x)) tested ∙ go (cutsBurst b (e .pins)) v
+      ap (λ (z : Bool). cond z (withPairs (lesser pairs (e .cycle - x .k)) x) (withPairs pairs x)) tested ∙ go (cutsBurst b (e .pins)) v
     where
       tested : (cuts (commandOf (e .pins)) x && (not (x .auto) && ltb (e .cycle) end)) ≡ (cutsBurst b (e .pins) && (not false && v))
       tested = rw (cuts-is (e .pins) b x w f, a, l)
 
-      go : (u v : Bool) → cond (u && (not false && v)) (keep (lesser pairs (e .cycle - x .k)) x) (keep pairs x) ≡ keep (cond v (cond u (lesser pairs (e .cycle - x .k)) pairs) pairs) x
+      go : (u v : Bool) → cond (u && (not false && v)) (withPairs (lesser pairs (e .cycle - x .k)) x) (withPairs pairs x) ≡ withPairs (cond v (cond u (lesser pairs (e .cycle - x .k)) pairs) pairs) x
       go true true = refl
       go true false = refl
       go false true = refl
       go false false = refl
 
-  cut-ahead : (es : List Event) (from pairs : ℕ) → Rises from es → cutByAll es (keep pairs x) ≡ keep (keptAhead b (x .k) end pairs es) x
+  cut-ahead : (es : List Event) (from pairs : ℕ) → Rises from es → cutByAll es (withPairs pairs x) ≡ withPairs (keptAhead b (x .k) end pairs es) x
   unfolding keptAhead
   cut-ahead [] from pairs r = refl
   cut-ahead (e ∷ es) from pairs r = go (ltb (e .cycle) end) refl (λ left. cut-ahead es (suc (e .cycle)) left (r .1))
     where
-      go : (v : Bool) → ltb (e .cycle) end ≡ v → ((left : ℕ) → cutByAll es (keep left x) ≡ keep (keptAhead b (x .k) end left es) x) →
-          cutByAll es (cutBy (e .cycle) (commandOf (e .pins)) (keep pairs x)) ≡ keep (cond (ltb (e .cycle) end) (keptAhead b (x .k) end (keptBy b (x .k) pairs e) es) pairs) x
+      go : (v : Bool) → ltb (e .cycle) end ≡ v → ((left : ℕ) → cutByAll es (withPairs left x) ≡ withPairs (keptAhead b (x .k) end left es) x) →
+          cutByAll es (cutBy (e .cycle) (commandOf (e .pins)) (withPairs pairs x)) ≡ withPairs (cond (ltb (e .cycle) end) (keptAhead b (x .k) end (keptBy b (x .k) pairs e) es) pairs) x
       go true l ih = ap (cutByAll es) (one-cut pairs e true l) ∙ ih (keptBy b (x .k) pairs e) ∙ rw l
       go false l ih =
           ap (cutByAll es) (one-cut pairs e false l) ∙ ih pairs
-          ∙ ap (λ (n : ℕ). keep n x) (past-end b (x .k) end pairs (suc (e .cycle)) es (omega (arith, ltb-false (e .cycle) end l)) (r .1))
+          ∙ ap (λ (n : ℕ). withPairs n x) (past-end b (x .k) end pairs (suc (e .cycle)) es (omega (arith, ltb-false (e .cycle) end l)) (r .1))
           ∙ rw l
 
 -- ---- a burst with auto precharge
@@ -93,10 +93,10 @@ module _ (s : Settings) (p : Part) (e : Event) (es : List Event) (r : Rises (suc
   abbrev x : Burst
   x = burstGiven s p (e .cycle) (commandOf (e .pins))
 
-  pub kept-in-the-end : cutByAll es x ≡ keep (keptOf (p .mode) e es) x
+  pub kept-in-the-end : cutByAll es x ≡ withPairs (keptOf (p .mode) e es) x
   unfolding keptOf
   kept-in-the-end = go (tenOf (e .pins)) refl
     where
-      go : (v : Bool) → tenOf (e .pins) ≡ v → cutByAll es x ≡ keep (keptOf (p .mode) e es) x
+      go : (v : Bool) → tenOf (e .pins) ≡ v → cutByAll es x ≡ withPairs (keptOf (p .mode) e es) x
       go true a = uncut es x a ∙ rw (g, a)
       go false a = cut-ahead (e .pins) x (write-is (e .pins)) refl a es (suc (e .cycle)) (h (p .mode)) r ∙ rw (g, a)

@@ -15,15 +15,15 @@ use Rattle.beats.proofs.Columns.{half-le}
 use Rattle.beats.proofs.Events.{next-event, no-event, rise-behind}
 use Rattle.beats.proofs.Cut.{cut-once}
 
-module _ (part : List ℕ) (n i mode : ℕ) where
+module _ (bytes : List ℕ) (n i mode : ℕ) where
   abbrev burst : Event
-  burst = eventAt part i
+  burst = eventAt bytes i
 
   abbrev kept : ℕ
-  kept = cutAhead mode burst (eventsFrom part n (i + 1))
+  kept = cutAhead mode burst (eventsFrom bytes n (i + 1))
 
   abbrev left : ℕ → ℕ
-  left j = keptAhead (burst .pins) (burst .cycle) (burst .cycle + h mode) (h mode) (eventsFrom part n j)
+  left j = keptAhead (burst .pins) (burst .cycle) (burst .cycle + h mode) (h mode) (eventsFrom bytes n j)
 
   pub record Looking (j : ℕ) : Type 0 where
     pub behind : i < j
@@ -35,15 +35,15 @@ module _ (part : List ℕ) (n i mode : ℕ) where
 
   -- by what was read of the burst and of the event behind it
   module _ {j b k half : ℕ} (z : Looking j) (eb : b ≡ burst .pins) (ek : k ≡ burst .cycle) (eh : half ≡ h mode)
-      {t : ℕ} (l : j < n) (et : t ≡ eventAt part j .cycle) where
+      {t : ℕ} (l : j < n) (et : t ≡ eventAt bytes j .cycle) where
     pub stops : k + half ≤ t → half ≡ kept
     unfolding keptAhead
-    stops m = sym (z .same ∙ rw (next-event part n j l, ← et, ← ek, ← eh, le-ltb t (k + half) m))
+    stops m = sym (z .same ∙ rw (next-event bytes n j l, ← et, ← ek, ← eh, le-ltb t (k + half) m))
 
-    module _ {pins : ℕ} (ep : pins ≡ eventAt part j .pins) (m : t < k + half) where
-      turn : left j ≡ keptAhead b k (k + half) (cond (cutsBurst b pins) (lesser half (t - k)) half) (eventsFrom part n (j + 1))
+    module _ {pins : ℕ} (ep : pins ≡ eventAt bytes j .pins) (m : t < k + half) where
+      turn : left j ≡ keptAhead b k (k + half) (cond (cutsBurst b pins) (lesser half (t - k)) half) (eventsFrom bytes n (j + 1))
       unfolding keptAhead
-      turn = rw (next-event part n j l, ← et, ← ep, ← eb, ← ek, ← eh, lt-ltb t (k + half) m)
+      turn = rw (next-event bytes n j l, ← et, ← ep, ← eb, ← ek, ← eh, lt-ltb t (k + half) m)
 
       pub goes-on : false ≡ cutsBurst b pins → Looking (j + 1)
       goes-on f =
@@ -53,15 +53,15 @@ module _ (part : List ℕ) (n i mode : ℕ) where
             same = z .same ∙ turn ∙ rw (← f, eb, ek, eh);
           }
 
-      pub cut-short : Fit part n → k ≤ t → true ≡ cutsBurst b pins → t - k ≡ kept
+      pub cut-short : Fit bytes n → k ≤ t → true ≡ cutsBurst b pins → t - k ≡ kept
       cut-short f g y =
           sym
           (z .same ∙ turn ∙ rw (← y, lt-leb half (t - k) (omega arith))
-          (cut-once b k (k + half) (t - k) (suc (eventAt part j .cycle)) (eventsFrom part n (j + 1)) (omega (arith, et)) (rise-behind part n f j l)))
+          (cut-once b k (k + half) (t - k) (suc (eventAt bytes j .cycle)) (eventsFrom bytes n (j + 1)) (omega (arith, et)) (rise-behind bytes n f j l)))
 
   pub ends : {j half : ℕ} → Looking j → half ≡ h mode → n ≤ j → half ≡ kept
   unfolding keptAhead
-  ends {j} z eh l = eh ∙ sym (z .same ∙ rw (no-event part n j l))
+  ends {j} z eh l = eh ∙ sym (z .same ∙ rw (no-event bytes n j l))
 
 -- no more are kept than there were
 lesser-le : (a b : ℕ) → lesser a b ≤ a

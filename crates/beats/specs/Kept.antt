@@ -11,14 +11,14 @@ use Rattle.reading.specs.Capture.{Event, eventAt, cycleFits}
 use Rattle.pins.specs.Pins.{codeOf, bankOf, tenOf}
 
 -- n events that fit
-pub record Fit (part : List ℕ) (n : ℕ) : Type 0 where
+pub record Fit (bytes : List ℕ) (n : ℕ) : Type 0 where
   pub few : n ≤ 8000
-  pub long : 8 * n ≤ length part
-  pub events : (i : ℕ) → i < n → cycleFits part i ≡ true
+  pub long : 8 * n ≤ length bytes
+  pub events : (i : ℕ) → i < n → cycleFits bytes i ≡ true
 
 -- of n events those from event i on
 abbrev pub eventsFrom : List ℕ → ℕ → ℕ → List Event
-eventsFrom part n i = map (eventAt part) (count i (n - i))
+eventsFrom bytes n i = map (eventAt bytes) (count i (n - i))
 
 -- the pins ask for a READ or a WRITE
 abbrev pub gives : ℕ → Bool

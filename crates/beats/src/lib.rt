@@ -168,23 +168,23 @@ pub fn write_burst(out: &mut [u32], at: usize, first: u32, mode: u32, column: u3
 
 // The pairs of the burst at event i, by the events that can cut it: those before k + h. Cycles rise, so the first event
 // that cuts it leaves it the fewest pairs.
-fn look_ahead(part: &[u8], n: u32, i: u32, mode: u32) -> u32
-    requires { ⌜ Fit (now part) n × (i < n) ⌝ }
-    ensures { λ r. ⌜ r ≡ cutAhead mode (eventAt (now (part .entry)) i) (eventsFrom (now (part .entry)) n (i + 1)) ⌝ }
+fn look_ahead(bytes: &[u8], n: u32, i: u32, mode: u32) -> u32
+    requires { ⌜ Fit (now bytes) n × (i < n) ⌝ }
+    ensures { λ r. ⌜ r ≡ cutAhead mode (eventAt (now (bytes .entry)) i) (eventsFrom (now (bytes .entry)) n (i + 1)) ⌝ }
 {
     let at = i as usize;
-    let burst = capture::pins_at(part, at);
-    let k = capture::cycle_at(part, at);
+    let burst = capture::pins_at(bytes, at);
+    let k = capture::cycle_at(bytes, at);
     let half = length_of(mode) / 2;
     let end = k + half;
     let mut j = i + 1;
     'later: while j < n {
         let behind = j as usize;
-        let t = capture::cycle_at(part, behind);
+        let t = capture::cycle_at(bytes, behind);
         if end <= t {
             return half;
         }
-        let w = capture::pins_at(part, behind);
+        let w = capture::pins_at(bytes, behind);
         if cuts_burst(burst, w) {
             return t - k;
         }
@@ -194,16 +194,16 @@ fn look_ahead(part: &[u8], n: u32, i: u32, mode: u32) -> u32
 }
 
 // The pairs that the burst of event i keeps in the end; none if the event gives no burst.
-pub fn kept(part: &[u8], n: u32, i: u32, mode: u32) -> u32
-    requires { ⌜ Fit (now part) n × (i < n) ⌝ }
-    ensures { λ r. ⌜ r ≡ keptOf mode (eventAt (now (part .entry)) i) (eventsFrom (now (part .entry)) n (i + 1)) ⌝ }
+pub fn kept(bytes: &[u8], n: u32, i: u32, mode: u32) -> u32
+    requires { ⌜ Fit (now bytes) n × (i < n) ⌝ }
+    ensures { λ r. ⌜ r ≡ keptOf mode (eventAt (now (bytes .entry)) i) (eventsFrom (now (bytes .entry)) n (i + 1)) ⌝ }
 {
-    let w = capture::pins_at(part, i as usize);
+    let w = capture::pins_at(bytes, i as usize);
     if !gives_burst(w) {
         return 0;
     }
     if pins::ten(w) {
         return length_of(mode) / 2;
     }
-    look_ahead(part, n, i, mode)
+    look_ahead(bytes, n, i, mode)
 }

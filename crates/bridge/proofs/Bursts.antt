@@ -10,7 +10,7 @@ use borrow.Author.Tests.{leb-true, leb-false, le-leb, lt-leb}
 use Rattle.reading.specs.Search.{implies, every, find, lesser, later}
 use Rattle.reading.specs.Mode.{h}
 use Rattle.reading.specs.Commands.{Command}
-use Rattle.reading.specs.Bursts.{Burst, reads, dataEnd, keep, cuts, cutTo, isCut, cutBy}
+use Rattle.reading.specs.Bursts.{Burst, reads, dataEnd, withPairs, cuts, cutTo, isCut, cutBy}
 use Rattle.reading.specs.Rules.{autoOver, untouchable}
 use Rattle.reading.proofs.Cuts.{All, nil, cons}
 use Rattle.bridge.specs.Summary.{ended, heldBy}
@@ -18,10 +18,10 @@ use Rattle.bridge.proofs.Tests.{ltb-is, held-is}
 
 -- ---- what a cut leaves alone
 
-pub blind : {A : Type 0} (q : Burst → A) → ((n : ℕ) (x : Burst) → q (keep n x) ≡ q x) → (t : ℕ) (c : Command) (x : Burst) → q (cutBy t c x) ≡ q x
+pub blind : {A : Type 0} (q : Burst → A) → ((n : ℕ) (x : Burst) → q (withPairs n x) ≡ q x) → (t : ℕ) (c : Command) (x : Burst) → q (cutBy t c x) ≡ q x
 blind q e t c x = go (isCut t c x)
   where
-    go : (b : Bool) → q (cond b (keep (cutTo t x) x) x) ≡ q x
+    go : (b : Bool) → q (cond b (withPairs (cutTo t x) x) x) ≡ q x
     go true = e (cutTo t x) x
     go false = refl
 
@@ -49,7 +49,7 @@ pub find-like : (q r : Burst → Bool) → ((x : Burst) → q x ≡ r x) → (xs
 find-like q r e [] = refl
 find-like q r e (x ∷ xs) = rw (e x, find-like q r e xs)
 
-pub held-cut : (kind : Burst → Bool) → ((n : ℕ) (x : Burst) → kind (keep n x) ≡ kind x) → (t : ℕ) (c : Command) (xs : List Burst) →
+pub held-cut : (kind : Burst → Bool) → ((n : ℕ) (x : Burst) → kind (withPairs n x) ≡ kind x) → (t : ℕ) (c : Command) (xs : List Burst) →
     heldBy kind (map (cutBy t c) xs) ≡ heldBy kind xs
 held-cut kind e t c [] = refl
 held-cut kind e t c (x ∷ xs) =

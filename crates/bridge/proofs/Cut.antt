@@ -10,7 +10,7 @@ use borrow.Author.Tests.{leb-true, leb-false, ltb-false}
 use Rattle.reading.specs.Search.{lesser}
 use Rattle.reading.specs.Mode.{h, CL}
 use Rattle.reading.specs.Commands.{Command}
-use Rattle.reading.specs.Bursts.{Burst, keep, cuts, cutTo, cutBy}
+use Rattle.reading.specs.Bursts.{Burst, withPairs, cuts, cutTo, cutBy}
 use Rattle.bridge.specs.Summary.{readerOf}
 use Rattle.bridge.proofs.Bursts.{blind, Given, lesser-low, lesser-high}
 
@@ -30,7 +30,7 @@ module _ (from t : ℕ) (l : from ≤ t) (c : Command) (x : Burst) (g : Given fr
   cut-until w e = rw e (go (x .auto) refl (ltb t (x .k + h (x .mode))) refl)
     where
       go : (a : Bool) → x .auto ≡ a → (b : Bool) → ltb t (x .k + h (x .mode)) ≡ b →
-          x .k + w + (cond (not a && b) (keep (cutTo t x) x) x) .n ≡ lesser (x .k + w + x .n) (t + w)
+          x .k + w + (cond (not a && b) (withPairs (cutTo t x) x) x) .n ≡ lesser (x .k + w + x .n) (t + w)
       go true p b q = sym (lesser-low (x .k + w + x .n) (t + w) (omega (arith, g .most, over p)))
       go false p true q = cut-pairs w (x .k) (x .n) t (omega (arith, g .before))
       go false p false q = sym (lesser-low (x .k + w + x .n) (t + w) (omega (arith, g .most, ltb-false t (x .k + h (x .mode)) q)))

@@ -55,18 +55,18 @@ module _ (s : Settings) (p : Part) (from t : ℕ) (l : from ≤ t) (g : Sound fr
   older none q = q
   older (some a) q = omega arith
 
-  kept-banks : (c : Command) (i : ℕ) → Before (suc t) (bankAfter s (p .mode) t c i (p .banks i) .active)
+  kept-banks : (c : Command) (i : ℕ) → Before (suc t) (bankAfter s (p .mode) t c i (p .banks i) .lastActive)
   kept-banks c i =
       go (is ACTIVE c && eqb i (c .bank)) (among (READ ∷ WRITE ∷ []) c && (eqb i (c .bank) && c .A10)) (is PRECHARGE c && (p .banks i .opened && names c i))
     where
       go : (u v w : Bool) →
           Before (suc t)
           (cond u (openOn (c .address) t (p .banks i))
-          (cond v (idleFrom (autoPrecharge s (p .mode) t c (p .banks i)) (p .banks i)) (cond w (idleFrom t (p .banks i)) (p .banks i))) .active)
+          (cond v (idleFrom (autoPrecharge s (p .mode) t c (p .banks i)) (p .banks i)) (cond w (idleFrom t (p .banks i)) (p .banks i))) .lastActive)
       go true v w = omega arith
-      go false true w = older (p .banks i .active) (g .banks i)
-      go false false true = older (p .banks i .active) (g .banks i)
-      go false false false = older (p .banks i .active) (g .banks i)
+      go false true w = older (p .banks i .lastActive) (g .banks i)
+      go false false true = older (p .banks i .lastActive) (g .banks i)
+      go false false false = older (p .banks i .lastActive) (g .banks i)
 
   found : (c : Command) → find reads (map (cutBy t c) (p .bursts)) ≡ Option·map (cutBy t c) (find reads (p .bursts))
   found c = find-map reads (cutBy t c) (blind reads (λ n x. refl) t c) (p .bursts)

@@ -32,7 +32,7 @@ Before from (some c) = c < from
 -- what holds of a part that was reached without a broken rule, the next event not before the cycle
 pub record Sound (from : ℕ) (p : Part) : Type 0 where
   pub bursts : All (Given from) (p .bursts)
-  pub banks : (b : ℕ) → Before from (p .banks b .active)
+  pub banks : (b : ℕ) → Before from (p .banks b .lastActive)
   pub late : Late from (p .bursts)
   pub latency : Latency from (p .mode) (find reads (p .bursts))
 
@@ -102,42 +102,42 @@ module _ (s : Settings) (p : Part) (from₀ t : ℕ) (l : from₀ ≤ t) (g : So
 
   pub quiet-next : (b a : ℕ) (ten : Bool) → laid (after (does NOP b a ten)) ≡ laid X
   quiet-next b a ten =
-      ap (λ (zs : List Burst). laid (summary s (record { banks = p .banks; mode = p .mode; refreshed = p .refreshed; modeSet = p .modeSet; clock = p .clock; bursts = zs })))
+      ap (λ (zs : List Burst). laid (summary s (record { banks = p .banks; mode = p .mode; lastRefresh = p .lastRefresh; lastModeSet = p .lastModeSet; clock = p .clock; bursts = zs })))
       (whole (does NOP b a ten) (λ x. none-cut (x .writes)))
 
   pub deselect-next : (b a : ℕ) (ten : Bool) → laid (after (does DESELECT b a ten)) ≡ laid X
   deselect-next b a ten =
-      ap (λ (zs : List Burst). laid (summary s (record { banks = p .banks; mode = p .mode; refreshed = p .refreshed; modeSet = p .modeSet; clock = p .clock; bursts = zs })))
+      ap (λ (zs : List Burst). laid (summary s (record { banks = p .banks; mode = p .mode; lastRefresh = p .lastRefresh; lastModeSet = p .lastModeSet; clock = p .clock; bursts = zs })))
       (whole (does DESELECT b a ten) (λ x. none-cut (x .writes)))
 
   pub refresh-next : (b a : ℕ) (ten : Bool) → X .busy ≤ t → laid (after (does AUTO-REFRESH b a ten)) ≡ refreshAfter s (laid X) t
   unfolding refreshAfter
   refresh-next b a ten busy =
-      ap (λ (zs : List Burst). laid (summary s (record { banks = p .banks; mode = p .mode; refreshed = some t; modeSet = p .modeSet; clock = clockAfterRefresh s t (p .clock); bursts = zs })))
+      ap (λ (zs : List Burst). laid (summary s (record { banks = p .banks; mode = p .mode; lastRefresh = some t; lastModeSet = p .lastModeSet; clock = clockAfterRefresh s t (p .clock); bursts = zs })))
       (whole (does AUTO-REFRESH b a ten) (λ x. none-cut (x .writes)))
-      ∙ ap (λ (v : ℕ). laid (timed v (dueAfterRefresh s t) X)) (later-high (t + s .tRFC) (from (p .modeSet) (s .tMRD)) (omega (arith, busy, later-least)))
+      ∙ ap (λ (v : ℕ). laid (timed v (dueAfterRefresh s t) X)) (later-high (t + s .tRFC) (from (p .lastModeSet) (s .tMRD)) (omega (arith, busy, later-least)))
     where
-      later-least : from (p .modeSet) (s .tMRD) ≤ X .busy
-      later-least = go (leb (from (p .refreshed) (s .tRFC)) (from (p .modeSet) (s .tMRD))) refl
+      later-least : from (p .lastModeSet) (s .tMRD) ≤ X .busy
+      later-least = go (leb (from (p .lastRefresh) (s .tRFC)) (from (p .lastModeSet) (s .tMRD))) refl
         where
-          go : (v : Bool) → leb (from (p .refreshed) (s .tRFC)) (from (p .modeSet) (s .tMRD)) ≡ v →
-              from (p .modeSet) (s .tMRD) ≤ cond v (from (p .modeSet) (s .tMRD)) (from (p .refreshed) (s .tRFC))
+          go : (v : Bool) → leb (from (p .lastRefresh) (s .tRFC)) (from (p .lastModeSet) (s .tMRD)) ≡ v →
+              from (p .lastModeSet) (s .tMRD) ≤ cond v (from (p .lastModeSet) (s .tMRD)) (from (p .lastRefresh) (s .tRFC))
           go true e = omega arith
-          go false e = omega (arith, leb-false (from (p .refreshed) (s .tRFC)) (from (p .modeSet) (s .tMRD)) e)
+          go false e = omega (arith, leb-false (from (p .lastRefresh) (s .tRFC)) (from (p .lastModeSet) (s .tMRD)) e)
 
   pub mode-next : (b a : ℕ) (ten : Bool) → X .busy ≤ t → laid (after (does MODE-REGISTER-SET b a ten)) ≡ modeSetAfter s (laid X) t
   unfolding modeSetAfter
   mode-next b a ten busy =
-      ap (λ (zs : List Burst). laid (summary s (record { banks = p .banks; mode = cond (eqb b 0) a (p .mode); refreshed = p .refreshed; modeSet = some t; clock = p .clock; bursts = zs })))
+      ap (λ (zs : List Burst). laid (summary s (record { banks = p .banks; mode = cond (eqb b 0) a (p .mode); lastRefresh = p .lastRefresh; lastModeSet = some t; clock = p .clock; bursts = zs })))
       (whole (does MODE-REGISTER-SET b a ten) (λ x. none-cut (x .writes)))
-      ∙ ap (λ (v : ℕ). laid (timed v (X .due) X)) (later-low (from (p .refreshed) (s .tRFC)) (t + s .tMRD) (omega (arith, busy, later-least)))
+      ∙ ap (λ (v : ℕ). laid (timed v (X .due) X)) (later-low (from (p .lastRefresh) (s .tRFC)) (t + s .tMRD) (omega (arith, busy, later-least)))
     where
-      later-least : from (p .refreshed) (s .tRFC) ≤ X .busy
-      later-least = go (leb (from (p .refreshed) (s .tRFC)) (from (p .modeSet) (s .tMRD))) refl
+      later-least : from (p .lastRefresh) (s .tRFC) ≤ X .busy
+      later-least = go (leb (from (p .lastRefresh) (s .tRFC)) (from (p .lastModeSet) (s .tMRD))) refl
         where
-          go : (v : Bool) → leb (from (p .refreshed) (s .tRFC)) (from (p .modeSet) (s .tMRD)) ≡ v →
-              from (p .refreshed) (s .tRFC) ≤ cond v (from (p .modeSet) (s .tMRD)) (from (p .refreshed) (s .tRFC))
-          go true e = leb-true (from (p .refreshed) (s .tRFC)) (from (p .modeSet) (s .tMRD)) e
+          go : (v : Bool) → leb (from (p .lastRefresh) (s .tRFC)) (from (p .lastModeSet) (s .tMRD)) ≡ v →
+              from (p .lastRefresh) (s .tRFC) ≤ cond v (from (p .lastModeSet) (s .tMRD)) (from (p .lastRefresh) (s .tRFC))
+          go true e = leb-true (from (p .lastRefresh) (s .tRFC)) (from (p .lastModeSet) (s .tMRD)) e
           go false e = omega arith
 
   pub active-next : (b a : ℕ) (ten : Bool) → b < 4 → laid (after (does ACTIVE b a ten)) ≡ activeAfter s (laid X) t b
@@ -153,7 +153,7 @@ module _ (s : Settings) (p : Part) (from₀ t : ℕ) (l : from₀ ≤ t) (g : So
       cut = whole (does ACTIVE b a ten) (λ x. none-cut (x .writes))
 
       written : (i : ℕ) (v : Bool) →
-          ended (find (λ x. x .writes && (eqb i (x .bank) && ever ((cond v (new i) (B i)) .active) (λ c. leb c (x .k)))) xs) (s .tWR) ≡
+          ended (find (λ x. x .writes && (eqb i (x .bank) && ever ((cond v (new i) (B i)) .lastActive) (λ c. leb c (x .k)))) xs) (s .tWR) ≡
           cond v 0 (X .written i)
       written i true = rw (fresh from₀ t i l (g .bursts))
       written i false = refl
@@ -162,13 +162,13 @@ module _ (s : Settings) (p : Part) (from₀ t : ℕ) (l : from₀ ≤ t) (g : So
       entries =
           same
           (fun-ext (λ i. either (λ x. cond (x .opened) 1 0) (B i) (new i) 1 refl (eqb i b)))
-          (fun-ext (λ i. either (λ x. from (x .active) (s .tRC)) (B i) (new i) (t + s .tRC) refl (eqb i b)))
-          (fun-ext (λ i. either (λ x. from (x .active) (s .tRRD)) (B i) (new i) (t + s .tRRD) refl (eqb i b)))
-          (fun-ext (λ i. neither (λ x. from (x .precharged) (s .tRP)) (B i) (new i) refl (eqb i b)))
-          (fun-ext (λ i. either (λ x. from (x .active) (s .tRCD)) (B i) (new i) (t + s .tRCD) refl (eqb i b)))
-          (fun-ext (λ i. either (λ x. from (x .active) (s .tRAS)) (B i) (new i) (t + s .tRAS) refl (eqb i b)))
+          (fun-ext (λ i. either (λ x. from (x .lastActive) (s .tRC)) (B i) (new i) (t + s .tRC) refl (eqb i b)))
+          (fun-ext (λ i. either (λ x. from (x .lastActive) (s .tRRD)) (B i) (new i) (t + s .tRRD) refl (eqb i b)))
+          (fun-ext (λ i. neither (λ x. from (x .prechargeCycle) (s .tRP)) (B i) (new i) refl (eqb i b)))
+          (fun-ext (λ i. either (λ x. from (x .lastActive) (s .tRCD)) (B i) (new i) (t + s .tRCD) refl (eqb i b)))
+          (fun-ext (λ i. either (λ x. from (x .lastActive) (s .tRAS)) (B i) (new i) (t + s .tRAS) refl (eqb i b)))
           (fun-ext (λ i. rw cut (written i (eqb i b))))
-          (fun-ext (λ i. either (λ x. orZero (x .active) + s .tRAS + s .tRP) (B i) (new i) (t + s .tRAS + s .tRP) refl (eqb i b)))
+          (fun-ext (λ i. either (λ x. orZero (x .lastActive) + s .tRAS + s .tRP) (B i) (new i) (t + s .tRAS + s .tRP) refl (eqb i b)))
           refl
           refl
           (rw cut)
@@ -184,7 +184,7 @@ module _ (s : Settings) (p : Part) (from₀ t : ℕ) (l : from₀ ≤ t) (g : So
   writes-stay c e =
       find-same (λ x. x .writes) (cutBy t c) (blind (λ x. x .writes) (λ n x. refl) t c) (λ x h. uncut t c x (rw (h, e))) xs
 
-  written-stays : (c : Command) → is WRITE c ≡ false → (i : ℕ) (o : Option ℕ) → o ≡ p .banks i .active →
+  written-stays : (c : Command) → is WRITE c ≡ false → (i : ℕ) (o : Option ℕ) → o ≡ p .banks i .lastActive →
       find (λ x. x .writes && (eqb i (x .bank) && ever o (λ a. leb a (x .k)))) (map (cutBy t c) xs) ≡ find (bankWrite p i) xs
   written-stays c e i o q =
       find-same (λ x. x .writes && (eqb i (x .bank) && ever o (λ a. leb a (x .k)))) (cutBy t c)
@@ -205,17 +205,17 @@ module _ (s : Settings) (p : Part) (from₀ t : ℕ) (l : from₀ ≤ t) (g : So
       go false e w = refl
 
   auto-rest : (b i : ℕ) (ten : Bool) (c : ℕ) →
-      from ((cond (eqb i b && ten) (idleFrom (later (orZero (p .banks i .active) + s .tRAS) c) (p .banks i)) (p .banks i)) .precharged) (s .tRP) ≡
+      from ((cond (eqb i b && ten) (idleFrom (later (orZero (p .banks i .lastActive) + s .tRAS) c) (p .banks i)) (p .banks i)) .prechargeCycle) (s .tRP) ≡
       put (X .rest) b (cond ten (later (X .locked b) (c + s .tRP)) (X .rest b)) i
   auto-rest b i ten c = go (eqb i b) refl ten
     where
       go : (v : Bool) → eqb i b ≡ v → (w : Bool) →
-          from ((cond (v && w) (idleFrom (later (orZero (p .banks i .active) + s .tRAS) c) (p .banks i)) (p .banks i)) .precharged) (s .tRP) ≡
+          from ((cond (v && w) (idleFrom (later (orZero (p .banks i .lastActive) + s .tRAS) c) (p .banks i)) (p .banks i)) .prechargeCycle) (s .tRP) ≡
           cond v (cond w (later (X .locked b) (c + s .tRP)) (X .rest b)) (X .rest i)
       go true e true =
-          sym (later-add (s .tRP) (orZero (p .banks i .active) + s .tRAS) c)
-          ∙ ap (λ (j : ℕ). later (orZero (p .banks j .active) + s .tRAS + s .tRP) (c + s .tRP)) (eqb-true i b e)
-      go true e false = ap (λ (j : ℕ). from (p .banks j .precharged) (s .tRP)) (eqb-true i b e)
+          sym (later-add (s .tRP) (orZero (p .banks i .lastActive) + s .tRAS) c)
+          ∙ ap (λ (j : ℕ). later (orZero (p .banks j .lastActive) + s .tRAS + s .tRP) (c + s .tRP)) (eqb-true i b e)
+      go true e false = ap (λ (j : ℕ). from (p .banks j .prechargeCycle) (s .tRP)) (eqb-true i b e)
       go false e w = refl
 
   -- a bank that stays open
@@ -244,10 +244,10 @@ module _ (s : Settings) (p : Part) (from₀ t : ℕ) (l : from₀ ≤ t) (g : So
       c = does READ b a ten
 
       y : ℕ → Bank
-      y i = idleFrom (later (orZero (p .banks i .active) + s .tRAS) (t + h (p .mode))) (p .banks i)
+      y i = idleFrom (later (orZero (p .banks i .lastActive) + s .tRAS) (t + h (p .mode))) (p .banks i)
 
-      keeps-active : (i : ℕ) → (cond (eqb i b && ten) (y i) (p .banks i)) .active ≡ p .banks i .active
-      keeps-active i = neither (λ x. x .active) (p .banks i) (y i) refl (eqb i b && ten)
+      keeps-active : (i : ℕ) → (cond (eqb i b && ten) (y i) (p .banks i)) .lastActive ≡ p .banks i .lastActive
+      keeps-active i = neither (λ x. x .lastActive) (p .banks i) (y i) refl (eqb i b && ten)
 
       entries : after c ≡
           banked (put (X .opened) b (cond ten 0 1)) (put (X .rest) b (cond ten (later (X .locked b) (t + h (p .mode) + s .tRP)) (X .rest b)))
@@ -374,20 +374,20 @@ module _ (s : Settings) (p : Part) (from₀ t : ℕ) (l : from₀ ≤ t) (g : So
       stored false = left-open b o (given false) ∙ sym new-stored
 
       y : ℕ → Bank
-      y i = idleFrom (later (orZero (p .banks i .active) + s .tRAS) (t + 1 + h (p .mode) + s .tWR)) (p .banks i)
+      y i = idleFrom (later (orZero (p .banks i .lastActive) + s .tRAS) (t + 1 + h (p .mode) + s .tWR)) (p .banks i)
 
-      keeps-active : (i : ℕ) → (cond (eqb i b && ten) (y i) (p .banks i)) .active ≡ p .banks i .active
-      keeps-active i = neither (λ x. x .active) (p .banks i) (y i) refl (eqb i b && ten)
+      keeps-active : (i : ℕ) → (cond (eqb i b && ten) (y i) (p .banks i)) .lastActive ≡ p .banks i .lastActive
+      keeps-active i = neither (λ x. x .lastActive) (p .banks i) (y i) refl (eqb i b && ten)
 
       reads-whole : find reads (map (cutBy t c) xs) ≡ find reads xs
       reads-whole = reads-stay c (λ x f. rw f)
 
-      written : (i : ℕ) (u : Option ℕ) → u ≡ p .banks i .active → (v : Bool) → eqb i b ≡ v →
+      written : (i : ℕ) (u : Option ℕ) → u ≡ p .banks i .lastActive → (v : Bool) → eqb i b ≡ v →
           ended
           (cond (v && ever u (λ r. leb r t)) (some (burstGiven s p t c))
           (find (λ x. x .writes && (eqb i (x .bank) && ever u (λ r. leb r (x .k)))) (map (cutBy t c) xs))) (s .tWR) ≡
           cond v (t + 1 + h (p .mode) + s .tWR) (W i)
-      written i u e true f = rw (e, open-by i (p .banks i .active) (g .banks i))
+      written i u e true f = rw (e, open-by i (p .banks i .lastActive) (g .banks i))
       written i u e false f =
           ap (λ (r : Option ℕ). ended (find (λ x. x .writes && (eqb i (x .bank) && ever r (λ n. leb n (x .k)))) (map (cutBy t c) xs)) (s .tWR)) e
           ∙ ap (λ (r : Option Burst). ended r (s .tWR)) (find-map (bankWrite p i) (cutBy t c) (blind (bankWrite p i) (λ n x. refl) t c) xs)
@@ -497,11 +497,11 @@ module _ (s : Settings) (p : Part) (from₀ t : ℕ) (l : from₀ ≤ t) (g : So
       go (some x) f y = by x f y (x .auto) refl (named (x .bank)) refl
 
   -- a bank that a PRECHARGE names, where it is open
-  rests : (i : ℕ) (v : Bool) → from ((cond (p .banks i .opened && v) (idleFrom t (p .banks i)) (p .banks i)) .precharged) (s .tRP) ≡
+  rests : (i : ℕ) (v : Bool) → from ((cond (p .banks i .opened && v) (idleFrom t (p .banks i)) (p .banks i)) .prechargeCycle) (s .tRP) ≡
       cond v (cond (eqb (X .opened i) 0) (X .rest i) (t + s .tRP)) (X .rest i)
   rests i v = go (p .banks i .opened) v
     where
-      go : (o v : Bool) → from ((cond (o && v) (idleFrom t (p .banks i)) (p .banks i)) .precharged) (s .tRP) ≡
+      go : (o v : Bool) → from ((cond (o && v) (idleFrom t (p .banks i)) (p .banks i)) .prechargeCycle) (s .tRP) ≡
           cond v (cond (eqb (cond o 1 0) 0) (X .rest i) (t + s .tRP)) (X .rest i)
       go true true = refl
       go true false = refl
@@ -530,8 +530,8 @@ module _ (s : Settings) (p : Part) (from₀ t : ℕ) (l : from₀ ≤ t) (g : So
       y : ℕ → Bank
       y i = idleFrom t (p .banks i)
 
-      keeps-active : (i : ℕ) → (cond (p .banks i .opened && eqb i b) (y i) (p .banks i)) .active ≡ p .banks i .active
-      keeps-active i = neither (λ x. x .active) (p .banks i) (y i) refl (p .banks i .opened && eqb i b)
+      keeps-active : (i : ℕ) → (cond (p .banks i .opened && eqb i b) (y i) (p .banks i)) .lastActive ≡ p .banks i .lastActive
+      keeps-active i = neither (λ x. x .lastActive) (p .banks i) (y i) refl (p .banks i .opened && eqb i b)
 
       at-own : (i : ℕ) (v : Bool) → eqb i b ≡ v →
           cond v (cond (eqb (X .opened i) 0) (X .rest i) (t + s .tRP)) (X .rest i) ≡
@@ -571,8 +571,8 @@ module _ (s : Settings) (p : Part) (from₀ t : ℕ) (l : from₀ ≤ t) (g : So
       y : ℕ → Bank
       y i = idleFrom t (p .banks i)
 
-      keeps-active : (i : ℕ) → (cond (p .banks i .opened && true) (y i) (p .banks i)) .active ≡ p .banks i .active
-      keeps-active i = neither (λ x. x .active) (p .banks i) (y i) refl (p .banks i .opened && true)
+      keeps-active : (i : ℕ) → (cond (p .banks i .opened && true) (y i) (p .banks i)) .lastActive ≡ p .banks i .lastActive
+      keeps-active i = neither (λ x. x .lastActive) (p .banks i) (y i) refl (p .banks i .opened && true)
 
       small : (x : Burst) → find reads xs ≡ some x → true ≡ ltb (x .bank) 4
       small x f = sym (lt-ltb (x .bank) 4 (read-given x f .bank))

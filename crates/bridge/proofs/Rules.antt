@@ -73,7 +73,7 @@ module _ (s : Settings) (p : Part) (t : ℕ) where
   unfolding activeBreaks
   active-agrees b a ten l w =
       simp num-cond
-      (rw (others-is (λ i. after (s .tRRD) (p .banks i .active) t) b, stands (summary s p) b l .opened, stands (summary s p) b l .rest, stands (summary s p) b l .again, open-is (p .banks b .opened), mod-eq-of-lt w)
+      (rw (others-is (λ i. after (s .tRRD) (p .banks i .lastActive) t) b, stands (summary s p) b l .opened, stands (summary s p) b l .rest, stands (summary s p) b l .again, open-is (p .banks b .opened), mod-eq-of-lt w)
       (simp (leb-later, after-is)))
 
   pub terminate-agrees : (b a : ℕ) (ten : Bool) (from : ℕ) → from ≤ t → All (Given from) (p .bursts) → Late from (p .bursts) →
@@ -89,7 +89,7 @@ module _ (s : Settings) (p : Part) (t : ℕ) where
   close-agrees b a l =
       simp num-cond
       (rw (
-        one-is (λ i. p .banks i .opened) (λ i. after (s .tRAS) (p .banks i .active) t) b l,
+        one-is (λ i. p .banks i .opened) (λ i. after (s .tRAS) (p .banks i .lastActive) t) b l,
         one-is (λ i. p .banks i .opened) (λ i. ever (find (bankWrite p i) (p .bursts)) (λ x. leb (dataEnd x + s .tWR) t)) b l,
         stands (summary s p) b l .opened,
         stands (summary s p) b l .close,

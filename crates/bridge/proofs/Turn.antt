@@ -13,7 +13,7 @@ use Rattle.reading.specs.Settings.{Settings}
 use Rattle.reading.specs.Commands.{Op, ACTIVE, READ, WRITE, BURST-TERMINATE, PRECHARGE, AUTO-REFRESH, MODE-REGISTER-SET, NOP, DESELECT, Command, opOf, commandOf}
 use Rattle.reading.specs.Bursts.{reads}
 use Rattle.reading.specs.Part.{Part, start, partAfter}
-use Rattle.reading.specs.Rules.{after, keeps, rules, lowestBroken}
+use Rattle.reading.specs.Rules.{after, keepsRule, rules, lowestBroken}
 use Rattle.reading.proofs.Cuts.{nil}
 use Rattle.reading.proofs.Found.{find-none}
 use Rattle.deadlines.specs.Deadlines.{paceOf, startOf}
@@ -42,11 +42,11 @@ module _ (s : Settings) (wide : s .rowBits < 32) (p : Part) (from₀ t : ℕ) (l
 
   pub record Turned (c : Command) : Type 0 where
     pub breaks : stepBreaks s (laid (summary s p)) t w ≡ num (lowestBroken rules s p t c)
-    pub onward : lowestBroken rules s p t c ≡ none → Onward c
+    pub brokenOr : lowestBroken rules s p t c ≡ none → Onward c
 
   -- a rule that an unbroken event keeps
-  kept : (c : Command) → lowestBroken rules s p t c ≡ none → (r : ℕ) → List·Memᴰ r rules → keeps r s p t c ≡ true
-  kept c e r m = not-false (keeps r s p t c) (find-none (λ q. not (keeps q s p t c)) rules e r m)
+  kept : (c : Command) → lowestBroken rules s p t c ≡ none → (r : ℕ) → List·Memᴰ r rules → keepsRule r s p t c ≡ true
+  kept c e r m = not-false (keepsRule r s p t c) (find-none (λ q. not (keepsRule q s p t c)) rules e r m)
 
   abbrev here : {r : ℕ} {rs : List ℕ} → List·Memᴰ r (r ∷ rs)
   here = List·Memᴰ.List·Memᴰ·head refl
@@ -70,11 +70,11 @@ module _ (s : Settings) (wide : s .rowBits < 32) (p : Part) (from₀ t : ℕ) (l
   X = summary s p
 
   -- what rules 4, 12 and 13 say of the summary
-  busy-past : (leb (from (p .refreshed) (s .tRFC)) t && leb (from (p .modeSet) (s .tMRD)) t) ≡ true → X .busy ≤ t
-  busy-past e = leb-true (X .busy) t (leb-later (from (p .refreshed) (s .tRFC)) (from (p .modeSet) (s .tMRD)) t ∙ e)
+  busy-past : (leb (from (p .lastRefresh) (s .tRFC)) t && leb (from (p .lastModeSet) (s .tMRD)) t) ≡ true → X .busy ≤ t
+  busy-past e = leb-true (X .busy) t (leb-later (from (p .lastRefresh) (s .tRFC)) (from (p .lastModeSet) (s .tMRD)) t ∙ e)
 
-  both-after : (after (s .tRFC) (p .refreshed) t && after (s .tMRD) (p .modeSet) t) ≡ true → X .busy ≤ t
-  both-after e = busy-past (rw (after-is (s .tRFC) (p .refreshed) t, after-is (s .tMRD) (p .modeSet) t) at e)
+  both-after : (after (s .tRFC) (p .lastRefresh) t && after (s .tMRD) (p .lastModeSet) t) ≡ true → X .busy ≤ t
+  both-after e = busy-past (rw (after-is (s .tRFC) (p .lastRefresh) t, after-is (s .tMRD) (p .lastModeSet) t) at e)
 
   -- a command by its pins, once its laws are in hand
   turn : (q : ℕ) (c : Command) → commandOf w ≡ c → {rule : ℕ} {left pace : List ℕ} → codes.Does s (laid X) (paceOf (p .mode)) t w rule left pace →
@@ -84,7 +84,7 @@ module _ (s : Settings) (wide : s .rowBits < 32) (p : Part) (from₀ t : ℕ) (l
       subst (λ (k : Command). Turned k) (sym e)
       (record {
         breaks = d .breaks ∙ sym agrees;
-        onward = λ z. record { leaves = d .leaves ∙ sym (next z); sets = d .sets ∙ pace; sound = sound z };
+        brokenOr = λ z. record { leaves = d .leaves ∙ sym (next z); sets = d .sets ∙ pace; sound = sound z };
       })
 
   b : ℕ

@@ -80,14 +80,14 @@ abbrev pub summary : Settings → Part → Held
 summary s p =
     record {
       opened = λ b. cond (p .banks b .opened) 1 0;
-      again = λ b. from (p .banks b .active) (s .tRC);
-      other = λ b. from (p .banks b .active) (s .tRRD);
-      rest = λ b. from (p .banks b .precharged) (s .tRP);
-      column = λ b. from (p .banks b .active) (s .tRCD);
-      close = λ b. from (p .banks b .active) (s .tRAS);
+      again = λ b. from (p .banks b .lastActive) (s .tRC);
+      other = λ b. from (p .banks b .lastActive) (s .tRRD);
+      rest = λ b. from (p .banks b .prechargeCycle) (s .tRP);
+      column = λ b. from (p .banks b .lastActive) (s .tRCD);
+      close = λ b. from (p .banks b .lastActive) (s .tRAS);
       written = λ b. ended (lastBankWrite p b) (s .tWR);
-      locked = λ b. orZero (p .banks b .active) + s .tRAS + s .tRP;
-      busy = later (from (p .refreshed) (s .tRFC)) (from (p .modeSet) (s .tMRD));
+      locked = λ b. orZero (p .banks b .lastActive) + s .tRAS + s .tRP;
+      busy = later (from (p .lastRefresh) (s .tRFC)) (from (p .lastModeSet) (s .tMRD));
       due = dueBy s (p .clock);
       bus = cleared (lastRead p);
       reads = heldBy reads (p .bursts);

@@ -6,13 +6,13 @@ use mathlib.Core.Option.{Option, none, some}
 use mathlib.Core.Path.{_≡_, refl, sym, ap, _∙_}
 use native.Mathlib.Decide.{decLt}
 use native.Mathlib.Omega.{arith}
-use borrow.Author.Tests.{eqb-true, leb-true, ltb-true, ltb-false, not-false, ne-eqb}
+use borrow.Author.Tests.{eqb-true, leb-true, ltb-true, not-false, ne-eqb}
 use lib.ListN.{length, getD, length-map}
 use lib.Dec.{leb, ltb, eqb}
 use Rattle.reading.specs.Search.{given, count}
 use Rattle.reading.specs.Words.{wordAt}
 use Rattle.reading.specs.Settings.{settingFits, badSetting}
-use Rattle.reading.specs.Capture.{headerWord, eventCount, settingWords, eventPart, eventAt, badLength, goodHeader, lastCycle, pinBits, cycleFits, eventFits, badEvent}
+use Rattle.reading.specs.Capture.{headerWord, eventCount, settingWords, eventBytes, eventAt, lengthFits, headerFits, lastCycle, pinBits, cycleFits, eventFits, badEvent}
 use Rattle.reading.specs.Answers.{Answer, refused, answered, unless, accepted}
 use Rattle.words.proofs.Search.{none-below}
 
@@ -31,10 +31,10 @@ pub followed : {A : Type 0} (capture : List ℕ) (rest : Answer A) →
     accepted capture rest ≡ follow (accepted capture (answered (tt {0}))) rest
 unfolding accepted
 followed {A} capture rest =
-    let o1 = given 0 (badLength capture) in
-    let o2 = given 0 (not (goodHeader capture)) in
+    let o1 = given 0 (not (lengthFits capture)) in
+    let o2 = given 0 (not (headerFits capture)) in
     let o3 = badSetting (settingWords capture) in
-    let o4 = badEvent (pinBits capture) (eventPart capture) (eventCount capture) in
+    let o4 = badEvent (pinBits capture) (eventBytes capture) (eventCount capture) in
     let a4 : Answer (Unit {0}) = unless 4 o4 (answered tt) in
     let a3 : Answer (Unit {0}) = unless 3 o3 a4 in
     let a2 : Answer (Unit {0}) = unless 2 o2 a3 in
@@ -59,7 +59,7 @@ pub record Sized (capture : List ℕ) : Type 0 where
 pub record Sound (capture : List ℕ) : Type 0 where
   pub sized : Sized capture
   pub settings : (i : ℕ) → i < 14 → settingFits i (getD (settingWords capture) i 0) ≡ true
-  pub events : (i : ℕ) → i < eventCount capture → cycleFits (eventPart capture) i ≡ true
+  pub events : (i : ℕ) → i < eventCount capture → cycleFits (eventBytes capture) i ≡ true
 
 nothing-wrong : (o1 o2 o3 o4 : Option ℕ) →
     unless 1 o1 (unless 2 o2 (unless 3 o3 (unless 4 o4 (answered (tt {0}))))) ≡ answered tt →
@@ -74,10 +74,6 @@ not-given : (b : Bool) → given 0 b ≡ none → b ≡ false
 not-given true h = let z : _≡_ {A = ℕ} 0 1 = cc in absurd (omega arith)
 not-given false h = refl
 
-neither : (a b : Bool) → (a || b) ≡ false → (a ≡ false) × (b ≡ false)
-neither true b h = let z : _≡_ {A = ℕ} 0 1 = cc in absurd (omega arith)
-neither false b h = (refl, h)
-
 pub both : (a b : Bool) → (a && b) ≡ true → (a ≡ true) × (b ≡ true)
 both a b h = and-eq-true-iff a b .0 h
 
@@ -89,22 +85,22 @@ third-and-last a b c d e f h =
     (both (a && b) c (three .0) .1, five .1)
 
 module _ (capture : List ℕ) where
-  lengths : badLength capture ≡ false → (ltb (length capture) 80 || ltb 64080 (length capture) ≡ false) × (not (eqb (headerWord capture 0) (length capture)) ≡ false)
-  unfolding badLength
-  lengths h = neither (ltb (length capture) 80 || ltb 64080 (length capture)) _ h
+  lengths : lengthFits capture ≡ true → (leb 80 (length capture) && leb (length capture) 64080 ≡ true) × (eqb (headerWord capture 0) (length capture) ≡ true)
+  unfolding lengthFits
+  lengths h = both (leb 80 (length capture) && leb (length capture) 64080) _ h
 
-  pub long-enough : badLength capture ≡ false → 80 ≤ length capture
-  long-enough h = ltb-false _ _ (neither (ltb (length capture) 80) _ (lengths h .0) .0)
+  pub long-enough : lengthFits capture ≡ true → 80 ≤ length capture
+  long-enough h = leb-true _ _ (both (leb 80 (length capture)) _ (lengths h .0) .0)
 
-  counts : goodHeader capture ≡ true → (leb (eventCount capture) 8000 ≡ true) × (eqb (headerWord capture 0) (80 + 8 * eventCount capture) ≡ true)
-  unfolding goodHeader
+  counts : headerFits capture ≡ true → (leb (eventCount capture) 8000 ≡ true) × (eqb (headerWord capture 0) (80 + 8 * eventCount capture) ≡ true)
+  unfolding headerFits
   counts h =
       third-and-last (eqb (headerWord capture 1) 14) (eqb (headerWord capture 2) 24) _ (eqb (headerWord capture 4) 80) (eqb (headerWord capture 5) 0) _ h
 
-  pub sized : badLength capture ≡ false → goodHeader capture ≡ true → Sized capture
+  pub sized : lengthFits capture ≡ true → headerFits capture ≡ true → Sized capture
   sized l h =
       record {
-        size = sym (eqb-true _ _ (not-false _ (lengths l .1))) ∙ eqb-true _ _ (counts h .1);
+        size = sym (eqb-true _ _ (lengths l .1)) ∙ eqb-true _ _ (counts h .1);
         few = leb-true _ _ (counts h .0);
       }
 
@@ -116,38 +112,38 @@ module _ (capture : List ℕ) where
   unfolding accepted badSetting badEvent eventFits
   accepted-sound h =
       let bits = pinBits capture in
-      let clear = nothing-wrong (given 0 (badLength capture)) (given 0 (not (goodHeader capture))) (badSetting (settingWords capture)) (badEvent bits (eventPart capture) (eventCount capture)) h in
-      let fits : (i : ℕ) → i < eventCount capture → eventFits bits (eventPart capture) i ≡ true =
-      λ i l. not-false _ (none-below (λ j. not (eventFits bits (eventPart capture) j)) (eventCount capture) (clear .3) i l) in
+      let clear = nothing-wrong (given 0 (not (lengthFits capture))) (given 0 (not (headerFits capture))) (badSetting (settingWords capture)) (badEvent bits (eventBytes capture) (eventCount capture)) h in
+      let fits : (i : ℕ) → i < eventCount capture → eventFits bits (eventBytes capture) i ≡ true =
+      λ i l. not-false _ (none-below (λ j. not (eventFits bits (eventBytes capture) j)) (eventCount capture) (clear .3) i l) in
       record {
-        sized = sized (not-given _ (clear .0)) (not-false _ (not-given _ (clear .1)));
+        sized = sized (not-false _ (not-given _ (clear .0))) (not-false _ (not-given _ (clear .1)));
         settings = λ i l. not-false _ (none-below (λ j. not (settingFits j (getD (settingWords capture) j 0))) (length (settingWords capture)) (clear .2) i (omega (arith, words-count)));
-        events = λ i l. both (ltb (eventAt (eventPart capture) i .pins) (2 ^ bits)) _ (fits i l) .1;
+        events = λ i l. both (ltb (eventAt (eventBytes capture) i .pins) (2 ^ bits)) _ (fits i l) .1;
       }
 
 -- ---- events that fit
 
-module _ (part : List ℕ) (i : ℕ) (h : cycleFits part i ≡ true) where
-  fit : (leb (eventAt part i .cycle) lastCycle ≡ true) × ((eqb i 0 || ltb (eventAt part (i - 1) .cycle) (eventAt part i .cycle)) ≡ true)
-  fit = both (leb (eventAt part i .cycle) lastCycle) _ h
+module _ (bytes : List ℕ) (i : ℕ) (h : cycleFits bytes i ≡ true) where
+  fit : (leb (eventAt bytes i .cycle) lastCycle ≡ true) × ((eqb i 0 || ltb (eventAt bytes (i - 1) .cycle) (eventAt bytes i .cycle)) ≡ true)
+  fit = both (leb (eventAt bytes i .cycle) lastCycle) _ h
 
-  pub cycle-fits : eventAt part i .cycle ≤ lastCycle
+  pub cycle-fits : eventAt bytes i .cycle ≤ lastCycle
   cycle-fits = leb-true _ _ (fit .0)
 
-  pub cycle-rises : 0 < i → eventAt part (i - 1) .cycle < eventAt part i .cycle
+  pub cycle-rises : 0 < i → eventAt bytes (i - 1) .cycle < eventAt bytes i .cycle
   cycle-rises l =
       let first : eqb i 0 ≡ false = ne-eqb i 0 (omega arith) in
       ltb-true _ _ (rw first at (fit .1))
 
 -- cycles rise strictly
-pub cycles-rise : (part : List ℕ) (n : ℕ) → ((i : ℕ) → i < n → cycleFits part i ≡ true) →
-    (i j : ℕ) → i < j → j < n → eventAt part i .cycle < eventAt part j .cycle
-cycles-rise part n f i zero l m = absurd (omega arith)
-cycles-rise part n f i (suc j) l m = go (decLt i j) (λ k. cycles-rise part n f i j k (omega arith))
+pub cycles-rise : (bytes : List ℕ) (n : ℕ) → ((i : ℕ) → i < n → cycleFits bytes i ≡ true) →
+    (i j : ℕ) → i < j → j < n → eventAt bytes i .cycle < eventAt bytes j .cycle
+cycles-rise bytes n f i zero l m = absurd (omega arith)
+cycles-rise bytes n f i (suc j) l m = go (decLt i j) (λ k. cycles-rise bytes n f i j k (omega arith))
   where
-    next : eventAt part j .cycle < eventAt part (suc j) .cycle
-    next = let e : suc j - 1 ≡ j = omega arith in rw e at (cycle-rises part (suc j) (f (suc j) m) (omega arith))
+    next : eventAt bytes j .cycle < eventAt bytes (suc j) .cycle
+    next = let e : suc j - 1 ≡ j = omega arith in rw e at (cycle-rises bytes (suc j) (f (suc j) m) (omega arith))
 
-    go : Dec (i < j) → (i < j → eventAt part i .cycle < eventAt part j .cycle) → eventAt part i .cycle < eventAt part (suc j) .cycle
+    go : Dec (i < j) → (i < j → eventAt bytes i .cycle < eventAt bytes j .cycle) → eventAt bytes i .cycle < eventAt bytes (suc j) .cycle
     go (yes k) ih = omega (arith, ih k, next)
     go (no k) ih = let e : i ≡ j = omega arith in rw e next

@@ -13,16 +13,16 @@ use Rattle.reading.specs.Capture.{eventAt, lastCycle, eventFits, badEvent}
 use Rattle.words.proofs.Search.{nothing-below}
 use Rattle.capture.proofs.Accepted.{both}
 
-module _ (part : List ℕ) (n : ℕ) where
+module _ (bytes : List ℕ) (n : ℕ) where
   -- events 0 to i - 1 were looked at
   pub record Looked (fine : Bool) (last i : ℕ) : Type 0 where
     pub within : i ≤ n
     pub begun : 0 < i
-    pub latest : last ≡ eventAt part (i - 1) .cycle
-    pub low : fine ≡ true → (j : ℕ) → j < i → eventAt part j .pins < 2 ^ 20
-    pub rise : fine ≡ true → (j : ℕ) → 0 < j → j < i → eventAt part (j - 1) .cycle < eventAt part j .cycle
+    pub latest : last ≡ eventAt bytes (i - 1) .cycle
+    pub low : fine ≡ true → (j : ℕ) → j < i → eventAt bytes j .pins < 2 ^ 20
+    pub rise : fine ≡ true → (j : ℕ) → 0 < j → j < i → eventAt bytes (j - 1) .cycle < eventAt bytes j .cycle
 
-  pub begins : 0 < n → {pins last : ℕ} → pins ≡ eventAt part 0 .pins → last ≡ eventAt part 0 .cycle → Looked (ltb pins (2 ^ 20)) last 1
+  pub begins : 0 < n → {pins last : ℕ} → pins ≡ eventAt bytes 0 .pins → last ≡ eventAt bytes 0 .cycle → Looked (ltb pins (2 ^ 20)) last 1
   begins l {pins} {last} p c =
       record {
         within = omega arith;
@@ -33,7 +33,7 @@ module _ (part : List ℕ) (n : ℕ) where
       }
 
   pub goes-on : {fine new-one fine′ : Bool} {last i cycle pins : ℕ} → Looked fine last i → i < n →
-      cycle ≡ eventAt part i .cycle → pins ≡ eventAt part i .pins → new-one ≡ (ltb last cycle && ltb pins (2 ^ 20)) → fine′ ≡ (fine && new-one) → Looked fine′ cycle (i + 1)
+      cycle ≡ eventAt bytes i .cycle → pins ≡ eventAt bytes i .pins → new-one ≡ (ltb last cycle && ltb pins (2 ^ 20)) → fine′ ≡ (fine && new-one) → Looked fine′ cycle (i + 1)
   goes-on {fine} {new-one} {fine′} {last} {i} {cycle} {pins} b l c p g f =
       record {
         within = omega arith;
@@ -49,45 +49,45 @@ module _ (part : List ℕ) (n : ℕ) where
       new : fine′ ≡ true → (ltb last cycle ≡ true) × (ltb pins (2 ^ 20) ≡ true)
       new e = both (ltb last cycle) _ (sym g ∙ both fine _ (sym f ∙ e) .1)
 
-      new-low : fine′ ≡ true → (j : ℕ) → Dec (j < i) → j < i + 1 → eventAt part j .pins < 2 ^ 20
+      new-low : fine′ ≡ true → (j : ℕ) → Dec (j < i) → j < i + 1 → eventAt bytes j .pins < 2 ^ 20
       new-low e j (yes k) m = b .low (old e) j k
       new-low e j (no k) m = let z : j ≡ i = omega arith in rw (z, ← p) (ltb-true pins (2 ^ 20) (new e .1))
 
-      new-rise : fine′ ≡ true → (j : ℕ) → Dec (j < i) → 0 < j → j < i + 1 → eventAt part (j - 1) .cycle < eventAt part j .cycle
+      new-rise : fine′ ≡ true → (j : ℕ) → Dec (j < i) → 0 < j → j < i + 1 → eventAt bytes (j - 1) .cycle < eventAt bytes j .cycle
       new-rise e j (yes k) a m = b .rise (old e) j a k
       new-rise e j (no k) a m = let z : j ≡ i = omega arith in rw (z, ← c, ← b .latest) (ltb-true last cycle (new e .0))
 
   -- the last cycle is the largest
   module _ {fine : Bool} {last i : ℕ} (b : Looked fine last i) (e : fine ≡ true) where
-    climbs : (j k : ℕ) → j + k < i → eventAt part j .cycle ≤ eventAt part (j + k) .cycle
+    climbs : (j k : ℕ) → j + k < i → eventAt bytes j .cycle ≤ eventAt bytes (j + k) .cycle
     climbs j zero l = let z : j + 0 ≡ j = add-zero j in rw z (omega arith)
     climbs j (suc k) l =
         let z : j + suc k - 1 ≡ j + k = omega (arith, add-suc j k) in
-        let up : eventAt part (j + suc k - 1) .cycle < eventAt part (j + suc k) .cycle = b .rise e (j + suc k) (omega (arith, add-suc j k)) l in
+        let up : eventAt bytes (j + suc k - 1) .cycle < eventAt bytes (j + suc k) .cycle = b .rise e (j + suc k) (omega (arith, add-suc j k)) l in
         omega (arith, climbs j k (omega (arith, add-suc j k)), rw z at up)
 
-    below-last : (j : ℕ) → j < i → eventAt part j .cycle ≤ last
+    below-last : (j : ℕ) → j < i → eventAt bytes j .cycle ≤ last
     below-last j l =
         let z : j + (i - 1 - j) ≡ i - 1 = omega arith in
         rw (b .latest, ← z) (climbs j (i - 1 - j) (omega arith))
 
-    fits : last ≤ lastCycle → (j : ℕ) → j < i → eventFits 20 part j ≡ true
+    fits : last ≤ lastCycle → (j : ℕ) → j < i → eventFits 20 bytes j ≡ true
     unfolding eventFits
     fits m j l =
-        rw (lt-ltb (eventAt part j .pins) (2 ^ 20) (b .low e j l), le-leb (eventAt part j .cycle) lastCycle (omega (arith, below-last j l))) (above j l)
+        rw (lt-ltb (eventAt bytes j .pins) (2 ^ 20) (b .low e j l), le-leb (eventAt bytes j .cycle) lastCycle (omega (arith, below-last j l))) (above j l)
       where
-        above : (j : ℕ) → j < i → (eqb j 0 || ltb (eventAt part (j - 1) .cycle) (eventAt part j .cycle)) ≡ true
+        above : (j : ℕ) → j < i → (eqb j 0 || ltb (eventAt bytes (j - 1) .cycle) (eventAt bytes j .cycle)) ≡ true
         above zero l = refl
         above (suc j) l =
             rw (ne-eqb (suc j) 0 (λ q. omega arith))
-            (lt-ltb (eventAt part (suc j - 1) .cycle) (eventAt part (suc j) .cycle) (b .rise e (suc j) (omega arith) l))
+            (lt-ltb (eventAt bytes (suc j - 1) .cycle) (eventAt bytes (suc j) .cycle) (b .rise e (suc j) (omega arith) l))
 
-  pub ends : {fine r : Bool} {last i : ℕ} → Looked fine last i → n ≤ i → r ≡ (fine && leb last lastCycle) → r ≡ true → badEvent 20 part n ≡ none
+  pub ends : {fine r : Bool} {last i : ℕ} → Looked fine last i → n ≤ i → r ≡ (fine && leb last lastCycle) → r ≡ true → badEvent 20 bytes n ≡ none
   unfolding badEvent
   ends {fine} {r} {last} {i} b l f e =
       let told = both fine (leb last lastCycle) (sym f ∙ e) in
       nothing-below _ n (λ j k. rw (fits b (told .0) (leb-true last lastCycle (told .1)) j (omega arith)))
 
-  pub no-events : n ≡ 0 → badEvent 20 part n ≡ none
+  pub no-events : n ≡ 0 → badEvent 20 bytes n ≡ none
   unfolding badEvent
   no-events z = rw z

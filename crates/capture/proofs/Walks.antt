@@ -44,55 +44,55 @@ module _ {capture loaded : List ℕ} {i : ℕ} (s : Loading capture loaded i) wh
 
 -- the first cycle above that of the event before
 unfoldable pub nextCycle : List ℕ → ℕ → ℕ
-nextCycle part i = cond (eqb i 0) 0 (suc (eventAt part (i - 1) .cycle))
+nextCycle bytes i = cond (eqb i 0) 0 (suc (eventAt bytes (i - 1) .cycle))
 
 above : (b : Bool) (before cycle : ℕ) → leb (cond b 0 (suc before)) cycle ≡ (b || ltb before cycle)
 above true before cycle = leb·zero cycle
 above false before cycle = refl
 
-fits-next : (part : List ℕ) (i : ℕ) → fitsFrom (nextCycle part i) (eventAt part i .cycle) (eventAt part i .pins) ≡ eventFits 20 part i
+fits-next : (bytes : List ℕ) (i : ℕ) → fitsFrom (nextCycle bytes i) (eventAt bytes i .cycle) (eventAt bytes i .pins) ≡ eventFits 20 bytes i
 unfolding fitsFrom eventFits nextCycle
-fits-next part i =
-    ap (λ (b : Bool). ltb (eventAt part i .pins) (2 ^ 20) && (leb (eventAt part i .cycle) lastCycle && b))
-    (above (eqb i 0) (eventAt part (i - 1) .cycle) (eventAt part i .cycle))
+fits-next bytes i =
+    ap (λ (b : Bool). ltb (eventAt bytes i .pins) (2 ^ 20) && (leb (eventAt bytes i .cycle) lastCycle && b))
+    (above (eqb i 0) (eventAt bytes (i - 1) .cycle) (eventAt bytes i .cycle))
 
-next-after : (part : List ℕ) (i : ℕ) → nextCycle part (i + 1) ≡ eventAt part i .cycle + 1
+next-after : (bytes : List ℕ) (i : ℕ) → nextCycle bytes (i + 1) ≡ eventAt bytes i .cycle + 1
 unfolding nextCycle
-next-after part i =
+next-after bytes i =
     let first : eqb (i + 1) 0 ≡ false = ne-eqb (i + 1) 0 (omega arith) in
     let e : i + 1 - 1 ≡ i = omega arith in
     rw (first, e) (sym (add-one _))
 
 abbrev bad : List ℕ → ℕ → Bool
-bad part i = not (eventFits 20 part i)
+bad bytes i = not (eventFits 20 bytes i)
 
-pub record Sought (part : List ℕ) (n next i : ℕ) : Type 0 where
+pub record Sought (bytes : List ℕ) (n next i : ℕ) : Type 0 where
   pub within : i ≤ n
-  pub above : next ≡ nextCycle part i
-  pub same : foundFrom (bad part) n i ≡ badEvent 20 part n
+  pub above : next ≡ nextCycle bytes i
+  pub same : foundFrom (bad bytes) n i ≡ badEvent 20 bytes n
 
-pub begins : (part : List ℕ) (n : ℕ) → Sought part n 0 0
+pub begins : (bytes : List ℕ) (n : ℕ) → Sought bytes n 0 0
 unfolding badEvent nextCycle
-begins part n = record { within = omega arith; above = refl; same = search.begins (bad part) n }
+begins bytes n = record { within = omega arith; above = refl; same = search.begins (bad bytes) n }
 
-module _ {part : List ℕ} {n next i cycle pins : ℕ} (s : Sought part n next i) (l : i < n)
-    (is-cycle : cycle ≡ eventAt part i .cycle) (is-pins : pins ≡ eventAt part i .pins) where
-  told : fitsFrom next cycle pins ≡ eventFits 20 part i
-  told = rw (s .above, is-cycle, is-pins) (fits-next part i)
+module _ {bytes : List ℕ} {n next i cycle pins : ℕ} (s : Sought bytes n next i) (l : i < n)
+    (is-cycle : cycle ≡ eventAt bytes i .cycle) (is-pins : pins ≡ eventAt bytes i .pins) where
+  told : fitsFrom next cycle pins ≡ eventFits 20 bytes i
+  told = rw (s .above, is-cycle, is-pins) (fits-next bytes i)
 
-  pub goes-on : fitsFrom next cycle pins ≡ true → Sought part n (cycle + 1) (i + 1)
+  pub goes-on : fitsFrom next cycle pins ≡ true → Sought bytes n (cycle + 1) (i + 1)
   goes-on e =
       record {
         within = omega arith;
-        above = ap (λ (t : ℕ). t + 1) is-cycle ∙ sym (next-after part i);
-        same = sym (search.goes-on (bad part) n i l (ap not (sym told ∙ e))) ∙ s .same;
+        above = ap (λ (t : ℕ). t + 1) is-cycle ∙ sym (next-after bytes i);
+        same = sym (search.goes-on (bad bytes) n i l (ap not (sym told ∙ e))) ∙ s .same;
       }
 
-  pub stops : fitsFrom next cycle pins ≡ false → some i ≡ badEvent 20 part n
-  stops e = sym (search.stops (bad part) n i l (ap not (sym told ∙ e))) ∙ s .same
+  pub stops : fitsFrom next cycle pins ≡ false → some i ≡ badEvent 20 bytes n
+  stops e = sym (search.stops (bad bytes) n i l (ap not (sym told ∙ e))) ∙ s .same
 
-pub ends : {part : List ℕ} {n next i : ℕ} → Sought part n next i → n ≤ i → none ≡ badEvent 20 part n
-ends {part} {n} {next} {i} s l = sym (search.ends (bad part) n i l) ∙ s .same
+pub ends : {bytes : List ℕ} {n next i : ℕ} → Sought bytes n next i → n ≤ i → none ≡ badEvent 20 bytes n
+ends {bytes} {n} {next} {i} s l = sym (search.ends (bad bytes) n i l) ∙ s .same
 
 -- a cycle that fits leaves room for the next
 pub room : (next cycle pins : ℕ) → fitsFrom next cycle pins ≡ true → cycle ≤ lastCycle

@@ -9,7 +9,7 @@ ghost use mathlib.Core.Option.{none};
 ghost use Prim.Native.Nat.{_+_, _*_, _≤_};
 ghost use lib.ListN.{length};
 ghost use Rattle.words.specs.Found.{placeOf};
-ghost use Rattle.reading.specs.Capture.{eventCount, settingWords, eventPart, eventAt, badLength, goodHeader, badEvent};
+ghost use Rattle.reading.specs.Capture.{eventCount, settingWords, eventBytes, eventAt, lengthFits, headerFits, badEvent};
 ghost use Rattle.reading.specs.Answers.{answered, accepted};
 ghost use Rattle.settings.specs.Meaning.{means};
 ghost use Rattle.capture.specs.Meaning.{fitsFrom};
@@ -32,7 +32,7 @@ const PINS: u32 = 1 << 20;
 const LAST_CYCLE: u32 = 2_000_000_000;
 
 fn bad_length(capture: &[u8]) -> bool
-    ensures { λ r. ⌜ r ≡ badLength (now (capture .entry)) ⌝ }
+    ensures { λ r. ⌜ r ≡ not (lengthFits (now (capture .entry))) ⌝ }
 {
     let size = capture.len();
     if size < LEAST {
@@ -54,7 +54,7 @@ pub fn event_count(capture: &[u8]) -> u32
 
 fn bad_header(capture: &[u8]) -> bool
     requires { ⌜ 24 ≤ length (now capture) ⌝ }
-    ensures { λ r. ⌜ r ≡ not (goodHeader (now (capture .entry))) ⌝ }
+    ensures { λ r. ⌜ r ≡ not (headerFits (now (capture .entry))) ⌝ }
 {
     if words::word_at(capture, 4) != COUNT as u32 {
         return true;
@@ -87,27 +87,27 @@ pub fn setting_words(capture: &[u8]) -> Settings
     loaded
 }
 
-// The part of the capture that starts where the events do, where event i stands at byte 8 i.
-pub fn event_part(capture: &[u8]) -> &[u8]
+// The bytes from where the events start; event i stands at 8 i in them.
+pub fn event_bytes(capture: &[u8]) -> &[u8]
     requires { ⌜ 80 ≤ length (now capture) ⌝ }
-    ensures { λ r. ⌜ now r ≡ eventPart (now (capture .entry)) ⌝ }
+    ensures { λ r. ⌜ now r ≡ eventBytes (now (capture .entry)) ⌝ }
 {
     &capture[EVENTS..]
 }
 
-// The cycle of event i in that part.
-pub fn cycle_at(part: &[u8], i: usize) -> u32
-    requires { ⌜ 8 * i + 8 ≤ length (now part) ⌝ }
-    ensures { λ r. ⌜ r ≡ eventAt (now (part .entry)) i .cycle ⌝ }
+// The cycle of event i in those bytes.
+pub fn cycle_at(bytes: &[u8], i: usize) -> u32
+    requires { ⌜ 8 * i + 8 ≤ length (now bytes) ⌝ }
+    ensures { λ r. ⌜ r ≡ eventAt (now (bytes .entry)) i .cycle ⌝ }
 {
-    words::word_at(part, 8 * i)
+    words::word_at(bytes, 8 * i)
 }
 
-pub fn pins_at(part: &[u8], i: usize) -> u32
-    requires { ⌜ 8 * i + 8 ≤ length (now part) ⌝ }
-    ensures { λ r. ⌜ r ≡ eventAt (now (part .entry)) i .pins ⌝ }
+pub fn pins_at(bytes: &[u8], i: usize) -> u32
+    requires { ⌜ 8 * i + 8 ≤ length (now bytes) ⌝ }
+    ensures { λ r. ⌜ r ≡ eventAt (now (bytes .entry)) i .pins ⌝ }
 {
-    words::word_at(part, 8 * i + 4)
+    words::word_at(bytes, 8 * i + 4)
 }
 
 // An event may have these words where `next` is the first cycle that is above the one before.
@@ -130,35 +130,35 @@ fn both(a: bool, b: bool) -> bool
 }
 
 // Told of a capture without a branch for each event, as most are: cycles that rise are not too large if the last is not.
-fn all_fit(part: &[u8], n: usize) -> bool
-    requires { ⌜ (n ≤ 8000) × (8 * n ≤ length (now part)) ⌝ }
-    ensures { λ r. ⌜ (r ≡ true → badEvent 20 (now (part .entry)) n ≡ none) ⌝ }
+fn all_fit(bytes: &[u8], n: usize) -> bool
+    requires { ⌜ (n ≤ 8000) × (8 * n ≤ length (now bytes)) ⌝ }
+    ensures { λ r. ⌜ (r ≡ true → badEvent 20 (now (bytes .entry)) n ≡ none) ⌝ }
 {
     if n == 0 {
         return true;
     }
-    let mut fine = pins_at(part, 0) < PINS;
-    let mut last = cycle_at(part, 0);
+    let mut fine = pins_at(bytes, 0) < PINS;
+    let mut last = cycle_at(bytes, 0);
     for i in 1..n {
-        let t = cycle_at(part, i);
-        let w = pins_at(part, i);
+        let t = cycle_at(bytes, i);
+        let w = pins_at(bytes, i);
         fine = both(fine, both(last < t, w < PINS));
         last = t;
     }
     both(fine, last <= LAST_CYCLE)
 }
 
-fn lowest_bad_event(part: &[u8], n: usize) -> Found
-    requires { ⌜ (n ≤ 8000) × (8 * n ≤ length (now part)) ⌝ }
-    ensures { λ r. ⌜ placeOf r ≡ badEvent 20 (now (part .entry)) n ⌝ }
+fn lowest_bad_event(bytes: &[u8], n: usize) -> Found
+    requires { ⌜ (n ≤ 8000) × (8 * n ≤ length (now bytes)) ⌝ }
+    ensures { λ r. ⌜ placeOf r ≡ badEvent 20 (now (bytes .entry)) n ⌝ }
 {
-    if all_fit(part, n) {
+    if all_fit(bytes, n) {
         return Found::Nothing;
     }
     let mut next = 0;
     'events: for i in 0..n {
-        let cycle = cycle_at(part, i);
-        let pins = pins_at(part, i);
+        let cycle = cycle_at(bytes, i);
+        let pins = pins_at(bytes, i);
         if event_fits(next, cycle, pins) {
             next = cycle + 1;
             continue 'events;
@@ -190,7 +190,7 @@ pub fn open(capture: &[u8]) -> Checked
         return Checked::Refused { number: 3, place };
     }
     let n = event_count(capture) as usize;
-    let Found::At(place) = lowest_bad_event(event_part(capture), n) else {
+    let Found::At(place) = lowest_bad_event(event_bytes(capture), n) else {
         return Checked::Fine;
     };
     Checked::Refused { number: 4, place }

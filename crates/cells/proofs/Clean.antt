@@ -20,20 +20,20 @@ not-third : OneOf (0 ∷ 1 ∷ []) 2 → ⊥
 not-third (inl e) = omega arith
 not-third (inr e) = omega arith
 
-module _ (settings part : List ℕ) (n : ℕ) {v : Verdict} (judged : v ≡ verdictOn (settingsOf settings) part n) where
-  verdict : v ≡ said n (is.verdictOf (settingsOf settings) (eventsIn part n))
+module _ (settings bytes : List ℕ) (n : ℕ) {v : Verdict} (judged : v ≡ verdictOn (settingsOf settings) bytes n) where
+  verdict : v ≡ said n (is.verdictOf (settingsOf settings) (eventsIn bytes n))
   unfolding verdictOn
   verdict = judged
 
-  pub nothing-broken : OneOf (0 ∷ 1 ∷ []) (tagOf the-type v) → none ≡ notClean (is.verdictOf (settingsOf settings) (eventsIn part n))
-  nothing-broken o = go (is.verdictOf (settingsOf settings) (eventsIn part n)) verdict
+  pub nothing-broken : OneOf (0 ∷ 1 ∷ []) (tagOf the-type v) → none ≡ notClean (is.verdictOf (settingsOf settings) (eventsIn bytes n))
+  nothing-broken o = go (is.verdictOf (settingsOf settings) (eventsIn bytes n)) verdict
     where
       go : (x : is.Verdict) → v ≡ said n x → none ≡ notClean x
       go is.clean f = refl
       go (is.broken r i t) f = absurd (not-third (subst (λ (x : Verdict). OneOf (0 ∷ 1 ∷ []) (tagOf the-type x)) f o))
 
-  pub broken-first : {events judged r i t : ℕ} → v ≡ Broken events judged r i t → some i ≡ notClean (is.verdictOf (settingsOf settings) (eventsIn part n))
-  broken-first {events} {judged} {r} {i} {t} b = go (is.verdictOf (settingsOf settings) (eventsIn part n)) (sym b ∙ verdict)
+  pub broken-first : {events judged r i t : ℕ} → v ≡ Broken events judged r i t → some i ≡ notClean (is.verdictOf (settingsOf settings) (eventsIn bytes n))
+  broken-first {events} {judged} {r} {i} {t} b = go (is.verdictOf (settingsOf settings) (eventsIn bytes n)) (sym b ∙ verdict)
     where
       go : (x : is.Verdict) → Broken events judged r i t ≡ said n x → some i ≡ notClean x
       go is.clean f = let z : _≡_ {A = ℕ} 0 1 = cc in absurd (omega arith)

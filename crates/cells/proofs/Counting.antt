@@ -20,32 +20,32 @@ use Rattle.beats.proofs.Storing.{length-cells}
 use Rattle.beats.proofs.Ahead.{eventCells, cellsFrom, cells-ahead}
 use Rattle.cells.specs.Meaning.{Listable, cellsOn}
 
-module _ (settings part : List ℕ) (n : ℕ) where
+module _ (settings bytes : List ℕ) (n : ℕ) where
   abbrev s : Settings
   s = settingsOf settings
 
-  pub fitting : Listable settings part n → kept.Fit part n
+  pub fitting : Listable settings bytes n → kept.Fit bytes n
   fitting z = record { few = z .fit .few; long = z .fit .long; events = z .fit .events }
 
-  pub all-ahead : Listable settings part n → cellsOn s part n ≡ cellsFrom s (start s) (eventsFrom part n 0)
+  pub all-ahead : Listable settings bytes n → cellsOn s bytes n ≡ cellsFrom s (start s) (eventsFrom bytes n 0)
   unfolding cellsOn
   all-ahead z =
-      ap (λ (k : ℕ). cellsOf s (burstsOf s (map (eventAt part) (count 0 k)))) (sym (sub-zero n))
-      ∙ cells-ahead s (eventsFrom part n 0) (events-rise part n (fitting z))
+      ap (λ (k : ℕ). cellsOf s (burstsOf s (map (eventAt bytes) (count 0 k)))) (sym (sub-zero n))
+      ∙ cells-ahead s (eventsFrom bytes n 0) (events-rise bytes n (fitting z))
 
   -- the cells of event i, and those behind it
-  pub next-cells : (p : Part) (i : ℕ) → i < n → cellsFrom s p (eventsFrom part n i) ≡
-      eventCells s p (eventAt part i) (eventsFrom part n (i + 1)) ++ cellsFrom s (step s p (eventAt part i)) (eventsFrom part n (i + 1))
-  next-cells p i l = ap (cellsFrom s p) (next-event part n i l)
+  pub next-cells : (p : Part) (i : ℕ) → i < n → cellsFrom s p (eventsFrom bytes n i) ≡
+      eventCells s p (eventAt bytes i) (eventsFrom bytes n (i + 1)) ++ cellsFrom s (step s p (eventAt bytes i)) (eventsFrom bytes n (i + 1))
+  next-cells p i l = ap (cellsFrom s p) (next-event bytes n i l)
 
   pub record Counted (mode cells i : ℕ) : Type 0 where
     pub reached : Part
     pub moded : mode ≡ reached .mode
     pub within : i ≤ n
     pub small : cells ≤ 128 * i
-    pub counts : length (cellsOn s part n) ≡ cells + length (cellsFrom s reached (eventsFrom part n i))
+    pub counts : length (cellsOn s bytes n) ≡ cells + length (cellsFrom s reached (eventsFrom bytes n i))
 
-  pub begins : Listable settings part n → Counted (s .mode) 0 0
+  pub begins : Listable settings bytes n → Counted (s .mode) 0 0
   begins z =
       record {
         reached = start s;
@@ -55,27 +55,27 @@ module _ (settings part : List ℕ) (n : ℕ) where
         counts = ap length (all-ahead z) ∙ omega arith;
       }
 
-  pub goes-on : {mode cells i pairs pins next : ℕ} → Counted mode cells i → i < n → pairs ≡ keptOf mode (eventAt part i) (eventsFrom part n (i + 1)) →
-      pins ≡ eventAt part i .pins → next ≡ modeAfter mode pins → Counted next (cells + 2 * pairs) (i + 1)
+  pub goes-on : {mode cells i pairs pins next : ℕ} → Counted mode cells i → i < n → pairs ≡ keptOf mode (eventAt bytes i) (eventsFrom bytes n (i + 1)) →
+      pins ≡ eventAt bytes i .pins → next ≡ modeAfter mode pins → Counted next (cells + 2 * pairs) (i + 1)
   goes-on {mode} {cells} {i} {pairs} {pins} {next} b l ep ew em =
       record {
-        reached = step s (b .reached) (eventAt part i);
-        moded = em ∙ rw (ew, b .moded) (sym (mode-is s (b .reached) (eventAt part i)));
+        reached = step s (b .reached) (eventAt bytes i);
+        moded = em ∙ rw (ew, b .moded) (sym (mode-is s (b .reached) (eventAt bytes i)));
         within = omega arith;
-        small = omega (arith, b .small, ep, kept-le mode (eventAt part i) later);
+        small = omega (arith, b .small, ep, kept-le mode (eventAt bytes i) later);
         counts = b .counts ∙ omega (arith, sized);
       }
     where
       later : List Event
-      later = eventsFrom part n (i + 1)
+      later = eventsFrom bytes n (i + 1)
 
-      pairs-are : pairs ≡ keptOf (b .reached .mode) (eventAt part i) later
-      pairs-are = ep ∙ ap (λ (m : ℕ). keptOf m (eventAt part i) later) (b .moded)
+      pairs-are : pairs ≡ keptOf (b .reached .mode) (eventAt bytes i) later
+      pairs-are = ep ∙ ap (λ (m : ℕ). keptOf m (eventAt bytes i) later) (b .moded)
 
-      sized : length (cellsFrom s (b .reached) (eventsFrom part n i)) ≡ 2 * pairs + length (cellsFrom s (step s (b .reached) (eventAt part i)) later)
+      sized : length (cellsFrom s (b .reached) (eventsFrom bytes n i)) ≡ 2 * pairs + length (cellsFrom s (step s (b .reached) (eventAt bytes i)) later)
       sized =
-          ap length (next-cells (b .reached) i l) ∙ length-append (eventCells s (b .reached) (eventAt part i) later) _
-          ∙ ap (λ (k : ℕ). k + length (cellsFrom s (step s (b .reached) (eventAt part i)) later)) (length-cells _ _ _ _ ∙ ap (λ (k : ℕ). 2 * k) (sym pairs-are))
+          ap length (next-cells (b .reached) i l) ∙ length-append (eventCells s (b .reached) (eventAt bytes i) later) _
+          ∙ ap (λ (k : ℕ). k + length (cellsFrom s (step s (b .reached) (eventAt bytes i)) later)) (length-cells _ _ _ _ ∙ ap (λ (k : ℕ). 2 * k) (sym pairs-are))
 
-  pub ends : {mode cells i : ℕ} → Counted mode cells i → n ≤ i → cells ≡ length (cellsOn s part n)
-  ends {mode} {cells} {i} b l = sym (b .counts ∙ ap (λ (es : List Event). cells + length (cellsFrom s (b .reached) es)) (no-event part n i l) ∙ omega arith)
+  pub ends : {mode cells i : ℕ} → Counted mode cells i → n ≤ i → cells ≡ length (cellsOn s bytes n)
+  ends {mode} {cells} {i} b l = sym (b .counts ∙ ap (λ (es : List Event). cells + length (cellsFrom s (b .reached) es)) (no-event bytes n i l) ∙ omega arith)

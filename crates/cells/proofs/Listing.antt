@@ -11,7 +11,7 @@ use lib.Dec.{ltb}
 use lib.ListN.{length, getD, drop}
 use lib.Seq.{sets, sets-eq}
 use Rattle.reading.specs.Settings.{Settings, settingsOf}
-use Rattle.reading.specs.Capture.{eventCount, settingWords, eventPart, eventsOf}
+use Rattle.reading.specs.Capture.{eventCount, settingWords, eventBytes, eventsOf}
 use Rattle.reading.specs.Verdict.{verdictOf}
 use Rattle.reading.specs.Answers.{Answer, refused, answered, unless, accepted, Outcome, leaves, fitting, notClean, verdictIn, cellsIn, cellsOutcome}
 use Rattle.words.specs.declared.Found.{Found}
@@ -35,26 +35,26 @@ meets e = (ap (λ (x : Outcome). x .answer) (sym e), ap (λ (x : Outcome). x .bu
 
 -- ---- accepted: refusals 8 and 7, or the cells
 
-module _ (s : Settings) (part : List ℕ) (n : ℕ) (buffer : List ℕ) (found : Found) (f : placeOf found ≡ notClean (verdictOf s (eventsIn part n))) where
-  judged : {o : Option ℕ} → placeOf found ≡ o → listing s part n buffer ≡ leaves (unless 8 o (fitting buffer (cellsOn s part n))) buffer
+module _ (s : Settings) (bytes : List ℕ) (n : ℕ) (buffer : List ℕ) (found : Found) (f : placeOf found ≡ notClean (verdictOf s (eventsIn bytes n))) where
+  judged : {o : Option ℕ} → placeOf found ≡ o → listing s bytes n buffer ≡ leaves (unless 8 o (fitting buffer (cellsOn s bytes n))) buffer
   unfolding listing
-  judged e = ap (λ (x : Option ℕ). leaves (unless 8 x (fitting buffer (cellsOn s part n))) buffer) (sym f ∙ e)
+  judged e = ap (λ (x : Option ℕ). leaves (unless 8 x (fitting buffer (cellsOn s bytes n))) buffer) (sym f ∙ e)
 
-  pub not-clean : {i : ℕ} → found ≡ At i → Meets (refused 8 i) buffer (listing s part n buffer)
+  pub not-clean : {i : ℕ} → found ≡ At i → Meets (refused 8 i) buffer (listing s bytes n buffer)
   not-clean e = meets (judged (ap placeOf e))
 
   module _ (e : found ≡ Nothing) where
-    pub none-broken : notClean (verdictOf s (eventsIn part n)) ≡ none
+    pub none-broken : notClean (verdictOf s (eventsIn bytes n)) ≡ none
     none-broken = sym f ∙ ap placeOf e
 
     abbrev total : ℕ
-    total = length (cellsOn s part n)
+    total = length (cellsOn s bytes n)
 
     module _ (short : Found) (l : placeOf short ≡ lackingIn (length buffer) total) where
-      room-told : {o : Option ℕ} → placeOf short ≡ o → listing s part n buffer ≡ leaves (unless 7 o (answered (cellsOn s part n))) buffer
-      room-told g = judged (ap placeOf e) ∙ ap (λ (o : Option ℕ). leaves (unless 7 o (answered (cellsOn s part n))) buffer) (sym l ∙ g)
+      room-told : {o : Option ℕ} → placeOf short ≡ o → listing s bytes n buffer ≡ leaves (unless 7 o (answered (cellsOn s bytes n))) buffer
+      room-told g = judged (ap placeOf e) ∙ ap (λ (o : Option ℕ). leaves (unless 7 o (answered (cellsOn s bytes n))) buffer) (sym l ∙ g)
 
-      pub too-short : {cells : ℕ} → short ≡ At cells → Meets (refused 7 cells) buffer (listing s part n buffer)
+      pub too-short : {cells : ℕ} → short ≡ At cells → Meets (refused 7 cells) buffer (listing s bytes n buffer)
       too-short g = meets (room-told (ap placeOf g))
 
       pub fits : short ≡ Nothing → total ≤ length buffer
@@ -64,20 +64,20 @@ module _ (s : Settings) (part : List ℕ) (n : ℕ) (buffer : List ℕ) (found :
           go true k m = let z : _≡_ {A = ℕ} 0 1 = cc in absurd (omega arith)
           go false k m = ltb-false (length buffer) total k
 
-      pub listed : {cells : ℕ} {out : List ℕ} → short ≡ Nothing → cells ≡ total → out ≡ sets buffer 0 (cellsOn s part n) →
-          Meets (answered cells) out (listing s part n buffer)
+      pub listed : {cells : ℕ} {out : List ℕ} → short ≡ Nothing → cells ≡ total → out ≡ sets buffer 0 (cellsOn s bytes n) →
+          Meets (answered cells) out (listing s bytes n buffer)
       listed {cells} {out} g c w =
           meets (room-told (ap placeOf g) ∙ rw (← c) (ap (λ (xs : List ℕ). record { answer = answered cells; buffer = xs }) (sym (w ∙ whole))))
         where
-          whole : sets buffer 0 (cellsOn s part n) ≡ cellsOn s part n ++ drop cells buffer
+          whole : sets buffer 0 (cellsOn s bytes n) ≡ cellsOn s bytes n ++ drop cells buffer
           whole =
-              sets-eq (cellsOn s part n) buffer 0 (omega (arith, fits g))
-              ∙ ap (λ (k : ℕ). cellsOn s part n ++ drop k buffer) (zero-add total ∙ sym c)
+              sets-eq (cellsOn s bytes n) buffer 0 (omega (arith, fits g))
+              ∙ ap (λ (k : ℕ). cellsOn s bytes n ++ drop k buffer) (zero-add total ∙ sym c)
 
 -- ---- the capture
 
 on-capture : (c buffer : List ℕ) → accepted c (answered (tt {0})) ≡ answered tt →
-    listing (settingsOf (settingWords c)) (eventPart c) (eventCount c) buffer ≡ cellsOutcome c buffer
+    listing (settingsOf (settingWords c)) (eventBytes c) (eventCount c) buffer ≡ cellsOutcome c buffer
 unfolding listing cellsOn cellsOutcome cellsIn verdictIn eventsOf
 on-capture c buffer h = ap (λ (a : Answer (List ℕ)). leaves a buffer) (sym (accepted-rest c _ h))
 
@@ -90,15 +90,15 @@ module _ (c : List ℕ) (buffer : List ℕ) (o : Checked) (opened : check.means 
       (ap (λ (a : Answer (List ℕ)). leaves a buffer)
       (refused-rest c (unless 8 (notClean (verdictIn c)) (fitting buffer (cellsIn c))) (sym opened ∙ ap check.means e)))
 
-  module _ (fine : o ≡ checked.Fine) {settings : List ℕ} {n : ℕ} {part : List ℕ}
-      (e : settings ≡ settingWords c) (f : n ≡ eventCount c) (g : part ≡ eventPart c) where
+  module _ (fine : o ≡ checked.Fine) {settings : List ℕ} {n : ℕ} {bytes : List ℕ}
+      (e : settings ≡ settingWords c) (f : n ≡ eventCount c) (g : bytes ≡ eventBytes c) where
     open-to : accepted c (answered (tt {0})) ≡ answered tt
     open-to = sym opened ∙ ap check.means fine
 
     sound : Sound c
     sound = accepted-sound c open-to
 
-    pub listable : Listable settings part n
+    pub listable : Listable settings bytes n
     listable =
         record {
           fit = judging.fit c o opened fine e f g;
@@ -111,8 +111,8 @@ module _ (c : List ℕ) (buffer : List ℕ) (o : Checked) (opened : check.means 
           moded = rw e (mode-valid (getD (settingWords c) 3 0) (sound .settings 3 (omega arith)));
         }
 
-    pub listed-so : {a : Answer ℕ} {out : List ℕ} → Meets a out (listing (settingsOf settings) part n buffer) → Meets a out (cellsOutcome c buffer)
+    pub listed-so : {a : Answer ℕ} {out : List ℕ} → Meets a out (listing (settingsOf settings) bytes n buffer) → Meets a out (cellsOutcome c buffer)
     listed-so {a} {out} m = (m .0 ∙ ap (λ (x : Outcome). x .answer) same, m .1 ∙ ap (λ (x : Outcome). x .buffer) same)
       where
-        same : listing (settingsOf settings) part n buffer ≡ cellsOutcome c buffer
+        same : listing (settingsOf settings) bytes n buffer ≡ cellsOutcome c buffer
         same = rw (e, f, g) (on-capture c buffer open-to)

@@ -18,7 +18,7 @@ use Rattle.reading.specs.Capture.{Event, eventAt}
 use Rattle.reading.specs.Commands.{MODE-REGISTER-SET, Command, commandOf, is}
 use Rattle.reading.specs.Part.{Part, start, step}
 use Rattle.reading.specs.Rules.{brokenBy}
-use Rattle.reading.specs.Verdict.{Verdict, clean, broken, onward, judgeFrom, verdictOf, judgeBy, verdictBy}
+use Rattle.reading.specs.Verdict.{Verdict, clean, broken, brokenOr, judgeFrom, verdictOf, judgeBy, verdictBy}
 use Rattle.reading.specs.Answers.{notClean}
 use Rattle.reading.proofs.Meaning.{none-broken}
 use Rattle.judge.specs.Meaning.{eventsIn}
@@ -65,7 +65,7 @@ module _ (s : Settings) (p : Part) (e : Event) (v : modeWord (p .mode) ≡ true)
 
 -- ---- a clean capture
 
-clean-rest : (o : Option ℕ) (i t : ℕ) (x : Verdict) → onward o i t x ≡ clean → (o ≡ none) × (x ≡ clean)
+clean-rest : (o : Option ℕ) (i t : ℕ) (x : Verdict) → brokenOr o i t x ≡ clean → (o ≡ none) × (x ≡ clean)
 clean-rest none i t x e = (refl, e)
 clean-rest (some r) i t x e = let z : _≡_ {A = ℕ} 0 1 = cc in absurd (omega arith)
 
@@ -91,22 +91,22 @@ is-clean : (x : Verdict) → notClean x ≡ none → x ≡ clean
 is-clean clean e = refl
 is-clean (broken r i t) e = let z : _≡_ {A = ℕ} 0 1 = cc in absurd (omega arith)
 
-module _ (settings part : List ℕ) (n : ℕ) (z : Listable settings part n) where
-  sixteen-each : notClean (verdictOf (settingsOf settings) (eventsIn part n)) ≡ none → length (cellsOn (settingsOf settings) part n) ≤ 16 * n
+module _ (settings bytes : List ℕ) (n : ℕ) (z : Listable settings bytes n) where
+  sixteen-each : notClean (verdictOf (settingsOf settings) (eventsIn bytes n)) ≡ none → length (cellsOn (settingsOf settings) bytes n) ≤ 16 * n
   unfolding verdictBy
   sixteen-each k =
       omega (
         arith,
-        ap length (all-ahead settings part n z),
-        few-cells (settingsOf settings) (start (settingsOf settings)) 0 (eventsFrom part n 0) (z .moded) judged,
-        length-map (count 0 (n - 0)) (eventAt part) ∙ length-count 0 (n - 0),
+        ap length (all-ahead settings bytes n z),
+        few-cells (settingsOf settings) (start (settingsOf settings)) 0 (eventsFrom bytes n 0) (z .moded) judged,
+        length-map (count 0 (n - 0)) (eventAt bytes) ∙ length-count 0 (n - 0),
       )
     where
-      judged : judgeFrom (settingsOf settings) (start (settingsOf settings)) 0 (eventsFrom part n 0) ≡ clean
+      judged : judgeFrom (settingsOf settings) (start (settingsOf settings)) 0 (eventsFrom bytes n 0) ≡ clean
       judged =
-          ap (λ (m : ℕ). judgeFrom (settingsOf settings) (start (settingsOf settings)) 0 (map (eventAt part) (count 0 m))) (sub-zero n)
+          ap (λ (m : ℕ). judgeFrom (settingsOf settings) (start (settingsOf settings)) 0 (map (eventAt bytes) (count 0 m))) (sub-zero n)
           ∙ is-clean _ k
 
-  pub enough : {room : ℕ} → notClean (verdictOf (settingsOf settings) (eventsIn part n)) ≡ none → 16 * n ≤ room →
-      none ≡ lackingIn room (length (cellsOn (settingsOf settings) part n))
-  enough {room} k l = sym (rw (le-ltb room (length (cellsOn (settingsOf settings) part n)) (omega (arith, sixteen-each k))))
+  pub enough : {room : ℕ} → notClean (verdictOf (settingsOf settings) (eventsIn bytes n)) ≡ none → 16 * n ≤ room →
+      none ≡ lackingIn room (length (cellsOn (settingsOf settings) bytes n))
+  enough {room} k l = sym (rw (le-ltb room (length (cellsOn (settingsOf settings) bytes n)) (omega (arith, sixteen-each k))))

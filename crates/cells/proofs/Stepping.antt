@@ -15,26 +15,26 @@ use Rattle.cells.specs.declared.Given.{Given}
 use Rattle.cells.specs.declared.Given.the-variants.{Burst, Other}
 use Rattle.cells.specs.Meaning.{givenAs, givenBy}
 
-module _ (s : Settings) (part : List ℕ) (n i : ℕ) (firsts : List ℕ) (mode : ℕ) where
+module _ (s : Settings) (bytes : List ℕ) (n i : ℕ) (firsts : List ℕ) (mode : ℕ) where
   abbrev w : ℕ
-  w = eventAt part i .pins
+  w = eventAt bytes i .pins
 
   abbrev later : List Event
-  later = eventsFrom part n (i + 1)
+  later = eventsFrom bytes n (i + 1)
 
   pub record Is (first column pairs : ℕ) : Type 0 where
     pub burst : gives w ≡ true
     pub row : first ≡ getD firsts (bankOf w) 0
     pub place : column ≡ columnOf s (addressOf w)
-    pub kept : pairs ≡ keptOf mode (eventAt part i) later
+    pub kept : pairs ≡ keptOf mode (eventAt bytes i) later
 
   module _ {pins : ℕ} {v : Bool} (e : pins ≡ w) (f : v ≡ gives pins) where
-    pub found-none : v ≡ false → Other ≡ givenAs (givenBy s part n i firsts mode)
+    pub found-none : v ≡ false → Other ≡ givenAs (givenBy s bytes n i firsts mode)
     unfolding givenBy
     found-none g = let h : gives w ≡ false = sym (f ∙ ap gives e) ∙ g in rw h
 
     pub found : {bank first column pairs : ℕ} → v ≡ true → bank ≡ bankOf pins → first ≡ getD firsts bank 0 → column ≡ columnOf s (addressOf pins) →
-        pairs ≡ keptOf mode (eventAt part i) later → Burst first column pairs ≡ givenAs (givenBy s part n i firsts mode)
+        pairs ≡ keptOf mode (eventAt bytes i) later → Burst first column pairs ≡ givenAs (givenBy s bytes n i firsts mode)
     unfolding givenBy
     found g b x y z =
         let h : gives w ≡ true = sym (f ∙ ap gives e) ∙ g in
@@ -42,14 +42,14 @@ module _ (s : Settings) (part : List ℕ) (n i : ℕ) (firsts : List ℕ) (mode 
         let place = y ∙ ap (λ (k : ℕ). columnOf s (addressOf k)) e in
         rw h (λ u. Burst (row u) (place u) (z u))
 
-  module _ {r : Given} (step : r ≡ givenAs (givenBy s part n i firsts mode)) where
+  module _ {r : Given} (step : r ≡ givenAs (givenBy s bytes n i firsts mode)) where
     pub told : {first column pairs : ℕ} → r ≡ Burst first column pairs → Is first column pairs
     unfolding givenBy
     told {first} {column} {pairs} b = go (gives w) refl (sym b ∙ step)
       where
         go : (v : Bool) → gives w ≡ v →
             Burst first column pairs
-            ≡ givenAs (cond v (some (record { first = getD firsts (bankOf w) 0; column = columnOf s (addressOf w); pairs = keptOf mode (eventAt part i) later })) none) →
+            ≡ givenAs (cond v (some (record { first = getD firsts (bankOf w) 0; column = columnOf s (addressOf w); pairs = keptOf mode (eventAt bytes i) later })) none) →
             Is first column pairs
         go true g q = record { burst = g; row = cc; place = cc; kept = cc }
         go false g q = let z : _≡_ {A = ℕ} 0 1 = cc in absurd (omega arith)
@@ -60,7 +60,7 @@ module _ (s : Settings) (part : List ℕ) (n i : ℕ) (firsts : List ℕ) (mode 
       where
         go : (v : Bool) →
             Other
-            ≡ givenAs (cond v (some (record { first = getD firsts (bankOf w) 0; column = columnOf s (addressOf w); pairs = keptOf mode (eventAt part i) later })) none) →
+            ≡ givenAs (cond v (some (record { first = getD firsts (bankOf w) 0; column = columnOf s (addressOf w); pairs = keptOf mode (eventAt bytes i) later })) none) →
             v ≡ false
         go true q = let z : _≡_ {A = ℕ} 0 1 = cc in absurd (omega arith)
         go false q = refl

@@ -25,7 +25,7 @@ use Rattle.cells.specs.Meaning.{Listable, cellsOn}
 use Rattle.cells.proofs.Counting.{all-ahead, next-cells}
 use Rattle.cells.proofs.Rows.{firstsOf, first-at, none-opened, mode-stays, firsts-after, low-after}
 
-module _ (settings part : List ℕ) (n : ℕ) (old : List ℕ) where
+module _ (settings bytes : List ℕ) (n : ℕ) (old : List ℕ) where
   abbrev s : Settings
   s = settingsOf settings
 
@@ -39,9 +39,9 @@ module _ (settings part : List ℕ) (n : ℕ) (old : List ℕ) where
     pub done : List ℕ
     pub place : next ≡ length done
     pub holds : out ≡ sets old 0 done
-    pub total : cellsOn s part n ≡ done ++ cellsFrom s reached (eventsFrom part n i)
+    pub total : cellsOn s bytes n ≡ done ++ cellsFrom s reached (eventsFrom bytes n i)
 
-  pub begins : {firsts : List ℕ} → Listable settings part n → firsts ≡ firstCells s 0 0 0 0 → Written old firsts (s .mode) 0 0
+  pub begins : {firsts : List ℕ} → Listable settings bytes n → firsts ≡ firstCells s 0 0 0 0 → Written old firsts (s .mode) 0 0
   begins z f =
       record {
         reached = start s;
@@ -53,19 +53,19 @@ module _ (settings part : List ℕ) (n : ℕ) (old : List ℕ) where
         done = [];
         place = refl;
         holds = refl;
-        total = all-ahead settings part n z;
+        total = all-ahead settings bytes n z;
       }
 
   pub size : {out firsts : List ℕ} {mode next i : ℕ} → Written out firsts mode next i → length out ≡ length old
   size b = ap length (b .holds) ∙ length-sets old 0 (b .done)
 
   module _ {out firsts : List ℕ} {mode next i : ℕ} (b : Written out firsts mode next i) (l : i < n) {pins pairs : ℕ}
-      (ew : pins ≡ eventAt part i .pins) (ep : pairs ≡ keptOf mode (eventAt part i) (eventsFrom part n (i + 1))) where
+      (ew : pins ≡ eventAt bytes i .pins) (ep : pairs ≡ keptOf mode (eventAt bytes i) (eventsFrom bytes n (i + 1))) where
     abbrev e : Event
-    e = eventAt part i
+    e = eventAt bytes i
 
     abbrev later : List Event
-    later = eventsFrom part n (i + 1)
+    later = eventsFrom bytes n (i + 1)
 
     abbrev cells : List ℕ
     cells = eventCells s (b .reached) e later
@@ -76,13 +76,13 @@ module _ (settings part : List ℕ) (n : ℕ) (old : List ℕ) where
     sized : length cells ≡ 2 * pairs
     sized = length-cells _ _ _ _ ∙ ap (λ (k : ℕ). 2 * k) (sym pairs-are)
 
-    split : cellsOn s part n ≡ b .done ++ cells ++ cellsFrom s (step s (b .reached) e) later
+    split : cellsOn s bytes n ≡ b .done ++ cells ++ cellsFrom s (step s (b .reached) e) later
     split =
-        b .total ∙ ap (λ (cs : List ℕ). b .done ++ cs) (next-cells settings part n (b .reached) i l)
+        b .total ∙ ap (λ (cs : List ℕ). b .done ++ cs) (next-cells settings bytes n (b .reached) i l)
         ∙ sym (append-assoc (b .done) cells (cellsFrom s (step s (b .reached) e) later))
 
     -- there is room for them
-    pub room : length (cellsOn s part n) ≤ length old → next + 2 * pairs ≤ length out
+    pub room : length (cellsOn s bytes n) ≤ length old → next + 2 * pairs ≤ length out
     room f =
         let whole = ap length split ∙ length-append (b .done ++ cells) _ in
         let front = length-append (b .done) cells in
@@ -114,7 +114,7 @@ module _ (settings part : List ℕ) (n : ℕ) (old : List ℕ) where
       first-is : first ≡ firstCell s bank (b .reached .banks bank .row)
       first-is = ef ∙ ap (λ (xs : List ℕ). getD xs bank 0) (b .rowed) ∙ first-at s (b .reached) bank (omega (arith, eb))
 
-      pub in-row : Listable settings part n → InRow first column pairs
+      pub in-row : Listable settings bytes n → InRow first column pairs
       in-row z =
           record {
             cell = rw first-is (first-lt s (z .sized) bank (b .reached .banks bank .row) (omega (arith, eb)) (b .low bank));
@@ -130,29 +130,29 @@ module _ (settings part : List ℕ) (n : ℕ) (old : List ℕ) where
       goes-on g eo = turned (eo ∙ ap (sets out next) stored-are) (none-opened pins g s firsts) (mode-stays pins g mode)
 
   -- an event that gives none
-  pub passes : {out firsts firsts′ : List ℕ} {mode mode′ next i pins : ℕ} → Written out firsts mode next i → i < n → pins ≡ eventAt part i .pins →
+  pub passes : {out firsts firsts′ : List ℕ} {mode mode′ next i pins : ℕ} → Written out firsts mode next i → i < n → pins ≡ eventAt bytes i .pins →
       gives pins ≡ false → firsts′ ≡ cellsOpened s firsts pins → mode′ ≡ modeAfter mode pins → Written out firsts′ mode′ next (i + 1)
   passes {out} {firsts} {firsts′} {mode} {mode′} {next} {i} {pins} b l ew g ef em =
       rw same at (turned b l ew none-kept (sym nothing) ef em)
     where
       later : List Event
-      later = eventsFrom part n (i + 1)
+      later = eventsFrom bytes n (i + 1)
 
       same : next + 2 * 0 ≡ next
       same = omega arith
 
-      none-kept : 0 ≡ keptOf mode (eventAt part i) later
-      none-kept = kept-none mode (eventAt part i) later ew refl g
+      none-kept : 0 ≡ keptOf mode (eventAt bytes i) later
+      none-kept = kept-none mode (eventAt bytes i) later ew refl g
 
-      nothing : sets out next (eventCells s (b .reached) (eventAt part i) later) ≡ out
+      nothing : sets out next (eventCells s (b .reached) (eventAt bytes i) later) ≡ out
       nothing = rw (← b .moded, ← none-kept) (ap (sets out next) (no-cells _ _ _))
 
   module _ {out firsts : List ℕ} {mode next i : ℕ} (b : Written out firsts mode next i) (l : n ≤ i) where
-    all-done : cellsOn s part n ≡ b .done
-    all-done = b .total ∙ ap (λ (es : List Event). b .done ++ cellsFrom s (b .reached) es) (no-event part n i l) ∙ append-nil (b .done)
+    all-done : cellsOn s bytes n ≡ b .done
+    all-done = b .total ∙ ap (λ (es : List Event). b .done ++ cellsFrom s (b .reached) es) (no-event bytes n i l) ∙ append-nil (b .done)
 
-    pub counted : next ≡ length (cellsOn s part n)
+    pub counted : next ≡ length (cellsOn s bytes n)
     counted = b .place ∙ ap length (sym all-done)
 
-    pub ends : out ≡ sets old 0 (cellsOn s part n)
+    pub ends : out ≡ sets old 0 (cellsOn s bytes n)
     ends = b .holds ∙ ap (sets old 0) (sym all-done)

@@ -40,25 +40,25 @@ givenAs (some x) = given.Burst (x .first) (x .column) (x .pairs)
 
 -- by the first cells of the rows that the banks were opened on and the mode word before event i
 unfoldable pub givenBy : Settings → List ℕ → ℕ → ℕ → List ℕ → ℕ → Option Burst
-givenBy s part n i firsts mode =
-    cond (gives (eventAt part i .pins))
+givenBy s bytes n i firsts mode =
+    cond (gives (eventAt bytes i .pins))
     (some
     (record {
-      first = getD firsts (bankOf (eventAt part i .pins)) 0;
-      column = columnOf s (addressOf (eventAt part i .pins));
-      pairs = keptOf mode (eventAt part i) (eventsFrom part n (i + 1));
+      first = getD firsts (bankOf (eventAt bytes i .pins)) 0;
+      column = columnOf s (addressOf (eventAt bytes i .pins));
+      pairs = keptOf mode (eventAt bytes i) (eventsFrom bytes n (i + 1));
     }))
     none
 
 -- n events fit, and so do the settings
-pub record Listable (settings part : List ℕ) (n : ℕ) : Type 0 where
-  pub fit : Fit settings part n
+pub record Listable (settings bytes : List ℕ) (n : ℕ) : Type 0 where
+  pub fit : Fit settings bytes n
   pub sized : Sized (settingsOf settings)
   pub moded : modeWord (settingsOf settings .mode) ≡ true
 
 -- the cells of the first n events' bursts
 unfoldable pub cellsOn : Settings → List ℕ → ℕ → List ℕ
-cellsOn s part n = cellsOf s (burstsOf s (eventsIn part n))
+cellsOn s bytes n = cellsOf s (burstsOf s (eventsIn bytes n))
 
 -- the cells that are needed, where there is room for fewer
 abbrev pub lackingIn : ℕ → ℕ → Option ℕ
@@ -66,5 +66,5 @@ lackingIn room cells = search.given cells (ltb room cells)
 
 -- refusals 8 and 7, and what is left in the buffer
 unfoldable pub listing : Settings → List ℕ → ℕ → List ℕ → Outcome
-listing s part n buffer =
-    leaves (unless 8 (notClean (verdictOf s (eventsIn part n))) (fitting buffer (cellsOn s part n))) buffer
+listing s bytes n buffer =
+    leaves (unless 8 (notClean (verdictOf s (eventsIn bytes n))) (fitting buffer (cellsOn s bytes n))) buffer

@@ -30,13 +30,13 @@ enum Given {
 }
 
 // The first event that breaks a rule.
-fn first_broken(s: &Settings, part: &[u8], n: u32) -> Found
-    requires { ⌜ Listable (now s) (now part) n ⌝ }
-    ensures { λ r. ⌜ placeOf r ≡ notClean (verdictOf (settingsOf (now (s .entry))) (eventsIn (now (part .entry)) n)) ⌝ }
+fn first_broken(s: &Settings, bytes: &[u8], n: u32) -> Found
+    requires { ⌜ Listable (now s) (now bytes) n ⌝ }
+    ensures { λ r. ⌜ placeOf r ≡ notClean (verdictOf (settingsOf (now (s .entry))) (eventsIn (now (bytes .entry)) n)) ⌝ }
 {
     let mut deadlines = effects::start(s);
     let mut pace = sums::pace(s[MODE]);
-    let verdict = judge::walk(s, &mut deadlines, &mut pace, part, n);
+    let verdict = judge::walk(s, &mut deadlines, &mut pace, bytes, n);
     let Verdict::Broken { event, .. } = verdict else {
         return Found::Nothing;
     };
@@ -44,16 +44,16 @@ fn first_broken(s: &Settings, part: &[u8], n: u32) -> Found
 }
 
 // How many cells there are: two for each pair that a burst keeps.
-fn needed(s: &Settings, part: &[u8], n: u32) -> u32
-    requires { ⌜ Listable (now s) (now part) n ⌝ }
-    ensures { λ r. ⌜ r ≡ length (cellsOn (settingsOf (now (s .entry))) (now (part .entry)) n) ⌝ }
+fn needed(s: &Settings, bytes: &[u8], n: u32) -> u32
+    requires { ⌜ Listable (now s) (now bytes) n ⌝ }
+    ensures { λ r. ⌜ r ≡ length (cellsOn (settingsOf (now (s .entry))) (now (bytes .entry)) n) ⌝ }
 {
     let mut mode = s[MODE];
     let mut cells: u32 = 0;
     let mut i: u32 = 0;
     'events: while i < n {
-        cells += 2 * beats::kept(part, n, i, mode);
-        mode = beats::mode_after(mode, capture::pins_at(part, i as usize));
+        cells += 2 * beats::kept(bytes, n, i, mode);
+        mode = beats::mode_after(mode, capture::pins_at(bytes, i as usize));
         i += 1;
     }
     cells
@@ -61,15 +61,15 @@ fn needed(s: &Settings, part: &[u8], n: u32) -> u32
 
 // The cells that are needed, where the buffer has room for fewer. Sixteen a command are enough for a clean capture, and
 // then nothing is counted.
-fn lacking(s: &Settings, part: &[u8], n: u32, room: usize) -> Found
-    requires { ⌜ Listable (now s) (now part) n ⌝ }
-    requires { ⌜ notClean (verdictOf (settingsOf (now s)) (eventsIn (now part) n)) ≡ none ⌝ }
-    ensures { λ r. ⌜ placeOf r ≡ lackingIn room (length (cellsOn (settingsOf (now (s .entry))) (now (part .entry)) n)) ⌝ }
+fn lacking(s: &Settings, bytes: &[u8], n: u32, room: usize) -> Found
+    requires { ⌜ Listable (now s) (now bytes) n ⌝ }
+    requires { ⌜ notClean (verdictOf (settingsOf (now s)) (eventsIn (now bytes) n)) ≡ none ⌝ }
+    ensures { λ r. ⌜ placeOf r ≡ lackingIn room (length (cellsOn (settingsOf (now (s .entry))) (now (bytes .entry)) n)) ⌝ }
 {
     if (16 * n) as usize <= room {
         return Found::Nothing;
     }
-    let cells = needed(s, part, n);
+    let cells = needed(s, bytes, n);
     if room < cells as usize {
         return Found::At(cells);
     }
@@ -77,18 +77,18 @@ fn lacking(s: &Settings, part: &[u8], n: u32, room: usize) -> Found
 }
 
 // Event i, by the first cells of the rows that the banks were opened on and the mode word before it.
-fn step(s: &Settings, part: &[u8], n: u32, i: u32, firsts: &[u32; 4], mode: u32) -> Given
-    requires { ⌜ Listable (now s) (now part) n × (i < n) ⌝ }
-    ensures { λ r. ⌜ r ≡ givenAs (givenBy (settingsOf (now (s .entry))) (now (part .entry)) n i (now (firsts .entry)) mode) ⌝ }
+fn step(s: &Settings, bytes: &[u8], n: u32, i: u32, firsts: &[u32; 4], mode: u32) -> Given
+    requires { ⌜ Listable (now s) (now bytes) n × (i < n) ⌝ }
+    ensures { λ r. ⌜ r ≡ givenAs (givenBy (settingsOf (now (s .entry))) (now (bytes .entry)) n i (now (firsts .entry)) mode) ⌝ }
 {
-    let w = capture::pins_at(part, i as usize);
+    let w = capture::pins_at(bytes, i as usize);
     if !beats::gives_burst(w) {
         return Given::Other;
     }
     let bank = pins::bank(w);
     let first = firsts[bank];
     let column = beats::column(s, w);
-    let pairs = beats::kept(part, n, i, mode);
+    let pairs = beats::kept(bytes, n, i, mode);
     Given::Burst {
         first,
         column,
@@ -97,24 +97,24 @@ fn step(s: &Settings, part: &[u8], n: u32, i: u32, firsts: &[u32; 4], mode: u32)
 }
 
 // Writes the cells from out[0] on, and says how many.
-fn write(s: &Settings, part: &[u8], n: u32, out: &mut [u32]) -> u32
-    requires { ⌜ Listable (now s) (now part) n ⌝ }
-    requires { ⌜ length (cellsOn (settingsOf (now s)) (now part) n) ≤ length (now out) ⌝ }
-    ensures { λ r. ⌜ r ≡ length (cellsOn (settingsOf (now (s .entry))) (now (part .entry)) n) ⌝ }
-    ensures { λ _. ⌜ now (out .exit) ≡ sets (now (out .entry)) 0 (cellsOn (settingsOf (now (s .entry))) (now (part .entry)) n) ⌝ }
+fn write(s: &Settings, bytes: &[u8], n: u32, out: &mut [u32]) -> u32
+    requires { ⌜ Listable (now s) (now bytes) n ⌝ }
+    requires { ⌜ length (cellsOn (settingsOf (now s)) (now bytes) n) ≤ length (now out) ⌝ }
+    ensures { λ r. ⌜ r ≡ length (cellsOn (settingsOf (now (s .entry))) (now (bytes .entry)) n) ⌝ }
+    ensures { λ _. ⌜ now (out .exit) ≡ sets (now (out .entry)) 0 (cellsOn (settingsOf (now (s .entry))) (now (bytes .entry)) n) ⌝ }
 {
     let mut firsts = beats::first_cells(s);
     let mut mode = s[MODE];
     let mut next: usize = 0;
     'events: for i in 0..n {
-        let event = step(s, part, n, i, &firsts, mode);
+        let event = step(s, bytes, n, i, &firsts, mode);
         let Given::Burst {
             first,
             column,
             pairs,
         } = event
         else {
-            let w = capture::pins_at(part, i as usize);
+            let w = capture::pins_at(bytes, i as usize);
             beats::open_row(s, &mut firsts, w);
             mode = beats::mode_after(mode, w);
             continue 'events;
@@ -126,26 +126,26 @@ fn write(s: &Settings, part: &[u8], n: u32, out: &mut [u32]) -> u32
 }
 
 // Refusals 8 and 7, in this order; else the cells.
-fn list(s: &Settings, part: &[u8], n: u32, out: &mut [u32]) -> Listed
-    requires { ⌜ Listable (now s) (now part) n ⌝ }
-    ensures { λ r. ⌜ means r ≡ listing (settingsOf (now (s .entry))) (now (part .entry)) n (now (out .entry)) .answer ⌝ }
-    ensures { λ _. ⌜ now (out .exit) ≡ listing (settingsOf (now (s .entry))) (now (part .entry)) n (now (out .entry)) .buffer ⌝ }
+fn list(s: &Settings, bytes: &[u8], n: u32, out: &mut [u32]) -> Listed
+    requires { ⌜ Listable (now s) (now bytes) n ⌝ }
+    ensures { λ r. ⌜ means r ≡ listing (settingsOf (now (s .entry))) (now (bytes .entry)) n (now (out .entry)) .answer ⌝ }
+    ensures { λ _. ⌜ now (out .exit) ≡ listing (settingsOf (now (s .entry))) (now (bytes .entry)) n (now (out .entry)) .buffer ⌝ }
 {
-    let broken = first_broken(s, part, n);
+    let broken = first_broken(s, bytes, n);
     if let Found::At(i) = broken {
         return Listed::Refused {
             number: 8,
             place: i,
         };
     }
-    let short = lacking(s, part, n, out.len());
+    let short = lacking(s, bytes, n, out.len());
     if let Found::At(cells) = short {
         return Listed::Refused {
             number: 7,
             place: cells,
         };
     }
-    let cells = write(s, part, n, out);
+    let cells = write(s, bytes, n, out);
     Listed::Written { cells }
 }
 
@@ -160,6 +160,6 @@ pub fn burst_cells(capture: &[u8], out: &mut [u32]) -> Listed
     }
     let settings = capture::setting_words(capture);
     let n = capture::event_count(capture);
-    let part = capture::event_part(capture);
-    list(&settings, part, n, out)
+    let bytes = capture::event_bytes(capture);
+    list(&settings, bytes, n, out)
 }

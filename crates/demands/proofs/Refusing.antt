@@ -14,7 +14,7 @@ use Rattle.reading.specs.Settings.{settingsOf, badSetting}
 use Rattle.reading.specs.Capture.{eventsOf}
 use Rattle.reading.specs.Schedule.{Schedule, planned, late, badRequest, scheduleOf, captureOf}
 use Rattle.reading.specs.Verdict as is
-use Rattle.reading.specs.Answers.{Answer, Report, refused, answered, unless, accepted, settingsIn, verdictIn, notClean, judgeAnswer, cellsIn, keptUp, fitting, leaves, cellsOutcome, scheduleOutcome}
+use Rattle.reading.specs.Answers.{Answer, Report, refused, answered, unless, accepted, settingsIn, verdictIn, notClean, judgeAnswer, cellsIn, whenPlanned, fitting, leaves, cellsOutcome, scheduleOutcome}
 use Rattle.reading.proofs.Meaning.{verdict-clean, verdict-broken}
 use Rattle.capture.proofs.Accepted.{accepted-rest, refused-rest}
 use Rattle.judge.specs.declared.Verdict.{Verdict}
@@ -137,7 +137,7 @@ list-refused capture out left number place a =
 module _ (ws qs out : List ℕ) where
   -- the answer, by what each test says
   abbrev by : Option ℕ → Option ℕ → Option ℕ → Schedule → Answer ℕ
-  by a b c x = leaves (unless 2 a (unless 3 b (unless 5 c (keptUp x (λ es. fitting out (captureOf ws es)))))) out .answer
+  by a b c x = leaves (unless 2 a (unless 3 b (unless 5 c (whenPlanned x (λ es. fitting out (captureOf ws es)))))) out .answer
 
   tested : {a b c : Option ℕ} {x : Schedule} → given 0 (not (eqb (length ws) 14)) ≡ a → badSetting ws ≡ b → badRequest (settingsOf ws) qs ≡ c →
       scheduleOf (settingsOf ws) qs ≡ x → scheduleOutcome ws qs out .answer ≡ by a b c x
@@ -200,5 +200,5 @@ schedule-refused ws qs out left number place a =
     leaves-refused
     (unless 2 (given 0 (not (eqb (length ws) 14)))
     (unless 3 (badSetting ws)
-    (unless 5 (badRequest (settingsOf ws) qs) (keptUp (scheduleOf (settingsOf ws) qs) (λ es. fitting out (captureOf ws es))))))
+    (unless 5 (badRequest (settingsOf ws) qs) (whenPlanned (scheduleOf (settingsOf ws) qs) (λ es. fitting out (captureOf ws es))))))
     out number place (sym (a .0))

@@ -12,9 +12,10 @@ use borrow.Author.Tests.{eqb-true, not-false}
 use Rattle.reading.specs.Search.{given}
 use Rattle.reading.specs.Settings.{settingsOf, badSetting}
 use Rattle.reading.specs.Capture.{Event, eventCount, eventsOf}
+use Rattle.reading.specs.Rules.{placing}
 use Rattle.reading.specs.Schedule.{Schedule, planned, late, badRequest, scheduleOf, captureOf}
 use Rattle.reading.specs.Memory.{Run, replay, plain}
-use Rattle.reading.specs.Answers.{Answer, refused, answered, unless, leaves, fitting, keptUp, settingsIn, judgeAnswer, scheduleOutcome}
+use Rattle.reading.specs.Answers.{Answer, refused, answered, unless, leaves, fitting, whenPlanned, settingsIn, judgeAnswer, scheduleOutcome}
 use Rattle.judge.specs.declared.Verdict.{Verdict}
 use Rattle.judge.specs.declared.Verdict.the-variants.{Clean}
 use Rattle.schedule.specs.declared.Scheduled.the-variants as said
@@ -64,7 +65,7 @@ module _ (ws qs out : List ℕ) (n : ℕ) (e : scheduleOutcome ws qs out .answer
   -- no refusal applied
   go : (a b c : Option ℕ) (x : Schedule) → given 0 (not (eqb (length ws) 14)) ≡ a → badSetting ws ≡ b → badRequest (settingsOf ws) qs ≡ c →
       scheduleOf (settingsOf ws) qs ≡ x →
-      leaves (unless 2 a (unless 3 b (unless 5 c (keptUp x (λ es. fitting out (captureOf ws es)))))) out ≡ scheduleOutcome ws qs out → Written ws qs out n
+      leaves (unless 2 a (unless 3 b (unless 5 c (whenPlanned x (λ es. fitting out (captureOf ws es)))))) out ≡ scheduleOutcome ws qs out → Written ws qs out n
   go (some i) b c x p q r s h = unrefused (ap (λ o. o .answer) h ∙ e)
   go none (some i) c x p q r s h = unrefused (ap (λ o. o .answer) h ∙ e)
   go none none (some i) x p q r s h = unrefused (ap (λ o. o .answer) h ∙ e)
@@ -87,7 +88,7 @@ module _ (ws qs out : List ℕ) (n : ℕ) (e : scheduleOutcome ws qs out .answer
   outcome-memory : (r : Run) → replay (settingsIn capture) (eventsOf capture) r ≡ plain (settingsOf ws) qs r
   outcome-memory r =
       rw (written .bytes, settings-back ws es l (written .settings) few (y .rises) (y .early), events-back ws es l (written .settings) few (y .rises) (y .early))
-      (schedule-is-plain (settingsOf ws) (ranged ws (settings-fit ws (written .fourteen) (written .settings)) .sized) qs es
+      (schedule-is-plain (settingsOf ws) placing (ranged ws (settings-fit ws (written .fourteen) (written .settings)) .sized) qs es
       (requests-fit (settingsOf ws) qs (written .requests)) (written .schedule) r)
     where
       es : List Event

@@ -70,7 +70,7 @@ use Rattle.cells.proofs.burst_cells.Reads as cells-burst-cells
 use Rattle.morgazell.proofs.morgazell_judge.Reads as morgazell-morgazell-judge
 use Rattle.morgazell.proofs.morgazell_cells.Reads as morgazell-morgazell-cells
 use Rattle.morgazell.proofs.morgazell_schedule.Reads as morgazell-morgazell-schedule
-use Rattle.capture.proofs.event_part.Reads as capture-event-part
+use Rattle.capture.proofs.event_bytes.Reads as capture-event-bytes
 use Rattle.deadlines.proofs.clock.due_at_start.Reads as deadlines-clock-due-at-start
 use Rattle.deadlines.proofs.clock.due_after_refresh.Reads as deadlines-clock-due-after-refresh
 use Rattle.pins.proofs.code.Reads as pins-code
@@ -114,8 +114,8 @@ capture-pins-at-settles κs a z z′ e e′ p q = p ∙ sym q
 pub capture-open-settles : (κs : _) (a : _) (z z′ : _) (e e′ : _) → capture-open.Post κs a z e → capture-open.Post κs a z′ e′ → z ≡ z′
 capture-open-settles κs a z z′ e e′ p q = settings.one-answer z z′ (p ∙ sym q)
 
-pub capture-event-part-settles : (κs : _) (a : _) (z z′ : _) (e e′ : _) → capture-event-part.Post κs a z e → capture-event-part.Post κs a z′ e′ → now z ≡ now z′
-capture-event-part-settles κs a z z′ e e′ p q = p ∙ sym q
+pub capture-event-bytes-settles : (κs : _) (a : _) (z z′ : _) (e e′ : _) → capture-event-bytes.Post κs a z e → capture-event-bytes.Post κs a z′ e′ → now z ≡ now z′
+capture-event-bytes-settles κs a z z′ e e′ p q = p ∙ sym q
 
 -- ---- deadlines
 

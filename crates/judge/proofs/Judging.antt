@@ -5,7 +5,7 @@ use mathlib.Core.Path.{_≡_, refl, sym, ap, _∙_}
 use native.Mathlib.Omega.{arith}
 use lib.ListN.{length, getD, length-drop}
 use Rattle.reading.specs.Settings.{settingsOf}
-use Rattle.reading.specs.Capture.{eventCount, settingWords, eventPart, eventsOf}
+use Rattle.reading.specs.Capture.{eventCount, settingWords, eventBytes, eventsOf}
 use Rattle.reading.specs.Verdict as is
 use Rattle.reading.specs.Answers.{answered, accepted, settingsIn, verdictIn, judgeAnswer}
 use Rattle.settings.proofs.Fitting.{at-most}
@@ -32,8 +32,8 @@ module _ (c : List ℕ) (o : Checked) (opened : check.means o ≡ accepted c (an
     pub long : 80 ≤ length c
     long = omega (arith, sound .sized .size)
 
-    pub fit : {settings : List ℕ} {n : ℕ} {part : List ℕ} → settings ≡ settingWords c → n ≡ eventCount c → part ≡ eventPart c → Fit settings part n
-    fit {settings} {n} {part} e f g =
+    pub fit : {settings : List ℕ} {n : ℕ} {bytes : List ℕ} → settings ≡ settingWords c → n ≡ eventCount c → bytes ≡ eventBytes c → Fit settings bytes n
+    fit {settings} {n} {bytes} e f g =
         record {
           few = omega (arith, f, sound .sized .few);
           long = rw (f, g, length-drop 80 c) (omega (arith, sound .sized .size));
@@ -41,11 +41,11 @@ module _ (c : List ℕ) (o : Checked) (opened : check.means o ≡ accepted c (an
           events = λ i l. rw g (sound .events i (omega (arith, f)));
         }
 
-    pub judged-so : {settings : List ℕ} {n : ℕ} {part : List ℕ} → settings ≡ settingWords c → n ≡ eventCount c → part ≡ eventPart c →
-        means (verdictOn (settingsOf settings) part n) ≡ judgeAnswer c
+    pub judged-so : {settings : List ℕ} {n : ℕ} {bytes : List ℕ} → settings ≡ settingWords c → n ≡ eventCount c → bytes ≡ eventBytes c →
+        means (verdictOn (settingsOf settings) bytes n) ≡ judgeAnswer c
     unfolding verdictOn judgeAnswer verdictIn eventsOf
     judged-so e f g =
-        rw (e, f, g) (go (is.verdictOf (settingsIn c) (eventsIn (eventPart c) (eventCount c))) ∙ sym (accepted-rest c _ open-to))
+        rw (e, f, g) (go (is.verdictOf (settingsIn c) (eventsIn (eventBytes c) (eventCount c))) ∙ sym (accepted-rest c _ open-to))
       where
         go : (v : is.Verdict) → means (said (eventCount c) v) ≡
             answered (record { events = eventCount c; judged = is.judgedOf (eventCount c) v; verdict = v })

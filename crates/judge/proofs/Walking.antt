@@ -14,9 +14,9 @@ use Rattle.reading.specs.Settings.{Settings, settingsOf}
 use Rattle.reading.specs.Capture.{Event, eventAt}
 use Rattle.reading.specs.Commands.{commandOf}
 use Rattle.reading.specs.Part.{Part, start, step, run}
-use Rattle.reading.specs.Rules.{keeps, rules, brokenBy}
+use Rattle.reading.specs.Rules.{keepsRule, rules, brokenBy}
 use Rattle.reading.specs.Verdict as is
-use Rattle.reading.specs.Verdict.{broken, onward, judgeFrom, verdictOf, judgedOf, judgeBy, verdictBy}
+use Rattle.reading.specs.Verdict.{broken, brokenOr, judgeFrom, verdictOf, judgedOf, judgeBy, verdictBy}
 use Rattle.capture.proofs.Accepted.{cycle-rises}
 use Rattle.deadlines.specs.Deadlines.{paceOf}
 use Rattle.part.specs.declared.Answer.{Answer}
@@ -49,7 +49,7 @@ found-positive f (x ∷ xs) p r e z = go (f x) e (found-positive f xs (both-righ
     go false q ih = ih q z
 
 positive : (s : Settings) (p : Part) (e : Event) (r : ℕ) → brokenBy s p e ≡ some r → r ≡ 0 → ⊥
-positive s p e r q z = found-positive (λ k. not (keeps k s p (e .cycle) (commandOf (e .pins)))) rules refl r q z
+positive s p e r q z = found-positive (λ k. not (keepsRule k s p (e .cycle) (commandOf (e .pins)))) rules refl r q z
 
 -- the number that an answer stands for
 zero-of : (r : ℕ) → means Kept ≡ ruleOf r → r ≡ 0
@@ -77,12 +77,12 @@ moved r z after before = rw (eq-eqb r 0 z)
 left : (r : ℕ) → (r ≡ 0 → ⊥) → (after before : List ℕ) → leftBy r after before ≡ before
 left r z after before = rw (ne-eqb r 0 z)
 
-module _ (settings part : List ℕ) (n : ℕ) where
+module _ (settings bytes : List ℕ) (n : ℕ) where
   abbrev s : Settings
   s = settingsOf settings
 
   abbrev es : List Event
-  es = eventsIn part n
+  es = eventsIn bytes n
 
   -- before event i the deadlines are the summary of a part, from which the rest decides the verdict
   pub record Before (d pace : List ℕ) (i : ℕ) : Type 0 where
@@ -93,7 +93,7 @@ module _ (settings part : List ℕ) (n : ℕ) where
     pub deadlines : d ≡ laid (summary s reached)
     pub paced : pace ≡ paceOf (reached .mode)
     pub in-range : i ≤ n
-    pub above : i < n → from ≤ eventAt part i .cycle
+    pub above : i < n → from ≤ eventAt bytes i .cycle
     pub decides : verdictOf s es ≡ judgeFrom s reached i (drop i es)
 
   pub begins : {d pace : List ℕ} → Started s d pace → Before d pace 0
@@ -111,65 +111,65 @@ module _ (settings part : List ℕ) (n : ℕ) where
         decides = refl;
       }
 
-  module _ (fit : Fit settings part n) (d pace : List ℕ) (i : ℕ) (b : Before d pace i) (l : i < n) where
+  module _ (fit : Fit settings bytes n) (d pace : List ℕ) (i : ℕ) (b : Before d pace i) (l : i < n) where
     abbrev t : ℕ
-    t = eventAt part i .cycle
+    t = eventAt bytes i .cycle
 
     abbrev w : ℕ
-    w = eventAt part i .pins
+    w = eventAt bytes i .pins
 
     turn : Turned s (fit .rows) (b .reached) (b .from) t (b .above l) (b .sound) w (commandOf w)
-    turn = turned-event s (fit .rows) (b .reached) (b .from) (eventAt part i .cycle) (b .above l) (b .sound) (eventAt part i .pins)
+    turn = turned-event s (fit .rows) (b .reached) (b .from) (eventAt bytes i .cycle) (b .above l) (b .sound) (eventAt bytes i .pins)
 
     -- the step's answer is the reading's
-    breaks-is : stepBreaks s d t w ≡ num (brokenBy s (b .reached) (eventAt part i))
+    breaks-is : stepBreaks s d t w ≡ num (brokenBy s (b .reached) (eventAt bytes i))
     breaks-is = ap (λ (k : List ℕ). stepBreaks s k t w) (b .deadlines) ∙ turn .breaks
 
-    unfolds : verdictOf s es ≡ onward (brokenBy s (b .reached) (eventAt part i)) i t (judgeFrom s (step s (b .reached) (eventAt part i)) (suc i) (drop (suc i) es))
+    unfolds : verdictOf s es ≡ brokenOr (brokenBy s (b .reached) (eventAt bytes i)) i t (judgeFrom s (step s (b .reached) (eventAt bytes i)) (suc i) (drop (suc i) es))
     unfolding judgeBy
-    unfolds = b .decides ∙ ap (judgeFrom s (b .reached) i) (next-of (eventAt part) n i l)
+    unfolds = b .decides ∙ ap (judgeFrom s (b .reached) i) (next-of (eventAt bytes) n i l)
 
     -- the next event's place
     goes-on : stepBreaks s d t w ≡ 0 → Before (stepAfter s d pace t w) (paceAfter pace w) (i + 1)
-    goes-on z = go (brokenBy s (b .reached) (eventAt part i)) refl
+    goes-on z = go (brokenBy s (b .reached) (eventAt bytes i)) refl
       where
-        onwards : brokenBy s (b .reached) (eventAt part i) ≡ none → Before (stepAfter s d pace t w) (paceAfter pace w) (i + 1)
+        onwards : brokenBy s (b .reached) (eventAt bytes i) ≡ none → Before (stepAfter s d pace t w) (paceAfter pace w) (i + 1)
         onwards e =
-            let k = turn .onward e in
+            let k = turn .brokenOr e in
             record {
-              reached = step s (b .reached) (eventAt part i);
+              reached = step s (b .reached) (eventAt bytes i);
               after =
-                  ap (λ (p : Part). step s p (eventAt part i)) (b .after)
-                  ∙ sym (run-next s (start s) i es (next-of (eventAt part) n i l))
+                  ap (λ (p : Part). step s p (eventAt bytes i)) (b .after)
+                  ∙ sym (run-next s (start s) i es (next-of (eventAt bytes) n i l))
                   ∙ ap (λ (k : ℕ). run s (start s) (take k es)) (sym (add-one i));
               from = suc t;
               sound = k .sound;
               deadlines = rw (b .deadlines, b .paced) (k .leaves);
               paced = rw (b .paced) (k .sets);
               in-range = omega arith;
-              above = λ m. let q : i + 1 - 1 ≡ i = omega arith in rw q at (cycle-rises part (i + 1) (fit .events (i + 1) m) (omega arith));
+              above = λ m. let q : i + 1 - 1 ≡ i = omega arith in rw q at (cycle-rises bytes (i + 1) (fit .events (i + 1) m) (omega arith));
               decides =
-                  unfolds ∙ ap (λ (o : Option ℕ). onward o i t (judgeFrom s (step s (b .reached) (eventAt part i)) (suc i) (drop (suc i) es))) e
-                  ∙ ap (λ (k : ℕ). judgeFrom s (step s (b .reached) (eventAt part i)) k (drop k es)) (sym (add-one i));
+                  unfolds ∙ ap (λ (o : Option ℕ). brokenOr o i t (judgeFrom s (step s (b .reached) (eventAt bytes i)) (suc i) (drop (suc i) es))) e
+                  ∙ ap (λ (k : ℕ). judgeFrom s (step s (b .reached) (eventAt bytes i)) k (drop k es)) (sym (add-one i));
             }
 
-        go : (o : Option ℕ) → brokenBy s (b .reached) (eventAt part i) ≡ o → Before (stepAfter s d pace t w) (paceAfter pace w) (i + 1)
+        go : (o : Option ℕ) → brokenBy s (b .reached) (eventAt bytes i) ≡ o → Before (stepAfter s d pace t w) (paceAfter pace w) (i + 1)
         go none e = onwards e
-        go (some r) e = absurd (positive s (b .reached) (eventAt part i) r e (sym (ap num e) ∙ sym breaks-is ∙ z))
+        go (some r) e = absurd (positive s (b .reached) (eventAt bytes i) r e (sym (ap num e) ∙ sym breaks-is ∙ z))
 
     -- the verdict at a broken rule
     stops : (stepBreaks s d t w ≡ 0 → ⊥) → verdictOf s es ≡ broken (stepBreaks s d t w) i t
-    stops z = go (brokenBy s (b .reached) (eventAt part i)) refl
+    stops z = go (brokenBy s (b .reached) (eventAt bytes i)) refl
       where
-        go : (o : Option ℕ) → brokenBy s (b .reached) (eventAt part i) ≡ o → verdictOf s es ≡ broken (stepBreaks s d t w) i t
+        go : (o : Option ℕ) → brokenBy s (b .reached) (eventAt bytes i) ≡ o → verdictOf s es ≡ broken (stepBreaks s d t w) i t
         go none e = absurd (z (breaks-is ∙ ap num e))
         go (some r) e =
-            unfolds ∙ ap (λ (o : Option ℕ). onward o i t (judgeFrom s (step s (b .reached) (eventAt part i)) (suc i) (drop (suc i) es))) e
+            unfolds ∙ ap (λ (o : Option ℕ). brokenOr o i t (judgeFrom s (step s (b .reached) (eventAt bytes i)) (suc i) (drop (suc i) es))) e
             ∙ sym (ap (λ (k : ℕ). broken k i t) (breaks-is ∙ ap num e))
 
   -- where the walk ends: what it says, and what it leaves
   abbrev pub Ended : Verdict → List ℕ → List ℕ → Type 0
-  Ended v d pace = (v ≡ verdictOn s part n) × ((d ≡ deadlinesOn s part n) × (pace ≡ paceOn s part n))
+  Ended v d pace = (v ≡ verdictOn s bytes n) × ((d ≡ deadlinesOn s bytes n) × (pace ≡ paceOn s bytes n))
 
   ended : {d pace : List ℕ} {i : ℕ} → Before d pace i → (v : is.Verdict) → verdictOf s es ≡ v → judgedOf n v ≡ i → Ended (said n v) d pace
   unfolding verdictOn judgedPart
@@ -188,15 +188,15 @@ module _ (settings part : List ℕ) (n : ℕ) where
   pub ends : {d pace : List ℕ} {i : ℕ} → Before d pace i → n ≤ i → Ended (Clean n n) d pace
   unfolding judgeBy
   ends {d} {pace} {i} b l =
-      ended b is.clean (b .decides ∙ ap (judgeFrom s (b .reached) i) (none-of (eventAt part) n i l)) (omega (arith, b .in-range))
+      ended b is.clean (b .decides ∙ ap (judgeFrom s (b .reached) i) (none-of (eventAt bytes) n i l)) (omega (arith, b .in-range))
 
   -- by what a step answered and left
-  module _ (fit : Fit settings part n) {d pace : List ℕ} {i cycle pins : ℕ} (b : Before d pace i) (l : i < n)
-      (e : cycle ≡ eventAt part i .cycle) (f : pins ≡ eventAt part i .pins) where
+  module _ (fit : Fit settings bytes n) {d pace : List ℕ} {i cycle pins : ℕ} (b : Before d pace i) (l : i < n)
+      (e : cycle ≡ eventAt bytes i .cycle) (f : pins ≡ eventAt bytes i .pins) where
     abbrev rule : ℕ
     rule = stepBreaks s d cycle pins
 
-    there : rule ≡ stepBreaks s d (eventAt part i .cycle) (eventAt part i .pins)
+    there : rule ≡ stepBreaks s d (eventAt bytes i .cycle) (eventAt bytes i .pins)
     there = rw (e, f)
 
     module _ (a : Answer) {d′ pace′ : List ℕ} (told : means a ≡ ruleOf rule)
@@ -210,6 +210,6 @@ module _ (settings part : List ℕ) (n : ℕ) where
       broke-at {named} k =
           let z = broken-of named rule (sym (ap means k) ∙ told) in
           let so = stops fit d pace i b l (λ y. z .some-rule (there ∙ y)) in
-          let same : broken _ i (eventAt part i .cycle) ≡ broken named i cycle =
+          let same : broken _ i (eventAt bytes i .cycle) ≡ broken named i cycle =
           λ u. broken ((sym there ∙ sym (z .same)) u) i (sym e u) in
           rw (g ∙ left rule (z .some-rule) _ d, h ∙ left rule (z .some-rule) _ pace) (ended b (broken named i cycle) (so ∙ same) refl)

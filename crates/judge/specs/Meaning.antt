@@ -25,14 +25,14 @@ means (Broken events judged rule event cycle) =
 
 -- the first n events of the part from byte 80 on
 abbrev pub eventsIn : List ℕ → ℕ → List capture.Event
-eventsIn part n = map (eventAt part) (count 0 n)
+eventsIn bytes n = map (eventAt bytes) (count 0 n)
 
 -- n events fit, and so do the settings
-pub record Fit (settings part : List ℕ) (n : ℕ) : Type 0 where
+pub record Fit (settings bytes : List ℕ) (n : ℕ) : Type 0 where
   pub few : n ≤ 8000
-  pub long : 8 * n ≤ length part
+  pub long : 8 * n ≤ length bytes
   pub rows : reading.settingsOf settings .rowBits < 32
-  pub events : (i : ℕ) → i < n → cycleFits part i ≡ true
+  pub events : (i : ℕ) → i < n → cycleFits bytes i ≡ true
 
 -- the deadlines, and h and CL, of a part at its start
 pub record Started (s : reading.Settings) (d pace : List ℕ) : Type 0 where
@@ -44,14 +44,14 @@ said n is.clean = Clean n n
 said n (is.broken rule event cycle) = Broken n event rule event cycle
 
 unfoldable pub verdictOn : reading.Settings → List ℕ → ℕ → Verdict
-verdictOn s part n = said n (is.verdictOf s (eventsIn part n))
+verdictOn s bytes n = said n (is.verdictOf s (eventsIn bytes n))
 
 -- the part after the events that were judged, and what is kept of it
 unfoldable pub judgedPart : reading.Settings → List ℕ → ℕ → Part
-judgedPart s part n = run s (start s) (take (is.judgedOf n (is.verdictOf s (eventsIn part n))) (eventsIn part n))
+judgedPart s bytes n = run s (start s) (take (is.judgedOf n (is.verdictOf s (eventsIn bytes n))) (eventsIn bytes n))
 
 abbrev pub deadlinesOn : reading.Settings → List ℕ → ℕ → List ℕ
-deadlinesOn s part n = laid (summary s (judgedPart s part n))
+deadlinesOn s bytes n = laid (summary s (judgedPart s bytes n))
 
 abbrev pub paceOn : reading.Settings → List ℕ → ℕ → List ℕ
-paceOn s part n = paceOf (judgedPart s part n .mode)
+paceOn s bytes n = paceOf (judgedPart s bytes n .mode)

@@ -33,18 +33,18 @@ pub enum Verdict {
 // The events in the part of the capture that starts where they do, by the numbers that are kept of a part at its start, and
 // those of the part after the judged events in their place. They are lent, and two crates call this, so that it stays one
 // loop over memory (docs/PERFORMANCE.md).
-pub fn walk(s: &Settings, d: &mut Deadlines, pace: &mut Pace, part: &[u8], n: u32) -> Verdict
-    requires { ⌜ Fit (now s) (now part) n ⌝ }
+pub fn walk(s: &Settings, d: &mut Deadlines, pace: &mut Pace, bytes: &[u8], n: u32) -> Verdict
+    requires { ⌜ Fit (now s) (now bytes) n ⌝ }
     requires { ⌜ Started (settingsOf (now s)) (now d) (now pace) ⌝ }
-    ensures { λ r. ⌜ r ≡ verdictOn (settingsOf (now (s .entry))) (now (part .entry)) n ⌝ }
-    ensures { λ r. ⌜ now (d .exit) ≡ deadlinesOn (settingsOf (now (s .entry))) (now (part .entry)) n ⌝ }
-    ensures { λ r. ⌜ now (pace .exit) ≡ paceOn (settingsOf (now (s .entry))) (now (part .entry)) n ⌝ }
+    ensures { λ r. ⌜ r ≡ verdictOn (settingsOf (now (s .entry))) (now (bytes .entry)) n ⌝ }
+    ensures { λ r. ⌜ now (d .exit) ≡ deadlinesOn (settingsOf (now (s .entry))) (now (bytes .entry)) n ⌝ }
+    ensures { λ r. ⌜ now (pace .exit) ≡ paceOn (settingsOf (now (s .entry))) (now (bytes .entry)) n ⌝ }
 {
     let mut i: u32 = 0;
     'events: while i < n {
         let at = i as usize;
-        let cycle = capture::cycle_at(part, at);
-        let pins = capture::pins_at(part, at);
+        let cycle = capture::cycle_at(bytes, at);
+        let pins = capture::pins_at(bytes, at);
         let answer = part::step(s, d, pace, cycle, pins);
         let Answer::Broke(rule) = answer else {
             i += 1;
@@ -76,6 +76,6 @@ pub fn judge(capture: &[u8]) -> Verdict
     let n = capture::event_count(capture);
     let mut deadlines = effects::start(&settings);
     let mut pace = sums::pace(settings[MODE]);
-    let part = capture::event_part(capture);
-    walk(&settings, &mut deadlines, &mut pace, part, n)
+    let bytes = capture::event_bytes(capture);
+    walk(&settings, &mut deadlines, &mut pace, bytes, n)
 }

@@ -28,10 +28,10 @@ fn event_at(capture: &[u8], i: u32) -> Event {
     if capture.len() < 88 + 8 * at {
         return Event { cycle: 0, pins: 0 };
     }
-    let part = &capture[80..];
+    let bytes = &capture[80..];
     Event {
-        cycle: capture::cycle_at(part, at),
-        pins: capture::pins_at(part, at),
+        cycle: capture::cycle_at(bytes, at),
+        pins: capture::pins_at(bytes, at),
     }
 }
 

@@ -75,18 +75,18 @@ pins-carry o bank address hb ha =
 -- ---- the column: neither A10 nor a pin above it disturbs it, and with 11 bits A11 is its bit 10
 
 column-carried : (n c : ℕ) → n ≤ 11 → c < 2 ^ n →
-    columnPins c % 2 ^ 10 % 2 ^ n + cond (eqb n 11) (2 ^ 10 * bit 11 (columnPins c)) 0 ≡ c
+    columnPins true c % 2 ^ 10 % 2 ^ n + cond (eqb n 11) (2 ^ 10 * bit 11 (columnPins true c)) 0 ≡ c
 column-carried n c l f = go (eqb n 11) refl
   where
-    low : columnPins c % 2 ^ 10 ≡ c % 2 ^ 10
+    low : columnPins true c % 2 ^ 10 ≡ c % 2 ^ 10
     low = omega arith
 
-    eleven : c < 2 ^ 11 → columnPins c % 2 ^ 10 % 2 ^ 11 + 2 ^ 10 * bit 11 (columnPins c) ≡ c
+    eleven : c < 2 ^ 11 → columnPins true c % 2 ^ 10 % 2 ^ 11 + 2 ^ 10 * bit 11 (columnPins true c) ≡ c
     eleven g =
-        let A11 : bit 11 (columnPins c) ≡ c / 2 ^ 10 = omega arith in
+        let A11 : bit 11 (columnPins true c) ≡ c / 2 ^ 10 = omega arith in
         rw (low, A11) (omega arith)
 
-    go : (b : Bool) → eqb n 11 ≡ b → columnPins c % 2 ^ 10 % 2 ^ n + cond b (2 ^ 10 * bit 11 (columnPins c)) 0 ≡ c
+    go : (b : Bool) → eqb n 11 ≡ b → columnPins true c % 2 ^ 10 % 2 ^ n + cond b (2 ^ 10 * bit 11 (columnPins true c)) 0 ≡ c
     go true e = rw (eqb-true n 11 e) (eleven (rw (eqb-true n 11 e) at f))
     go false e =
         let g : n ≤ 10 = omega (arith, eqb-false n 11 e) in
@@ -94,7 +94,7 @@ column-carried n c l f = go (eqb n 11) refl
         let k : c % 2 ^ 10 ≡ c = omega arith in
         rw (low, k, mod-eq-of-lt f) (omega arith)
 
-A10-asked : (c : ℕ) → bit 10 (columnPins c) ≡ 1
+A10-asked : (c : ℕ) → bit 10 (columnPins true c) ≡ 1
 A10-asked c = omega arith
 
 -- ---- the commands of a schedule
@@ -111,7 +111,7 @@ burstCommand s q address auto =
     record { op = cond (asksWrite q) WRITE READ; bank = cellBank s (firstCell q); address = address; A10 = auto }
 
 module _ (s : Settings) (f : Sized s) where
-  pub column-back : (c : ℕ) → c < 2 ^ s .columnBits → columnOf s (columnPins c) ≡ c
+  pub column-back : (c : ℕ) → c < 2 ^ s .columnBits → columnOf s (columnPins true c) ≡ c
   column-back c l = column-carried (s .columnBits) c (f .columns) l
 
   module _ (q : ℕ) where
@@ -130,9 +130,9 @@ module _ (s : Settings) (f : Sized s) where
           pins-carry ACTIVE (cellBank s (firstCell q)) (cellRow s (firstCell q)) bank-small
           (omega (arith, mod-lt (firstCell q / 2 ^ s .columnBits) (pow-pos (s .rowBits)), pow-mono (f .rows)))
 
-      pub burst-carried : commandOf (burstPins s q) ≡ burstCommand s q (columnPins (cellColumn s (firstCell q))) true
+      pub burst-carried : commandOf (burstPins true s q) ≡ burstCommand s q (columnPins true (cellColumn s (firstCell q))) true
       burst-carried =
           let c = cellColumn s (firstCell q) in
           let l : c < 2 ^ 11 = omega (arith, column-small, pow-mono (f .columns)) in
-          pins-carry (cond (asksWrite q) WRITE READ) (cellBank s (firstCell q)) (columnPins c) bank-small (omega arith)
-          ∙ (λ i. burstCommand s q (columnPins c) (eqb (A10-asked c i) 1))
+          pins-carry (cond (asksWrite q) WRITE READ) (cellBank s (firstCell q)) (columnPins true c) bank-small (omega arith)
+          ∙ (λ i. burstCommand s q (columnPins true c) (eqb (A10-asked c i) 1))

@@ -9,7 +9,7 @@ use borrow.Author.Tests.{ne-eqb}
 use lib.Dec.{eqb}
 use lib.ListN.{getD}
 use Rattle.reading.specs.Search as search
-use Rattle.reading.specs.Capture.{Event, eventCount, eventPart, eventAt, eventsOf}
+use Rattle.reading.specs.Capture.{Event, eventCount, eventBytes, eventAt, eventsOf}
 use Rattle.reading.specs.Verdict as is
 use Rattle.reading.specs.Answers.{Answer, Report, refused, answered, verdictIn, judgeAnswer, cellsOutcome, scheduleOutcome}
 use Rattle.reading.proofs.Meaning.{eventOf}
@@ -48,14 +48,14 @@ at-count f x from (suc n) (suc i) l = at-count f x (suc from) n i (omega arith) 
 
 module _ (capture : List ℕ) (short : eventCount capture ≤ 8000) where
   -- the cycle of the broken event stands in the capture
-  cycle-is : (rule event cycle : ℕ) → verdictIn capture ≡ is.broken rule event cycle → eventAt (eventPart capture) event .cycle ≡ cycle
+  cycle-is : (rule event cycle : ℕ) → verdictIn capture ≡ is.broken rule event cycle → eventAt (eventBytes capture) event .cycle ≡ cycle
   unfolding eventsOf
   cycle-is rule event cycle e =
       let b = broken-at capture short rule event cycle e in
       let there : event < eventCount capture = omega (arith, b .there, events-length capture short) in
-      let found : eventOf (eventsOf capture) event ≡ eventAt (eventPart capture) event =
-      at-count (eventAt (eventPart capture)) (record { cycle = 0; pins = 0 }) 0 (eventCount capture) event there
-      ∙ ap (eventAt (eventPart capture)) (zero-add event) in
+      let found : eventOf (eventsOf capture) event ≡ eventAt (eventBytes capture) event =
+      at-count (eventAt (eventBytes capture)) (record { cycle = 0; pins = 0 }) 0 (eventCount capture) event there
+      ∙ ap (eventAt (eventBytes capture)) (zero-add event) in
       ap (λ (x : Event). x .cycle) (sym found) ∙ b .cycle
 
   report-back : (v : is.Verdict) → verdictIn capture ≡ v →

@@ -3,7 +3,7 @@ use Prim.Native.Nat.{ℕ, _+_, _*_, _/_, _%_, _^_}
 use mathlib.Core.Bool.{cond}
 use mathlib.Core.List.{List}
 use lib.Dec.{eqb}
-use Rattle.reading.specs.Capture.{eventCount, eventPart, eventAt}
+use Rattle.reading.specs.Capture.{eventCount, eventBytes, eventAt}
 use Rattle.reading.specs.Verdict as is
 use Rattle.reading.specs.Answers.{Answer, Report, refused, answered}
 
@@ -65,7 +65,7 @@ judgeAnswerOf capture (breach rule event) =
     (record {
       events = eventCount capture;
       judged = event;
-      verdict = is.broken rule event (eventAt (eventPart capture) event .cycle);
+      verdict = is.broken rule event (eventAt (eventBytes capture) event .cycle);
     })
 
 abbrev pub countAnswerOf : Told → Answer ℕ

@@ -13,7 +13,7 @@ use borrow.Author.Tests.{leb-true, le-leb, lt-ltb, le-ltb, eq-eqb, not-false}
 use Rattle.reading.specs.Search.{every, find, count}
 use Rattle.reading.specs.Words.{wordAt, bytesOf}
 use Rattle.reading.specs.Settings.{Limits, limits, settingsOf, settingFits, badSetting}
-use Rattle.reading.specs.Capture.{Event, headerWord, eventCount, settingWords, eventPart, eventAt, eventsOf, badLength, goodHeader, lastCycle, eventFits, badEvent}
+use Rattle.reading.specs.Capture.{Event, headerWord, eventCount, settingWords, eventBytes, eventAt, eventsOf, lengthFits, headerFits, lastCycle, eventFits, badEvent}
 use Rattle.reading.specs.Verdict.{clean, verdictOf}
 use Rattle.reading.specs.Schedule.{badRequest, freeFrom, planned, scheduleOf, eventWords, captureOf}
 use Rattle.reading.specs.Answers.{Answer, Report, answered, accepted, verdictIn, judgeAnswer}
@@ -151,29 +151,29 @@ module _ (ws : List ℕ) (es : List Event) (fourteen : length ws ≡ 14) (good :
   settings-back = counted (λ i. wordAt C (24 + 4 * i)) 0 0 14 ws fourteen (λ i l. rw (zero-add i) (setting-word i l))
 
   -- events
-  event-word : (j v : ℕ) → getD (eventWords es) j 0 ≡ v → j < 2 * length es → v < 2 ^ 32 → wordAt (eventPart C) (4 * j) ≡ v
+  event-word : (j v : ℕ) → getD (eventWords es) j 0 ≡ v → j < 2 * length es → v < 2 ^ 32 → wordAt (eventBytes C) (4 * j) ≡ v
   event-word j v e l k =
       let m : 80 + 4 * j ≡ 4 * (20 + j) = omega arith in
       let n : 20 ≡ length (header es ++ ws) = omega (arith, length-append (header es) ws) in
       let f : getD W (20 + j) 0 ≡ v = ap (λ (x : ℕ). getD W (x + j) 0) n ∙ getD-append-add (header es ++ ws) (eventWords es) j 0 ∙ e in
       word-drop 80 C (4 * j) ∙ ap (wordAt C) m ∙ word ws es fourteen (20 + j) (omega (arith, all-length ws es fourteen)) (rw f k) ∙ f
 
-  cycle-back : (i : ℕ) → i < length es → eventAt (eventPart C) i .cycle ≡ eventOf es i .cycle
+  cycle-back : (i : ℕ) → i < length es → eventAt (eventBytes C) i .cycle ≡ eventOf es i .cycle
   cycle-back i l =
       let m : 8 * i ≡ 4 * (2 * i) = omega arith in
-      ap (wordAt (eventPart C)) m ∙ event-word (2 * i) (eventOf es i .cycle) (cycle-word es i) (omega arith) (omega (arith, within 0 es rises i l .high))
+      ap (wordAt (eventBytes C)) m ∙ event-word (2 * i) (eventOf es i .cycle) (cycle-word es i) (omega arith) (omega (arith, within 0 es rises i l .high))
 
-  pins-back : (i : ℕ) → i < length es → eventAt (eventPart C) i .pins ≡ eventOf es i .pins
+  pins-back : (i : ℕ) → i < length es → eventAt (eventBytes C) i .pins ≡ eventOf es i .pins
   pins-back i l =
       let m : 8 * i + 4 ≡ 4 * (2 * i + 1) = omega arith in
-      ap (wordAt (eventPart C)) m ∙ event-word (2 * i + 1) (eventOf es i .pins) (pins-word es i) (omega arith) (omega (arith, within 0 es rises i l .pins))
+      ap (wordAt (eventBytes C)) m ∙ event-word (2 * i + 1) (eventOf es i .pins) (pins-word es i) (omega arith) (omega (arith, within 0 es rises i l .pins))
 
   pub events-back : eventsOf C ≡ es
   unfolding eventsOf
   events-back =
-      rw counts (counted (eventAt (eventPart C)) (record { cycle = 0; pins = 0 }) 0 (length es) es refl (λ i l. rw (zero-add i) (λ u. record { cycle = cycle-back i l u; pins = pins-back i l u })))
+      rw counts (counted (eventAt (eventBytes C)) (record { cycle = 0; pins = 0 }) 0 (length es) es refl (λ i l. rw (zero-add i) (λ u. record { cycle = cycle-back i l u; pins = pins-back i l u })))
 
-  event-fits : (i : ℕ) → i < length es → eventFits 20 (eventPart C) i ≡ true
+  event-fits : (i : ℕ) → i < length es → eventFits 20 (eventBytes C) i ≡ true
   unfolding eventFits
   event-fits zero l =
       let w = within 0 es rises 0 l in
@@ -192,19 +192,19 @@ module _ (ws : List ℕ) (es : List Event) (fourteen : length ws ≡ 14) (good :
         lt-ltb (eventOf es i .cycle) (eventOf es (suc i) .cycle) (rising 0 es rises i l),
       )
 
-  right-length : badLength C ≡ false
-  unfolding badLength
+  right-length : lengthFits C ≡ true
+  unfolding lengthFits
   right-length =
       rw (
         head ws es fourteen 0 (omega arith) (omega arith),
         size ws es fourteen,
-        le-ltb (80 + 8 * length es) 80 (omega arith),
-        le-ltb 64080 (80 + 8 * length es) (omega arith),
+        le-leb 80 (80 + 8 * length es) (omega arith),
+        le-leb (80 + 8 * length es) 64080 (omega arith),
         eq-eqb (80 + 8 * length es) (80 + 8 * length es) refl,
       )
 
-  right-header : goodHeader C ≡ true
-  unfolding goodHeader
+  right-header : headerFits C ≡ true
+  unfolding headerFits
   right-header =
       rw (
         head ws es fourteen 1 (omega arith) (omega arith),
@@ -217,9 +217,9 @@ module _ (ws : List ℕ) (es : List Event) (fourteen : length ws ≡ 14) (good :
         eq-eqb (80 + 8 * length es) (80 + 8 * length es) refl,
       )
 
-  right-events : badEvent 20 (eventPart C) (eventCount C) ≡ none
+  right-events : badEvent 20 (eventBytes C) (eventCount C) ≡ none
   unfolding badEvent
-  right-events = rw counts (nowhere (λ i. not (eventFits 20 (eventPart C) i)) 0 (length es) (λ i l. rw (zero-add i) (ap not (event-fits i l))))
+  right-events = rw counts (nowhere (λ i. not (eventFits 20 (eventBytes C) i)) 0 (length es) (λ i l. rw (zero-add i) (ap not (event-fits i l))))
 
   pub captured : {A : Type 0} (rest : Answer A) → accepted C rest ≡ rest
   unfolding accepted

@@ -9,7 +9,7 @@ use Rattle.reading.specs.Search.{every}
 use Rattle.reading.specs.Settings.{Settings}
 use Rattle.reading.specs.Commands.{ACTIVE, READ, WRITE, AUTO-REFRESH, Command, commandOf}
 use Rattle.reading.specs.Part.{Part}
-use Rattle.reading.specs.Rules.{keeps, placingRules}
+use Rattle.reading.specs.Rules.{keepsRule, placing}
 use Rattle.reading.specs.Schedule.{passes}
 use Rattle.bridge.specs.Summary.{Held, laid, summary, from}
 use Rattle.bridge.proofs.Laid.{stands}
@@ -28,17 +28,17 @@ other-is false c t = refl
 
 module _ (s : Settings) (p : Part) (t : ℕ) where
   abbrev pub passed : Command → Bool
-  passed c = every (λ r. keeps r s p t c) placingRules
+  passed c = every (λ r. keepsRule r s p t c) placing
 
-  pub carried-passes : (pins : ℕ) {c : Command} → commandOf pins ≡ c → passes s p pins t ≡ passed c
+  pub carried-passes : (pins : ℕ) {c : Command} → commandOf pins ≡ c → passes placing s p pins t ≡ passed c
   unfolding passes
   carried-passes pins e = ap passed e
 
   abbrev X : Held
   X = summary s p
 
-  busy-is : leb (X .busy) t ≡ (leb (from (p .refreshed) (s .tRFC)) t && leb (from (p .modeSet) (s .tMRD)) t)
-  busy-is = leb-later (from (p .refreshed) (s .tRFC)) (from (p .modeSet) (s .tMRD)) t
+  busy-is : leb (X .busy) t ≡ (leb (from (p .lastRefresh) (s .tRFC)) t && leb (from (p .lastModeSet) (s .tMRD)) t)
+  busy-is = leb-later (from (p .lastRefresh) (s .tRFC)) (from (p .lastModeSet) (s .tMRD)) t
 
   pub read-passed : (b a : ℕ) (ten : Bool) → b < 4 → p .banks b .opened ≡ true → passed (does READ b a ten) ≡ leb (readSoonest (laid X) b) t
   unfolding readSoonest

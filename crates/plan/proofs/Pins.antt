@@ -40,7 +40,7 @@ module _ (s : Settings) (g : Ranged s) (q : ℕ) (fits : requestFits s q ≡ tru
   pub active-small : activePins s q < 2 ^ 20
   active-small = pins-small ACTIVE bank row bank-small (omega (arith, row-low, pow-mono (g .sized .rows)))
 
-  pub burst-small : burstPins s q < 2 ^ 20
+  pub burst-small : burstPins true s q < 2 ^ 20
   burst-small =
       let l : column < 2 ^ 11 = omega (arith, column-small s (g .sized) q, pow-mono (g .sized .columns)) in
-      pins-small (cond (asksWrite q) WRITE READ) bank (columnPins column) bank-small (omega arith)
+      pins-small (cond (asksWrite q) WRITE READ) bank (columnPins true column) bank-small (omega arith)

@@ -12,7 +12,7 @@ use Rattle.reading.specs.Mode.{h}
 use Rattle.reading.specs.Settings.{Settings}
 use Rattle.reading.specs.Capture.{Event}
 use Rattle.reading.specs.Commands.{Command, READ, WRITE, among, commandOf}
-use Rattle.reading.specs.Bursts.{Burst, keep, cuts, cutTo, isCut, cutBy}
+use Rattle.reading.specs.Bursts.{Burst, withPairs, cuts, cutTo, isCut, cutBy}
 use Rattle.reading.specs.Part.{Part, start, burstGiven, step, run}
 use Rattle.reading.specs.Cells.{burstsOf}
 
@@ -28,12 +28,12 @@ lesser-le a b = go (leb a b) refl
 pub cut-lowers : (t : ℕ) (c : Command) (x : Burst) → cutBy t c x .n ≤ x .n
 cut-lowers t c x = go (isCut t c x)
   where
-    go : (b : Bool) → (cond b (keep (cutTo t x) x) x) .n ≤ x .n
+    go : (b : Bool) → (cond b (withPairs (cutTo t x) x) x) .n ≤ x .n
     go true = lesser-le _ _
     go false = le-refl (x .n)
 
 pub auto-uncut : (t : ℕ) (c : Command) (x : Burst) → x .auto ≡ true → cutBy t c x ≡ x
-auto-uncut t c x a = ap (λ (b : Bool). cond b (keep (cutTo t x) x) x) (uncut (cuts c x) (x .auto) (ltb t (x .k + h (x .mode))) a)
+auto-uncut t c x a = ap (λ (b : Bool). cond b (withPairs (cutTo t x) x) x) (uncut (cuts c x) (x .auto) (ltb t (x .k + h (x .mode))) a)
   where
     uncut : (b a l : Bool) → a ≡ true → (b && (not a && l)) ≡ false
     uncut b true l e = and-false b
@@ -62,7 +62,7 @@ pub record Whole (x : Burst) : Type 0 where
 cut-mode : (t : ℕ) (c : Command) (x : Burst) → (cutBy t c x .mode ≡ x .mode) × (cutBy t c x .auto ≡ x .auto)
 cut-mode t c x = go (isCut t c x)
   where
-    go : (b : Bool) → ((cond b (keep (cutTo t x) x) x) .mode ≡ x .mode) × ((cond b (keep (cutTo t x) x) x) .auto ≡ x .auto)
+    go : (b : Bool) → ((cond b (withPairs (cutTo t x) x) x) .mode ≡ x .mode) × ((cond b (withPairs (cutTo t x) x) x) .auto ≡ x .auto)
     go true = (refl, refl)
     go false = (refl, refl)
 

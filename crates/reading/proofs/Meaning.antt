@@ -13,33 +13,33 @@ use Rattle.reading.specs.Settings.{Settings}
 use Rattle.reading.specs.Capture.{Event}
 use Rattle.reading.specs.Commands.{commandOf}
 use Rattle.reading.specs.Part.{Part, start, step, run}
-use Rattle.reading.specs.Rules.{keeps, rules, brokenBy}
-use Rattle.reading.specs.Verdict.{clean, broken, onward, judgeFrom, verdictOf, judgedOf, judgeBy, verdictBy}
+use Rattle.reading.specs.Rules.{keepsRule, rules, brokenBy}
+use Rattle.reading.specs.Verdict.{clean, broken, brokenOr, judgeFrom, verdictOf, judgedOf, judgeBy, verdictBy}
 use Rattle.reading.proofs.Found.{Rising, find-none, none-find, find-some, find-lowest, lowest-find}
 
 -- ---- one event: the rules by their numbers
 
 -- an event breaks no rule
 abbrev pub Keeps : Settings → Part → Event → Type 0
-Keeps s p e = (r : ℕ) → List·Memᴰ r rules → keeps r s p (e .cycle) (commandOf (e .pins)) ≡ true
+Keeps s p e = (r : ℕ) → List·Memᴰ r rules → keepsRule r s p (e .cycle) (commandOf (e .pins)) ≡ true
 
 -- it breaks r, and no lower rule
 pub record Breaks (s : Settings) (p : Part) (e : Event) (r : ℕ) : Type 0 where
   pub rule : List·Memᴰ r rules
-  pub breaks : keeps r s p (e .cycle) (commandOf (e .pins)) ≡ false
-  pub lowest : (q : ℕ) → List·Memᴰ q rules → q < r → keeps q s p (e .cycle) (commandOf (e .pins)) ≡ true
+  pub breaks : keepsRule r s p (e .cycle) (commandOf (e .pins)) ≡ false
+  pub lowest : (q : ℕ) → List·Memᴰ q rules → q < r → keepsRule q s p (e .cycle) (commandOf (e .pins)) ≡ true
 
 rules-rise : Rising 1 rules
 rules-rise = omega arith
 
 module _ (s : Settings) (p : Part) (e : Event) where
   bad : ℕ → Bool
-  bad r = not (keeps r s p (e .cycle) (commandOf (e .pins)))
+  bad r = not (keepsRule r s p (e .cycle) (commandOf (e .pins)))
 
   pub none-broken : brokenBy s p e ≡ none ↔ Keeps s p e
   unfolding bad
   none-broken = (
-    λ h r m. not-false (keeps r s p (e .cycle) (commandOf (e .pins))) (find-none bad rules h r m),
+    λ h r m. not-false (keepsRule r s p (e .cycle) (commandOf (e .pins))) (find-none bad rules h r m),
     λ k. none-find bad rules (λ r m. ap not (k r m)),
   )
 
@@ -49,8 +49,8 @@ module _ (s : Settings) (p : Part) (e : Event) where
     λ h.
         record {
           rule = find-some bad rules r h .member;
-          breaks = not-true (keeps r s p (e .cycle) (commandOf (e .pins))) (find-some bad rules r h .holds);
-          lowest = λ q m l. not-false (keeps q s p (e .cycle) (commandOf (e .pins))) (find-lowest bad 1 rules rules-rise r h q m l);
+          breaks = not-true (keepsRule r s p (e .cycle) (commandOf (e .pins))) (find-some bad rules r h .holds);
+          lowest = λ q m l. not-false (keepsRule q s p (e .cycle) (commandOf (e .pins))) (find-lowest bad 1 rules rules-rise r h q m l);
         },
     λ b. lowest-find bad 1 rules rules-rise r (b .rule) (ap not (b .breaks)) (λ q m l. ap not (b .lowest q m l)),
   )
@@ -91,7 +91,7 @@ module _ (s : Settings) where
   clean-means p j [] h = λ i l. absurd (omega arith)
   clean-means p j (e ∷ es) h = go (brokenBy s p e) refl h (clean-means (step s p e) (suc j) es)
     where
-      go : (o : Option ℕ) → brokenBy s p e ≡ o → onward o j (e .cycle) (judgeFrom s (step s p e) (suc j) es) ≡ clean →
+      go : (o : Option ℕ) → brokenBy s p e ≡ o → brokenOr o j (e .cycle) (judgeFrom s (step s p e) (suc j) es) ≡ clean →
           (judgeFrom s (step s p e) (suc j) es ≡ clean → Unbroken s (step s p e) es (length es)) →
           Unbroken s p (e ∷ es) (suc (length es))
       go none q v ih = more p e es (length es) (none-broken s p e .0 q) (ih v)
@@ -112,7 +112,7 @@ module _ (s : Settings) where
       q : Part
       q = step s p e
 
-      go : (o : Option ℕ) → brokenBy s p e ≡ o → onward o j (e .cycle) (judgeFrom s q (suc j) es) ≡ broken r i t →
+      go : (o : Option ℕ) → brokenBy s p e ≡ o → brokenOr o j (e .cycle) (judgeFrom s q (suc j) es) ≡ broken r i t →
           (judgeFrom s q (suc j) es ≡ broken r i t → (k : ℕ) × (i ≡ suc j + k) × BrokenAt s q es k r t) →
           (k : ℕ) × (i ≡ j + k) × BrokenAt s p (e ∷ es) k r t
       go none w v ih =

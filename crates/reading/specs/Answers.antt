@@ -7,7 +7,7 @@ use lib.ListN.{length, drop}
 use lib.Dec.{ltb, eqb}
 use Rattle.reading.specs.Search.{given}
 use Rattle.reading.specs.Settings.{Settings, settingsCount, settingsOf, badSetting}
-use Rattle.reading.specs.Capture.{Event, eventCount, settingWords, eventPart, eventsOf, badLength, goodHeader, pinBits, badEvent}
+use Rattle.reading.specs.Capture.{Event, eventCount, settingWords, eventBytes, eventsOf, lengthFits, headerFits, pinBits, badEvent}
 use Rattle.reading.specs.Verdict.{Verdict, clean, broken, verdictOf, judgedOf}
 use Rattle.reading.specs.Cells.{burstsOf, cellsOf}
 use Rattle.reading.specs.Schedule.{Schedule, planned, late, badRequest, scheduleOf, captureOf}
@@ -29,10 +29,10 @@ settingsIn capture = settingsOf (settingWords capture)
 
 unfoldable pub accepted : {A : Type 0} → List ℕ → Answer A → Answer A
 accepted capture rest =
-    unless 1 (given 0 (badLength capture))
-    (unless 2 (given 0 (not (goodHeader capture)))
+    unless 1 (given 0 (not (lengthFits capture)))
+    (unless 2 (given 0 (not (headerFits capture)))
     (unless 3 (badSetting (settingWords capture))
-    (unless 4 (badEvent (pinBits capture) (eventPart capture) (eventCount capture)) rest)))
+    (unless 4 (badEvent (pinBits capture) (eventBytes capture) (eventCount capture)) rest)))
 
 -- ---- judging
 
@@ -84,9 +84,9 @@ cellsOutcome capture buffer =
 
 -- ---- schedules
 
-abbrev pub keptUp : Schedule → (List Event → Answer (List ℕ)) → Answer (List ℕ)
-keptUp (planned es) f = f es
-keptUp (late i) f = refused 6 i
+abbrev pub whenPlanned : Schedule → (List Event → Answer (List ℕ)) → Answer (List ℕ)
+whenPlanned (planned es) f = f es
+whenPlanned (late i) f = refused 6 i
 
 unfoldable pub scheduleOutcome : List ℕ → List ℕ → List ℕ → Outcome
 scheduleOutcome settings requests buffer =
@@ -94,5 +94,5 @@ scheduleOutcome settings requests buffer =
     (unless 2 (given 0 (not (eqb (length settings) settingsCount)))
     (unless 3 (badSetting settings)
     (unless 5 (badRequest (settingsOf settings) requests)
-    (keptUp (scheduleOf (settingsOf settings) requests) (λ es. fitting buffer (captureOf settings es))))))
+    (whenPlanned (scheduleOf (settingsOf settings) requests) (λ es. fitting buffer (captureOf settings es))))))
     buffer

@@ -46,8 +46,8 @@ beatCell s x j = cellNumber s (x .bank) (x .row) (beatColumn (x .mode) (x .colum
 unfoldable pub burstCells : Settings → Burst → List ℕ
 burstCells s x = map (beatCell s x) (count 0 (2 * x .n))
 
-abbrev pub keep : ℕ → Burst → Burst
-keep pairs x =
+abbrev pub withPairs : ℕ → Burst → Burst
+withPairs pairs x =
     record {
       writes = x .writes;
       bank = x .bank;
@@ -89,4 +89,4 @@ abbrev pub isCut : ℕ → Command → Burst → Bool
 isCut t c x = cuts c x && (not (x .auto) && ltb t (wholeEnd x))
 
 abbrev pub cutBy : ℕ → Command → Burst → Burst
-cutBy t c x = cond (isCut t c x) (keep (cutTo t x) x) x
+cutBy t c x = cond (isCut t c x) (withPairs (cutTo t x) x) x

@@ -16,15 +16,15 @@ use Rattle.reading.specs.Bursts.{Burst, reads, columnOf, cutBy}
 pub record Bank : Type 0 where
   pub opened : Bool
   pub row : ℕ
-  pub active : Option ℕ
-  pub precharged : Option ℕ
+  pub lastActive : Option ℕ
+  pub prechargeCycle : Option ℕ
 
 -- the last AUTO REFRESH and MODE REGISTER SET; the refresh clock; all bursts so far, the latest first
 pub record Part : Type 0 where
   pub banks : ℕ → Bank
   pub mode : ℕ
-  pub refreshed : Option ℕ
-  pub modeSet : Option ℕ
+  pub lastRefresh : Option ℕ
+  pub lastModeSet : Option ℕ
   pub clock : Clock
   pub bursts : List Burst
 
@@ -32,24 +32,24 @@ pub record Part : Type 0 where
 abbrev pub start : Settings → Part
 start s =
     record {
-      banks = λ b. record { opened = false; row = 0; active = none; precharged = none };
+      banks = λ b. record { opened = false; row = 0; lastActive = none; prechargeCycle = none };
       mode = s .mode;
-      refreshed = none;
-      modeSet = none;
+      lastRefresh = none;
+      lastModeSet = none;
       clock = clockAtStart;
       bursts = [];
     }
 
 abbrev pub openOn : ℕ → ℕ → Bank → Bank
-openOn row t x = record { opened = true; row = row; active = some t; precharged = x .precharged }
+openOn row t x = record { opened = true; row = row; lastActive = some t; prechargeCycle = x .prechargeCycle }
 
 abbrev pub idleFrom : ℕ → Bank → Bank
-idleFrom t x = record { opened = false; row = x .row; active = x .active; precharged = some t }
+idleFrom t x = record { opened = false; row = x .row; lastActive = x .lastActive; prechargeCycle = some t }
 
 -- the later of ACTIVE + tRAS and k + h (read) or k + 1 + h + tWR (write)
 abbrev pub autoPrecharge : Settings → ℕ → ℕ → Command → Bank → ℕ
 autoPrecharge s m k c x =
-    later (orZero (x .active) + s .tRAS) (cond (is WRITE c) (k + 1 + h m + s .tWR) (k + h m))
+    later (orZero (x .lastActive) + s .tRAS) (cond (is WRITE c) (k + 1 + h m + s .tWR) (k + h m))
 
 -- ACTIVE opens its bank; auto precharge makes it idle at once; PRECHARGE makes idle each open bank that it names
 abbrev pub bankAfter : Settings → ℕ → ℕ → Command → ℕ → Bank → Bank
@@ -83,8 +83,8 @@ partAfter s p t c =
     record {
       banks = λ b. bankAfter s (p .mode) t c b (p .banks b);
       mode = cond (is MODE-REGISTER-SET c && eqb (c .bank) 0) (c .address) (p .mode);
-      refreshed = cond (is AUTO-REFRESH c) (some t) (p .refreshed);
-      modeSet = cond (is MODE-REGISTER-SET c) (some t) (p .modeSet);
+      lastRefresh = cond (is AUTO-REFRESH c) (some t) (p .lastRefresh);
+      lastModeSet = cond (is MODE-REGISTER-SET c) (some t) (p .lastModeSet);
       clock = cond (is AUTO-REFRESH c) (clockAfterRefresh s t (p .clock)) (p .clock);
       bursts = burstsAfter s p t c;
     }
@@ -107,7 +107,7 @@ lastWrite p = find (λ x. x .writes) (p .bursts)
 
 -- a write to the bank since its ACTIVE, and the last of them
 abbrev pub bankWrite : Part → ℕ → Burst → Bool
-bankWrite p b x = x .writes && (eqb b (x .bank) && ever (p .banks b .active) (λ a. leb a (x .k)))
+bankWrite p b x = x .writes && (eqb b (x .bank) && ever (p .banks b .lastActive) (λ a. leb a (x .k)))
 
 abbrev pub lastBankWrite : Part → ℕ → Option Burst
 lastBankWrite p b = find (bankWrite p b) (p .bursts)

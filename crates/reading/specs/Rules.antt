@@ -46,25 +46,25 @@ rule3 s p t c =
 -- 4: a command waits until the last AUTO REFRESH and the last MODE REGISTER SET are over
 abbrev pub rule4 : Rule
 rule4 s p t c =
-    implies (not (among (DESELECT ∷ NOP ∷ []) c)) (after (s .tRFC) (p .refreshed) t && after (s .tMRD) (p .modeSet) t)
+    implies (not (among (DESELECT ∷ NOP ∷ []) c)) (after (s .tRFC) (p .lastRefresh) t && after (s .tMRD) (p .lastModeSet) t)
 
 -- 5: an ACTIVE waits for its bank's precharge to be over, AUTO REFRESH and MODE REGISTER SET for every bank's
 abbrev pub rule5 : Rule
 rule5 s p t c =
-    cond (is ACTIVE c) (after (s .tRP) (p .banks (c .bank) .precharged) t)
-    (implies (among (AUTO-REFRESH ∷ MODE-REGISTER-SET ∷ []) c) (everyBank (λ b. after (s .tRP) (p .banks b .precharged) t)))
+    cond (is ACTIVE c) (after (s .tRP) (p .banks (c .bank) .prechargeCycle) t)
+    (implies (among (AUTO-REFRESH ∷ MODE-REGISTER-SET ∷ []) c) (everyBank (λ b. after (s .tRP) (p .banks b .prechargeCycle) t)))
 
 -- 6: the ACTIVEs of a bank stand apart
 abbrev pub rule6 : Rule
-rule6 s p t c = implies (is ACTIVE c) (after (s .tRC) (p .banks (c .bank) .active) t)
+rule6 s p t c = implies (is ACTIVE c) (after (s .tRC) (p .banks (c .bank) .lastActive) t)
 
 -- 7: so do those of different banks
 abbrev pub rule7 : Rule
-rule7 s p t c = implies (is ACTIVE c) (everyBank (λ b. eqb b (c .bank) || after (s .tRRD) (p .banks b .active) t))
+rule7 s p t c = implies (is ACTIVE c) (everyBank (λ b. eqb b (c .bank) || after (s .tRRD) (p .banks b .lastActive) t))
 
 -- 8: READ and WRITE wait for their bank's row
 abbrev pub rule8 : Rule
-rule8 s p t c = implies (among (READ ∷ WRITE ∷ []) c) (after (s .tRCD) (p .banks (c .bank) .active) t)
+rule8 s p t c = implies (among (READ ∷ WRITE ∷ []) c) (after (s .tRCD) (p .banks (c .bank) .lastActive) t)
 
 -- for each open bank that a PRECHARGE names
 abbrev pub closing : Part → Command → (ℕ → Bool) → Bool
@@ -72,7 +72,7 @@ closing p c f = implies (is PRECHARGE c) (everyBank (λ b. implies (p .banks b .
 
 -- 9: a row stays open so long
 abbrev pub rule9 : Rule
-rule9 s p t c = closing p c (λ b. after (s .tRAS) (p .banks b .active) t)
+rule9 s p t c = closing p c (λ b. after (s .tRAS) (p .banks b .lastActive) t)
 
 -- 10: and so long after the data of its last write
 abbrev pub rule10 : Rule
@@ -107,8 +107,8 @@ abbrev pub rule14 : Rule
 rule14 s p t c = inTime s (p .clock) t
 
 -- the rule of a number
-abbrev pub keeps : ℕ → Rule
-keeps r s p t c =
+abbrev pub keepsRule : ℕ → Rule
+keepsRule r s p t c =
     cond (eqb r 1) (rule1 s p t c)
     (cond (eqb r 2) (rule2 s p t c)
     (cond (eqb r 3) (rule3 s p t c)
@@ -125,15 +125,15 @@ keeps r s p t c =
     (cond (eqb r 14) (rule14 s p t c) true)))))))))))))
 
 -- rules 1-13, by which commands are placed; all rules, by which events are judged
-abbrev pub placingRules : List ℕ
-placingRules = 1 ∷ 2 ∷ 3 ∷ 4 ∷ 5 ∷ 6 ∷ 7 ∷ 8 ∷ 9 ∷ 10 ∷ 11 ∷ 12 ∷ 13 ∷ []
+abbrev pub placing : List ℕ
+placing = 1 ∷ 2 ∷ 3 ∷ 4 ∷ 5 ∷ 6 ∷ 7 ∷ 8 ∷ 9 ∷ 10 ∷ 11 ∷ 12 ∷ 13 ∷ []
 
 abbrev pub rules : List ℕ
-rules = placingRules ++ (14 ∷ [])
+rules = placing ++ (14 ∷ [])
 
 -- the lowest of some rules, listed by their numbers, that is broken
 abbrev pub lowestBroken : List ℕ → Settings → Part → ℕ → Command → Option ℕ
-lowestBroken rs s p t c = find (λ r. not (keeps r s p t c)) rs
+lowestBroken rs s p t c = find (λ r. not (keepsRule r s p t c)) rs
 
 abbrev pub brokenAmong : List ℕ → Settings → Part → Event → Option ℕ
 brokenAmong rs s p e = lowestBroken rs s p (e .cycle) (commandOf (e .pins))

@@ -12,14 +12,14 @@ pub data Verdict : Type 0 where
   -- the lowest rule, the event's index from 0, its cycle
   broken : ℕ → ℕ → ℕ → Verdict
 
-abbrev pub onward : Option ℕ → ℕ → ℕ → Verdict → Verdict
-onward none i t v = v
-onward (some r) i t v = broken r i t
+abbrev pub brokenOr : Option ℕ → ℕ → ℕ → Verdict → Verdict
+brokenOr none i t v = v
+brokenOr (some r) i t v = broken r i t
 
 -- by some rules, listed by their numbers
 unfoldable pub judgeBy : List ℕ → Settings → Part → ℕ → List Event → Verdict
 judgeBy rs s p i [] = clean
-judgeBy rs s p i (e ∷ es) = onward (brokenAmong rs s p e) i (e .cycle) (judgeBy rs s (step s p e) (suc i) es)
+judgeBy rs s p i (e ∷ es) = brokenOr (brokenAmong rs s p e) i (e .cycle) (judgeBy rs s (step s p e) (suc i) es)
 
 unfoldable pub verdictBy : List ℕ → Settings → List Event → Verdict
 verdictBy rs s es = judgeBy rs s (start s) 0 es

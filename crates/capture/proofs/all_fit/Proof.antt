@@ -5,13 +5,13 @@ use Rattle.capture.proofs.all_fit.Statement.{statement}
 use Rattle.capture.proofs.all_fit.Tie as tie
 
 abbrev Inv-loop : tie.InvT-loop
-Inv-loop part n fine₀ last₀ i₀ fine last i = Looked part n fine last i
+Inv-loop bytes n fine₀ last₀ i₀ fine last i = Looked bytes n fine last i
 
 abbrev μ-loop : tie.MeasureT-loop
-μ-loop part n fine₀ last₀ i₀ fine last i = n - i
+μ-loop bytes n fine₀ last₀ i₀ fine last i = n - i
 
 returns : tie.Need-returns Inv-loop μ-loop
-returns c = λ e. no-events (c .before .before .args .part .now) (c .before .before .args .n) (c .if1 .taken)
+returns c = λ e. no-events (c .before .before .args .bytes .now) (c .before .before .args .n) (c .if1 .taken)
 
 pins-at-requires : tie.Need-pins-at-requires Inv-loop μ-loop
 pins-at-requires c κs = omega arith
@@ -20,7 +20,7 @@ cycle-at-requires : tie.Need-cycle-at-requires Inv-loop μ-loop
 cycle-at-requires c κs = omega arith
 
 loop-holds : tie.Need-loop-holds Inv-loop μ-loop
-loop-holds c = begins (c .before .before .before .before .args .part .now) (c .before .before .before .before .args .n) (omega arith) (c .before .pins-at .ensures) (c .cycle-at .ensures)
+loop-holds c = begins (c .before .before .before .before .args .bytes .now) (c .before .before .before .before .args .n) (omega arith) (c .before .pins-at .ensures) (c .cycle-at .ensures)
 
 cycle-at-requires-2 : tie.Need-cycle-at-requires-2 Inv-loop μ-loop
 cycle-at-requires-2 c κs = omega arith
@@ -41,13 +41,13 @@ loop-less : tie.Need-loop-less Inv-loop μ-loop
 loop-less c = omega arith
 
 loop-again : tie.Need-loop-again Inv-loop μ-loop
-loop-again c = goes-on (c .before .before .before .before .before .before .before .before .before .before .args .part .now) (c .before .before .before .before .before .before .before .before .before .before .args .n) (c .before .before .before .before .before .loop .inv) (omega arith) (c .before .before .before .cycle-at2 .ensures) (c .before .before .pins-at2 .ensures) (c .before .both .ensures) (c .both2 .ensures)
+loop-again c = goes-on (c .before .before .before .before .before .before .before .before .before .before .args .bytes .now) (c .before .before .before .before .before .before .before .before .before .before .args .n) (c .before .before .before .before .before .loop .inv) (omega arith) (c .before .before .before .cycle-at2 .ensures) (c .before .before .pins-at2 .ensures) (c .before .both .ensures) (c .both2 .ensures)
 
 both-requires-3 : tie.Need-both-requires-3 Inv-loop μ-loop
 both-requires-3 c κs = tt
 
 returns-2 : tie.Need-returns-2 Inv-loop μ-loop
-returns-2 c = ends (c .before .before .before .before .before .before .before .args .part .now) (c .before .before .before .before .before .before .before .args .n) (c .before .before .loop .inv) (omega arith) (c .both3 .ensures)
+returns-2 c = ends (c .before .before .before .before .before .before .before .args .bytes .now) (c .before .before .before .before .before .before .before .args .n) (c .before .before .loop .inv) (omega arith) (c .both3 .ensures)
 
 pub all-fit-spec : {M : Type 1} → statement M
 all-fit-spec =

@@ -1,6 +1,6 @@
 use borrow.Author.Tests.{le-leb, lt-leb, eq-eqb, ne-eqb}
 use borrow.Author.Needs.{needs}
-use Rattle.reading.specs.Capture.{goodHeader}
+use Rattle.reading.specs.Capture.{headerFits}
 use Rattle.capture.proofs.bad_header.Statement.{statement}
 use Rattle.capture.proofs.bad_header.Tie as tie
 
@@ -11,7 +11,7 @@ cast-if1 : tie.Need-cast-if1
 cast-if1 c = search needs
 
 returns : tie.Need-returns
-unfolding goodHeader
+unfolding headerFits
 returns c = rw (← c .before .word-at .ensures, ne-eqb _ _ (c .if1 .taken))
 
 word-at-requires-2 : tie.Need-word-at-requires-2
@@ -21,7 +21,7 @@ cast-if2 : tie.Need-cast-if2
 cast-if2 c = search needs
 
 returns-2 : tie.Need-returns-2
-unfolding goodHeader
+unfolding headerFits
 returns-2 c =
     rw (← c .before .before .before .word-at .ensures, eq-eqb _ _ (c .before .before .if1 .left), ← c .before .word-at2 .ensures, ne-eqb _ _ (c .if2 .taken))
 
@@ -29,7 +29,7 @@ event-count-requires : tie.Need-event-count-requires
 event-count-requires c κs = search needs
 
 returns-3 : tie.Need-returns-3
-unfolding goodHeader
+unfolding headerFits
 returns-3 c =
     rw (← c .before .before .before .before .before .word-at .ensures, eq-eqb _ _ (c .before .before .before .before .if1 .left), ← c .before .before .before .word-at2 .ensures, eq-eqb _ _ (c .before .before .if2 .left), ← c .before .event-count .ensures, lt-leb _ _ (c .if3 .taken))
 
@@ -40,7 +40,7 @@ cast-if4 : tie.Need-cast-if4
 cast-if4 c = search needs
 
 returns-4 : tie.Need-returns-4
-unfolding goodHeader
+unfolding headerFits
 returns-4 c =
     rw (← c .before .before .before .before .before .before .before .word-at .ensures, eq-eqb _ _ (c .before .before .before .before .before .before .if1 .left), ← c .before .before .before .before .before .word-at2 .ensures, eq-eqb _ _ (c .before .before .before .before .if2 .left), ← c .before .before .before .event-count .ensures, le-leb _ _ (c .before .before .if3 .left), ← c .before .word-at3 .ensures, ne-eqb _ _ (c .if4 .taken))
 
@@ -48,7 +48,7 @@ word-at-requires-4 : tie.Need-word-at-requires-4
 word-at-requires-4 c κs = search needs
 
 returns-5 : tie.Need-returns-5
-unfolding goodHeader
+unfolding headerFits
 returns-5 c =
     rw (← c .before .before .before .before .before .before .before .before .before .word-at .ensures, eq-eqb _ _ (c .before .before .before .before .before .before .before .before .if1 .left), ← c .before .before .before .before .before .before .before .word-at2 .ensures, eq-eqb _ _ (c .before .before .before .before .before .before .if2 .left), ← c .before .before .before .before .before .event-count .ensures, le-leb _ _ (c .before .before .before .before .if3 .left), ← c .before .before .before .word-at3 .ensures, eq-eqb _ _ (c .before .before .if4 .left), ← c .before .word-at4 .ensures, ne-eqb _ _ (c .if5 .taken))
 
@@ -65,7 +65,7 @@ add-result : tie.Need-add-result
 add-result c = search needs
 
 returns-6 : tie.Need-returns-6
-unfolding goodHeader
+unfolding headerFits
 returns-6 c =
     rw (← c .before .before .before .before .before .before .before .before .before .before .word-at .ensures, eq-eqb _ _ (c .before .before .before .before .before .before .before .before .before .if1 .left), ← c .before .before .before .before .before .before .before .before .word-at2 .ensures, eq-eqb _ _ (c .before .before .before .before .before .before .before .if2 .left), ← c .before .before .before .before .before .before .event-count .ensures, le-leb _ _ (c .before .before .before .before .before .if3 .left), ← c .before .before .before .before .word-at3 .ensures, eq-eqb _ _ (c .before .before .before .if4 .left), ← c .before .before .word-at4 .ensures, eq-eqb _ _ (c .before .if5 .left), ← c .word-at5 .ensures)
 

@@ -8,10 +8,10 @@ use Rattle.capture.proofs.lowest_bad_event.Statement.{statement}
 use Rattle.capture.proofs.lowest_bad_event.Tie as tie
 
 abbrev Inv-events : tie.InvT-events
-Inv-events part n next₀ i₀ next i = Sought part n next i
+Inv-events bytes n next₀ i₀ next i = Sought bytes n next i
 
 abbrev μ-events : tie.MeasureT-events
-μ-events part n next₀ i₀ next i = n - i
+μ-events bytes n next₀ i₀ next i = n - i
 
 all-fit-requires : tie.Need-all-fit-requires Inv-events μ-events
 all-fit-requires c κs = search needs
@@ -20,7 +20,7 @@ returns : tie.Need-returns Inv-events μ-events
 returns c = sym (c .before .all-fit .ensures (c .if1 .taken))
 
 events-holds : tie.Need-events-holds Inv-events μ-events
-events-holds c = begins (c .before .before .before .args .part .now) (c .before .before .before .args .n)
+events-holds c = begins (c .before .before .before .args .bytes .now) (c .before .before .before .args .n)
 
 cycle-at-requires : tie.Need-cycle-at-requires Inv-events μ-events
 cycle-at-requires c κs = omega arith

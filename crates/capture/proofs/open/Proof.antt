@@ -7,7 +7,7 @@ use borrow.Author.Tests.{not-true, not-false}
 use borrow.Author.Needs.{needs}
 use lib.ListN.{length}
 use Rattle.reading.specs.Settings.{badSetting}
-use Rattle.reading.specs.Capture.{badLength, goodHeader}
+use Rattle.reading.specs.Capture.{lengthFits, headerFits}
 use Rattle.reading.specs.Answers.{Answer, answered, unless, accepted}
 use Rattle.words.specs.Found.{placeOf}
 use Rattle.words.specs.declared.Found.{Found}
@@ -20,10 +20,10 @@ use Rattle.capture.proofs.open.Tie as tie
 abbrev capture-of : tie.Else2 → List ℕ
 capture-of c = c .before .before .before .before .before .args .capture .now
 
-right-length : (c : tie.Else1) → badLength (c .before .before .before .args .capture .now) ≡ false
-right-length c = sym (c .before .bad-length .ensures) ∙ c .if1 .left
+right-length : (c : tie.Else1) → lengthFits (c .before .before .before .args .capture .now) ≡ true
+right-length c = not-false _ (sym (c .before .bad-length .ensures) ∙ c .if1 .left)
 
-right-header : (c : tie.Else2) → goodHeader (capture-of c) ≡ true
+right-header : (c : tie.Else2) → headerFits (capture-of c) ≡ true
 right-header c = not-false _ (sym (c .before .bad-header .ensures) ∙ c .if2 .left)
 
 long : (c : tie.Else2) → 80 ≤ length (capture-of c)
@@ -34,7 +34,7 @@ bad-length-requires c κs = search needs
 
 returns : tie.Need-returns
 returns c =
-    wrong-length (c .before .before .before .args .capture .now) (sym (c .before .bad-length .ensures) ∙ c .if1 .taken)
+    wrong-length (c .before .before .before .args .capture .now) (not-true _ (sym (c .before .bad-length .ensures) ∙ c .if1 .taken))
 
 bad-header-requires : tie.Need-bad-header-requires
 bad-header-requires c κs = omega (arith, long-enough (c .before .before .before .args .capture .now) (right-length c))
@@ -71,13 +71,13 @@ event-count-requires c κs = omega (arith, long (c .before .before .before .befo
 cast-n : tie.Need-cast-n
 cast-n c = search needs
 
-event-part-requires : tie.Need-event-part-requires
-event-part-requires c κs = long (c .before .before .before .before .before .before)
+event-bytes-requires : tie.Need-event-bytes-requires
+event-bytes-requires c κs = long (c .before .before .before .before .before .before)
 
 lowest-bad-event-requires : tie.Need-lowest-bad-event-requires
 lowest-bad-event-requires c κs =
     let tests = c .before .before .before .before .before .before .before in
-    rw (c .event-part .ensures)
+    rw (c .event-bytes .ensures)
     (events-within (capture-of tests) (sized (capture-of tests) (right-length (tests .before .before)) (right-header tests)) (c .before .event-count .ensures))
 
 enum-known-place : tie.Need-enum-known-place
@@ -96,7 +96,7 @@ walked c =
     let setting = c .before .before .before .before .before .lowest-bad in
     right-settings (capture-of tests) (right-length (tests .before .before)) (right-header tests) (setting .result)
     (setting .ensures ∙ ap badSetting (c .before .before .before .before .before .before .before .setting-words .ensures)) (c .before .before .before .enum-told .given .1)
-    (c .lowest-bad-event .result) (c .before .before .event-count .ensures) (rw (c .before .event-part .ensures) at (c .lowest-bad-event .ensures))
+    (c .lowest-bad-event .result) (c .before .before .event-count .ensures) (rw (c .before .event-bytes .ensures) at (c .lowest-bad-event .ensures))
 
 returns-4 : tie.Need-returns-4
 returns-4 c = sym (ap of-event (c .enum-told2 .given .1)) ∙ walked (c .before .before)
@@ -120,7 +120,7 @@ open-spec =
     enum-told
     event-count-requires
     cast-n
-    event-part-requires
+    event-bytes-requires
     lowest-bad-event-requires
     enum-known-place
     enum-told-2

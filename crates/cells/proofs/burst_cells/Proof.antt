@@ -36,8 +36,8 @@ setting-words-requires c κs = holds-settings c
 event-count-requires : tie.Need-event-count-requires
 event-count-requires c κs = omega (arith, holds-settings (c .before))
 
-event-part-requires : tie.Need-event-part-requires
-event-part-requires c κs = holds-settings (c .before .before)
+event-bytes-requires : tie.Need-event-bytes-requires
+event-bytes-requires c κs = holds-settings (c .before .before)
 
 list-requires : tie.Need-list-requires
 list-requires c κs =
@@ -46,7 +46,7 @@ list-requires c κs =
     let told = counted .before .before in
     let opened = told .before .before .«open» in
     listable (capture-of told) (told .before .before .before .before .before .args .out .now) (opened .result) (opened .ensures)
-    (told .enum-told .given .1) (counted .before .setting-words .ensures) (counted .event-count .ensures) (given .event-part .ensures)
+    (told .enum-told .given .1) (counted .before .setting-words .ensures) (counted .event-count .ensures) (given .event-bytes .ensures)
 
 same-length : tie.Need-same-length
 same-length c = search needs
@@ -58,7 +58,7 @@ returns-2 c =
     let told = counted .before .before in
     let opened = told .before .before .«open» in
     listed-so (capture-of told) (told .before .before .before .before .before .args .out .now) (opened .result) (opened .ensures)
-    (told .enum-told .given .1) (counted .before .setting-words .ensures) (counted .event-count .ensures) (given .event-part .ensures)
+    (told .enum-told .given .1) (counted .before .setting-words .ensures) (counted .event-count .ensures) (given .event-bytes .ensures)
     (c .before .before .list .ensures)
 
 pub burst-cells-spec : {M : Type 1} → statement M
@@ -71,7 +71,7 @@ burst-cells-spec =
     enum-told
     setting-words-requires
     event-count-requires
-    event-part-requires
+    event-bytes-requires
     list-requires
     same-length
     returns-2)

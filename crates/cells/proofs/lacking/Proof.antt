@@ -12,7 +12,7 @@ cast-if1 : tie.Need-cast-if1
 cast-if1 c = search needs
 
 returns : tie.Need-returns
-returns c = enough (c .before .before .args .s .now) (c .before .before .args .part .now) (c .before .before .args .n) (c .before .before .pre .0) (c .before .before .pre .1) (omega (arith, c .if1 .taken))
+returns c = enough (c .before .before .args .s .now) (c .before .before .args .bytes .now) (c .before .before .args .n) (c .before .before .pre .0) (c .before .before .pre .1) (omega (arith, c .if1 .taken))
 
 needed-requires : tie.Need-needed-requires
 needed-requires c κs = search needs

@@ -17,7 +17,7 @@ gives-burst-requires c κs = search needs
 returns : tie.Need-returns
 returns c =
     let a = c .before .before .before .before .args in
-    found-none (settingsOf (a .s .now)) (a .part .now) (a .n) (a .i) (a .firsts .now) (a .mode)
+    found-none (settingsOf (a .s .now)) (a .bytes .now) (a .n) (a .i) (a .firsts .now) (a .mode)
     (c .before .before .pins-at .ensures) (c .before .gives-burst .ensures) (not-true _ (c .if1 .taken))
 
 bank-requires : tie.Need-bank-requires
@@ -35,13 +35,13 @@ column-requires c κs = c .before .before .before .before .before .before .pre .
 kept-requires : tie.Need-kept-requires
 kept-requires c κs =
     let start = c .before .before .before .before .before .before .before in
-    (fitting (start .args .s .now) (start .args .part .now) (start .args .n) (start .pre .0), start .pre .1)
+    (fitting (start .args .s .now) (start .args .bytes .now) (start .args .n) (start .pre .0), start .pre .1)
 
 returns-2 : tie.Need-returns-2
 returns-2 c =
     let chosen = c .before .before .before .before in
     let a = chosen .before .before .before .before .args in
-    found (settingsOf (a .s .now)) (a .part .now) (a .n) (a .i) (a .firsts .now) (a .mode)
+    found (settingsOf (a .s .now)) (a .bytes .now) (a .n) (a .i) (a .firsts .now) (a .mode)
     (chosen .before .before .pins-at .ensures) (chosen .before .gives-burst .ensures) (not-false _ (chosen .if1 .left))
     (c .before .before .before .bank .ensures .0) refl (c .before .column .ensures) (c .kept .ensures)
 

@@ -10,10 +10,10 @@ use Rattle.cells.proofs.write.Statement.{statement}
 use Rattle.cells.proofs.write.Tie as tie
 
 abbrev Inv-events : tie.InvT-events
-Inv-events s part n out₀ firsts₀ mode₀ next₀ i₀ out firsts mode next i = Written s part n out₀ out firsts mode next i
+Inv-events s bytes n out₀ firsts₀ mode₀ next₀ i₀ out firsts mode next i = Written s bytes n out₀ out firsts mode next i
 
 abbrev μ-events : tie.MeasureT-events
-μ-events s part n out₀ firsts₀ mode₀ next₀ i₀ out firsts mode next i = n - i
+μ-events s bytes n out₀ firsts₀ mode₀ next₀ i₀ out firsts mode next i = n - i
 
 first-cells-requires : tie.Need-first-cells-requires Inv-events μ-events
 first-cells-requires c κs = c .before .before .pre .0 .sized
@@ -24,7 +24,7 @@ element-copy-out-mode c = omega arith
 events-holds : tie.Need-events-holds Inv-events μ-events
 events-holds c =
     let start = c .before .before .before .before in
-    begins (start .args .s .now) (start .args .part .now) (start .args .n) (start .args .out .now) (start .pre .0) (c .before .first-cells .ensures)
+    begins (start .args .s .now) (start .args .bytes .now) (start .args .n) (start .args .out .now) (start .pre .0) (c .before .first-cells .ensures)
 
 step-requires : tie.Need-step-requires Inv-events μ-events
 step-requires c κs = (c .before .before .before .before .before .before .before .pre .0, c .before .events-test .taken)
@@ -64,10 +64,10 @@ events-again c =
     let loop = stepped .before .before .before in
     let start = loop .before .before .before .before .before in
     let x = loop .events in
-    let none = told-other (settingsOf (start .args .s .now)) (start .args .part .now) (start .args .n) (x .i) (x .firsts) (x .mode)
+    let none = told-other (settingsOf (start .args .s .now)) (start .args .bytes .now) (start .args .n) (x .i) (x .firsts) (x .mode)
     (stepped .step .ensures) (other .enum-told .given .1) in
     let pins = c .before .before .before .pins-at .ensures in
-    passes (start .args .s .now) (start .args .part .now) (start .args .n) (start .args .out .now) (x .inv) (stepped .before .before .events-test .taken)
+    passes (start .args .s .now) (start .args .bytes .now) (start .args .n) (start .args .out .now) (x .inv) (stepped .before .before .events-test .taken)
     pins (rw pins none) (c .before .open-row .ensures) (c .mode-after .ensures)
 
 write-burst-requires : tie.Need-write-burst-requires Inv-events μ-events
@@ -78,10 +78,10 @@ write-burst-requires c κs =
     let start = loop .before .before .before .before .before in
     let a = start .args in
     let x = loop .events in
-    let is = told (settingsOf (a .s .now)) (a .part .now) (a .n) (x .i) (x .firsts) (x .mode) (stepped .step .ensures) (burst .event .given .1) in
+    let is = told (settingsOf (a .s .now)) (a .bytes .now) (a .n) (x .i) (x .firsts) (x .mode) (stepped .step .ensures) (burst .event .given .1) in
     let taken = stepped .before .before .events-test .taken in (
-      in-row (a .s .now) (a .part .now) (a .n) (a .out .now) (x .inv) taken refl (is .kept) refl (is .row) (is .place) (start .pre .0),
-      room (a .s .now) (a .part .now) (a .n) (a .out .now) (x .inv) taken refl (is .kept) (start .pre .1),
+      in-row (a .s .now) (a .bytes .now) (a .n) (a .out .now) (x .inv) taken refl (is .kept) refl (is .row) (is .place) (start .pre .0),
+      room (a .s .now) (a .bytes .now) (a .n) (a .out .now) (x .inv) taken refl (is .kept) (start .pre .1),
     )
 
 cast-next : tie.Need-cast-next Inv-events μ-events
@@ -98,12 +98,12 @@ add-next c =
     let start = loop .before .before .before .before .before in
     let a = start .args in
     let x = loop .events in
-    let is = told (settingsOf (a .s .now)) (a .part .now) (a .n) (x .i) (x .firsts) (x .mode) (stepped .step .ensures) (burst .event .given .1) in
+    let is = told (settingsOf (a .s .now)) (a .bytes .now) (a .n) (x .i) (x .firsts) (x .mode) (stepped .step .ensures) (burst .event .given .1) in
     let taken = stepped .before .before .events-test .taken in
     omega (
       arith,
-      room (a .s .now) (a .part .now) (a .n) (a .out .now) (x .inv) taken refl (is .kept) (start .pre .1),
-      size (a .s .now) (a .part .now) (a .n) (a .out .now) (x .inv),
+      room (a .s .now) (a .bytes .now) (a .n) (a .out .now) (x .inv) taken refl (is .kept) (start .pre .1),
+      size (a .s .now) (a .bytes .now) (a .n) (a .out .now) (x .inv),
     )
 
 add-i-2 : tie.Need-add-i-2 Inv-events μ-events
@@ -120,8 +120,8 @@ events-again-2 c =
     let start = loop .before .before .before .before .before in
     let a = start .args in
     let x = loop .events in
-    let is = told (settingsOf (a .s .now)) (a .part .now) (a .n) (x .i) (x .firsts) (x .mode) (stepped .step .ensures) (burst .event .given .1) in
-    goes-on (a .s .now) (a .part .now) (a .n) (a .out .now) (x .inv) (stepped .before .before .events-test .taken)
+    let is = told (settingsOf (a .s .now)) (a .bytes .now) (a .n) (x .i) (x .firsts) (x .mode) (stepped .step .ensures) (burst .event .given .1) in
+    goes-on (a .s .now) (a .bytes .now) (a .n) (a .out .now) (x .inv) (stepped .before .before .events-test .taken)
     refl (is .kept) refl (is .row) (is .place) (is .burst) (c .before .before .write-burst .ensures)
 
 cast-result : tie.Need-cast-result Inv-events μ-events
@@ -132,13 +132,13 @@ cast-result c =
 same-length : tie.Need-same-length Inv-events μ-events
 same-length c =
     let a = c .before .before .before .before .before .before .args in
-    size (a .s .now) (a .part .now) (a .n) (a .out .now) (c .before .events .inv)
+    size (a .s .now) (a .bytes .now) (a .n) (a .out .now) (c .before .events .inv)
 
 returns : tie.Need-returns Inv-events μ-events
 returns c =
     let a = c .before .before .before .before .before .before .args in
     let x = c .before .events .inv in
-    (counted (a .s .now) (a .part .now) (a .n) (a .out .now) x (omega arith), ends (a .s .now) (a .part .now) (a .n) (a .out .now) x (omega arith))
+    (counted (a .s .now) (a .bytes .now) (a .n) (a .out .now) x (omega arith), ends (a .s .now) (a .bytes .now) (a .n) (a .out .now) x (omega arith))
 
 pub write-spec : {M : Type 1} → statement M
 write-spec =

@@ -43,8 +43,8 @@ array-read-pace c = search needs
 pace-requires : tie.Need-pace-requires
 pace-requires c κs = search needs
 
-event-part-requires : tie.Need-event-part-requires
-event-part-requires c κs = holds-settings (c .before .before .before .before .before)
+event-bytes-requires : tie.Need-event-bytes-requires
+event-bytes-requires c κs = holds-settings (c .before .before .before .before .before)
 
 walk-requires : tie.Need-walk-requires
 walk-requires c κs =
@@ -54,7 +54,7 @@ walk-requires c κs =
     let told = counted .before .before in
     let opened = told .before .before .«open» in (
       fit (capture-of told) (opened .result) (opened .ensures) (told .enum-told .given .1)
-          (counted .before .setting-words .ensures) (counted .event-count .ensures) (given .event-part .ensures),
+          (counted .before .setting-words .ensures) (counted .event-count .ensures) (given .event-bytes .ensures),
       record { deadlines = paced .before .start .ensures; paced = paced .pace .ensures },
     )
 
@@ -66,7 +66,7 @@ returns-2 c =
     let opened = told .before .before .«open» in
     rw (c .walk .ensures .0)
     (judged-so (capture-of told) (opened .result) (opened .ensures) (told .enum-told .given .1)
-    (counted .before .setting-words .ensures) (counted .event-count .ensures) (given .event-part .ensures))
+    (counted .before .setting-words .ensures) (counted .event-count .ensures) (given .event-bytes .ensures))
 
 pub judge-spec : {M : Type 1} → statement M
 judge-spec =
@@ -81,6 +81,6 @@ judge-spec =
     start-requires
     array-read-pace
     pace-requires
-    event-part-requires
+    event-bytes-requires
     walk-requires
     returns-2)

@@ -6,13 +6,13 @@ use Rattle.judge.proofs.walk.Statement.{statement}
 use Rattle.judge.proofs.walk.Tie as tie
 
 abbrev Inv-events : tie.InvT-events
-Inv-events s d₀ pace₀ part n i₀ d pace i = Before s part n d pace i
+Inv-events s d₀ pace₀ bytes n i₀ d pace i = Before s bytes n d pace i
 
 abbrev μ-events : tie.MeasureT-events
-μ-events s d₀ pace₀ part n i₀ d pace i = n - i
+μ-events s d₀ pace₀ bytes n i₀ d pace i = n - i
 
 events-holds : tie.Need-events-holds Inv-events μ-events
-events-holds c = begins (c .before .args .s .now) (c .before .args .part .now) (c .before .args .n) (c .before .pre .1)
+events-holds c = begins (c .before .args .s .now) (c .before .args .bytes .now) (c .before .args .n) (c .before .pre .1)
 
 cast-at : tie.Need-cast-at Inv-events μ-events
 cast-at c = omega arith
@@ -43,7 +43,7 @@ events-again c =
     let stepped = c .before .before in
     let test = stepped .before .before .before .before .before in
     let start = test .before .before .before in
-    kept-on (start .args .s .now) (start .args .part .now) (start .args .n) (start .pre .0) (test .before .events .inv) (test .events-test .taken)
+    kept-on (start .args .s .now) (start .args .bytes .now) (start .args .n) (start .pre .0) (test .before .events .inv) (test .events-test .taken)
     (stepped .before .before .before .before .cycle-at .ensures) (stepped .before .before .before .pins-at .ensures)
     (stepped .step .result) (stepped .step .ensures .0) (stepped .step .ensures .1 .0) (stepped .step .ensures .1 .1) (c .enum-told .given .1)
 
@@ -52,14 +52,14 @@ returns c =
     let stepped = c .before .before .before in
     let test = stepped .before .before .before .before .before in
     let start = test .before .before .before in
-    broke-at (start .args .s .now) (start .args .part .now) (start .args .n) (start .pre .0) (test .before .events .inv) (test .events-test .taken)
+    broke-at (start .args .s .now) (start .args .bytes .now) (start .args .n) (start .pre .0) (test .before .events .inv) (test .events-test .taken)
     (stepped .before .before .before .before .cycle-at .ensures) (stepped .before .before .before .pins-at .ensures)
     (stepped .step .result) (stepped .step .ensures .0) (stepped .step .ensures .1 .0) (stepped .step .ensures .1 .1) (c .before .answer .given .1)
 
 returns-2 : tie.Need-returns-2 Inv-events μ-events
 returns-2 c =
     let start = c .before .before .before in
-    ends (start .args .s .now) (start .args .part .now) (start .args .n) (c .before .events .inv) (omega arith)
+    ends (start .args .s .now) (start .args .bytes .now) (start .args .n) (c .before .events .inv) (omega arith)
 
 pub walk-spec : {M : Type 1} → statement M
 walk-spec =

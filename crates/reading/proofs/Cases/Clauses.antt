@@ -7,7 +7,7 @@ use lib.ListN.{set}
 use Rattle.reading.specs.Settings.{settingsOf}
 use Rattle.reading.specs.Capture.{Event}
 use Rattle.reading.specs.Part.{start}
-use Rattle.reading.specs.Rules.{placingRules, rules, brokenBy}
+use Rattle.reading.specs.Rules.{placing, rules, brokenBy}
 use Rattle.reading.specs.Verdict.{Verdict, clean, broken, judgeBy, verdictBy, judgeFrom}
 use Rattle.reading.proofs.Cases.{ACTIVE, READ, WRITE, TERMINATE, PRECHARGE, REFRESH, MODE, NOP, DESELECT, A10, bank, at, usual, four, touches, breaks, saidOf, Line, line, lineUnder, HoldLines}
 
@@ -383,7 +383,7 @@ byLists =
     ∷ by [] (at 0 READ ∷ at 2001 READ ∷ []) clean
     ∷ by (14 ∷ []) (at 0 READ ∷ at 1001 READ ∷ []) (broken 14 1 1001)
     -- placing asks rules 1 to 13
-    ∷ by placingRules (at 1001 NOP ∷ []) clean
+    ∷ by placing (at 1001 NOP ∷ []) clean
     ∷ by rules (at 1001 NOP ∷ []) (broken 14 0 1001)
     ∷ []
 
