@@ -15,16 +15,16 @@ ghost use Rattle.settings.specs.Meaning.{means};
 ghost use Rattle.capture.specs.Meaning.{fitsFrom};
 
 // Where the settings start, and where the events do.
-const SETTINGS: usize = 24;
+pub const SETTINGS: usize = 24;
 
-const EVENTS: usize = SETTINGS + 4 * COUNT;
+pub const EVENTS: usize = SETTINGS + 4 * COUNT;
 
 const MOST_EVENTS: u32 = 8_000;
 
-// Of the shortest and of the longest capture.
-const LEAST: usize = EVENTS;
+// The bytes of the shortest and of the longest capture.
+pub const LEAST: usize = EVENTS;
 
-const MOST: usize = EVENTS + 8 * (MOST_EVENTS as usize);
+pub const MOST: usize = EVENTS + 8 * (MOST_EVENTS as usize);
 
 // Pin words are below this: bits 20-31 are zero.
 const PINS: u32 = 1 << 20;

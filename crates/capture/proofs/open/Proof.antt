@@ -41,7 +41,9 @@ bad-header-requires c κs = omega (arith, long-enough (c .before .before .before
 
 returns-2 : tie.Need-returns-2
 returns-2 c =
-    wrong-header (c .before .before .before .before .before .args .capture .now) (right-length (c .before .before)) (not-true _ (sym (c .before .bad-header .ensures) ∙ c .if2 .taken))
+    let at-there = c .before .before in
+    let start = at-there .before .before .before in
+    wrong-header (start .args .capture .now) (right-length (at-there)) (not-true _ (sym (c .before .bad-header .ensures) ∙ c .if2 .taken))
 
 setting-words-requires : tie.Need-setting-words-requires
 setting-words-requires c κs = long c
