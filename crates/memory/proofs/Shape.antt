@@ -12,7 +12,8 @@ use Rattle.reading.specs.Part.{Part, start, step, partAfter, run}
 use Rattle.reading.specs.Schedule.{planned, requestFits, firstCell, cellColumn, columnPins, activePins, burstPins, refreshPins, send, sendAll, sendRequest, sendRefresh, refreshInTime, served, whenServed, scheduleFrom, scheduleBy}
 use Rattle.reading.proofs.Cuts.{nil}
 use Rattle.memory.specs.Serving.{Sized, EachFits, nil, sent, Shape, nothing, refresh, request}
-use Rattle.memory.proofs.Pins.{command, activeCommand, burstCommand, column-back, column-small, refresh-carried, active-carried, burst-carried}
+use Rattle.pins.proofs.Carried.{command}
+use Rattle.memory.proofs.Pins.{activeCommand, burstCommand, column-back, column-small, refresh-carried, active-carried, burst-carried}
 use Rattle.memory.proofs.Part.{Done, done-on, done-more, active-row}
 
 -- ---- the schedule has the shape, whatever rules it is placed by

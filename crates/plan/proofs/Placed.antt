@@ -20,11 +20,11 @@ use Rattle.bridge.specs.Summary.{Held, laid, summary}
 use Rattle.bridge.proofs.Rules.{does}
 use Rattle.bridge.proofs.Next.{Sound, active-next, read-next, write-next, refresh-next}
 use Rattle.bridge.proofs.Kept.{kept-plain, kept-read, kept-write}
-use Rattle.memory.proofs.Pins.{activeCommand, active-carried, burst-carried, refresh-carried}
+use Rattle.memory.proofs.Pins.{bank-small, activeCommand, active-carried, burst-carried, refresh-carried}
 use Rattle.plan.specs.Soonest.{latest, activeSoonest, readSoonest, writeSoonest, burstSoonest, refreshSoonest}
 use Rattle.plan.specs.Behind.{partOf, deadlinesOf, burstAfter}
 use Rattle.plan.proofs.Ranged.{Ranged}
-use Rattle.plan.proofs.Pins.{bank-small, row-low, active-small, burst-small, refresh-small}
+use Rattle.plan.proofs.Pins.{row-low, active-small, burst-small, refresh-small}
 use Rattle.plan.proofs.Passing.{passed, carried-passes, active-passed, read-passed, write-passed, refresh-passed}
 use Rattle.plan.proofs.Near.{Near, near-active, near-read, near-write, near-refresh, active-most, burst-most, refresh-most}
 use Rattle.plan.proofs.Sending.{later-first, later-second, Goes, goes-free, goes-soonest}
@@ -135,7 +135,7 @@ module _ {s : Settings} (g : Ranged s) {es : List Event} (r : Reached s es) wher
     row = cellRow s (firstCell q)
 
     lb : bank < 4
-    lb = bank-small s g q fits
+    lb = bank-small s (g .sized) q fits
 
     -- ACTIVE, with all banks idle
     module _ (idle : Idle s es) where

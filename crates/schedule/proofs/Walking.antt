@@ -24,7 +24,7 @@ use Rattle.bridge.proofs.Turn.{start-laid}
 use Rattle.requests.specs.Asked.{Asked}
 use Rattle.plan.specs.Behind.{partOf, deadlinesOf}
 use Rattle.plan.proofs.Ranged.{Ranged, ranged}
-use Rattle.plan.proofs.Pins.{bank-small}
+use Rattle.memory.proofs.Pins.{bank-small}
 use Rattle.plan.proofs.Captured.{words-length, settings-fit}
 use Rattle.plan.proofs.Ready.{Ready, start-ready, Served, served-ready, few-requests, requests-fit}
 use Rattle.turns.specs.declared.Placed.{Placed}
@@ -151,7 +151,7 @@ module _ (ws qs w₀ : List ℕ) where
         F = freeFrom 0 (x .es)
 
         lb : cellBank s (firstCell q) < 4
-        lb = bank-small s g q fits
+        lb = bank-small s (g .sized) q fits
 
         abbrev t : Turn
         t = serving (settingsOf ws) k free (getD qs i 0)
