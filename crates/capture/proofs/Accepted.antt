@@ -112,12 +112,15 @@ module _ (capture : List ℕ) where
   unfolding accepted badSetting badEvent eventFits
   accepted-sound h =
       let bits = pinBits capture in
-      let clear = nothing-wrong (given 0 (not (lengthFits capture))) (given 0 (not (headerFits capture))) (badSetting (settingWords capture)) (badEvent bits (eventBytes capture) (eventCount capture)) h in
+      let clear =
+      nothing-wrong (given 0 (not (lengthFits capture))) (given 0 (not (headerFits capture))) (badSetting (settingWords capture))
+      (badEvent bits (eventBytes capture) (eventCount capture)) h in
+      let unfit : ℕ → Bool = λ j. not (settingFits j (getD (settingWords capture) j 0)) in
       let fits : (i : ℕ) → i < eventCount capture → eventFits bits (eventBytes capture) i ≡ true =
       λ i l. not-false _ (none-below (λ j. not (eventFits bits (eventBytes capture) j)) (eventCount capture) (clear .3) i l) in
       record {
         sized = sized (not-false _ (not-given _ (clear .0))) (not-false _ (not-given _ (clear .1)));
-        settings = λ i l. not-false _ (none-below (λ j. not (settingFits j (getD (settingWords capture) j 0))) (length (settingWords capture)) (clear .2) i (omega (arith, words-count)));
+        settings = λ i l. not-false _ (none-below unfit (length (settingWords capture)) (clear .2) i (omega (arith, words-count)));
         events = λ i l. both (ltb (eventAt (eventBytes capture) i .pins) (2 ^ bits)) _ (fits i l) .1;
       }
 
