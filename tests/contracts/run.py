@@ -127,7 +127,8 @@ def wrong(texts, laws):
 
 
 def main():
-    texts, laws = list(sources()), read(LAWS)
+    # A law stands on one line, or on two where it is long.
+    texts, laws = list(sources()), read(LAWS).replace(" →\n    ", " → ")
     found = wrong(texts, laws)
     if "mod Settled" not in read("crates", "demands", "proofs", "Lib.antt").splitlines():
         found.append("the laws are not declared, so nothing checks them")

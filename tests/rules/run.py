@@ -22,7 +22,8 @@ EXAMPLE = re.compile(r"`([^`]*@\d+)` (?:is (clean)|breaks rule (\d+))")
 EVENT = re.compile(r"([A-Z]+(?: [A-Z]+)*)(?: register ([01]{2}))?(?: bank (\d))?(?: row (\d+))?(?: column (\d+))?"
                    r"(?: 0x([0-9a-f]+))?( auto| all)? @(\d+)")
 
-DEFINED = re.compile(r"^(?:abbrev |unfoldable )?pub (?:data |record )?([^\s:]+) ", re.M)
+# At the margin, or in a module, where a line without one of the two words is a field of a record.
+DEFINED = re.compile(r"^(?:(?:abbrev |unfoldable )?pub (?:data |record )?| +(?:abbrev |unfoldable )pub )([^\s:]+) ", re.M)
 CASES = re.compile(r"^\| [^|]* \| (\w+) \| (`[a-z-]+`.*) \|$", re.M)
 
 

@@ -331,7 +331,7 @@ module _ (s : Settings) (p : Part) (from₀ t : ℕ) (l : from₀ ≤ t) (g : So
       bank i =
           let k = p .banks i in
           let idle = idleAt new k in
-          let lastActive = idled idle k (eqb i b && ten) .lastActive in
+          let active = idled idle k (eqb i b && ten) .lastActive in
           auto-bank k (last i active (eqb i b)) new (eqb i b) ten
           ∙ ap (λ (n : ℕ). let y = writtenTill n true (X .banks i) in cond ten (autoShut (new + s .tRP) (eqb i b) y) y)
           (written i active (keeps-active idle k (eqb i b && ten)) (eqb i b))

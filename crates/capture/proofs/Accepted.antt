@@ -6,13 +6,13 @@ use mathlib.Core.Option.{Option, none, some}
 use mathlib.Core.Path.{_≡_, refl, sym, ap, _∙_}
 use native.Mathlib.Decide.{decLt}
 use native.Mathlib.Omega.{arith}
-use borrow.Author.Tests.{eqb-true, leb-true, ltb-true, ltb-false, not-false, ne-eqb}
+use borrow.Author.Tests.{eqb-true, leb-true, ltb-true, not-false, ne-eqb}
 use lib.ListN.{length, getD, length-map}
 use lib.Dec.{leb, ltb, eqb}
 use Rattle.reading.specs.Search.{given, count}
 use Rattle.reading.specs.Words.{wordAt}
 use Rattle.reading.specs.Settings.{settingFits, badSetting}
-use Rattle.reading.specs.Capture.{headerWord, eventCount, settingWords, eventBytes, eventAt, badLength, headerFits, lastCycle, pinBits, cycleFits, eventFits, badEvent}
+use Rattle.reading.specs.Capture.{headerWord, eventCount, settingWords, eventBytes, eventAt, lengthFits, headerFits, lastCycle, pinBits, cycleFits, eventFits, badEvent}
 use Rattle.reading.specs.Answers.{Answer, refused, answered, unless, accepted}
 use Rattle.words.proofs.Search.{none-below}
 
@@ -31,7 +31,7 @@ pub followed : {A : Type 0} (capture : List ℕ) (rest : Answer A) →
     accepted capture rest ≡ follow (accepted capture (answered (tt {0}))) rest
 unfolding accepted
 followed {A} capture rest =
-    let o1 = given 0 (badLength capture) in
+    let o1 = given 0 (not (lengthFits capture)) in
     let o2 = given 0 (not (headerFits capture)) in
     let o3 = badSetting (settingWords capture) in
     let o4 = badEvent (pinBits capture) (eventBytes capture) (eventCount capture) in
@@ -74,10 +74,6 @@ not-given : (b : Bool) → given 0 b ≡ none → b ≡ false
 not-given true h = let z : _≡_ {A = ℕ} 0 1 = cc in absurd (omega arith)
 not-given false h = refl
 
-neither : (a b : Bool) → (a || b) ≡ false → (a ≡ false) × (b ≡ false)
-neither true b h = let z : _≡_ {A = ℕ} 0 1 = cc in absurd (omega arith)
-neither false b h = (refl, h)
-
 pub both : (a b : Bool) → (a && b) ≡ true → (a ≡ true) × (b ≡ true)
 both a b h = and-eq-true-iff a b .0 h
 
@@ -89,22 +85,22 @@ third-and-last a b c d e f h =
     (both (a && b) c (three .0) .1, five .1)
 
 module _ (capture : List ℕ) where
-  lengths : badLength capture ≡ false → (ltb (length capture) 80 || ltb 64080 (length capture) ≡ false) × (not (eqb (headerWord capture 0) (length capture)) ≡ false)
-  unfolding badLength
-  lengths h = neither (ltb (length capture) 80 || ltb 64080 (length capture)) _ h
+  lengths : lengthFits capture ≡ true → (leb 80 (length capture) && leb (length capture) 64080 ≡ true) × (eqb (headerWord capture 0) (length capture) ≡ true)
+  unfolding lengthFits
+  lengths h = both (leb 80 (length capture) && leb (length capture) 64080) _ h
 
-  pub long-enough : badLength capture ≡ false → 80 ≤ length capture
-  long-enough h = ltb-false _ _ (neither (ltb (length capture) 80) _ (lengths h .0) .0)
+  pub long-enough : lengthFits capture ≡ true → 80 ≤ length capture
+  long-enough h = leb-true _ _ (both (leb 80 (length capture)) _ (lengths h .0) .0)
 
   counts : headerFits capture ≡ true → (leb (eventCount capture) 8000 ≡ true) × (eqb (headerWord capture 0) (80 + 8 * eventCount capture) ≡ true)
   unfolding headerFits
   counts h =
       third-and-last (eqb (headerWord capture 1) 14) (eqb (headerWord capture 2) 24) _ (eqb (headerWord capture 4) 80) (eqb (headerWord capture 5) 0) _ h
 
-  pub sized : badLength capture ≡ false → headerFits capture ≡ true → Sized capture
+  pub sized : lengthFits capture ≡ true → headerFits capture ≡ true → Sized capture
   sized l h =
       record {
-        size = sym (eqb-true _ _ (not-false _ (lengths l .1))) ∙ eqb-true _ _ (counts h .1);
+        size = sym (eqb-true _ _ (lengths l .1)) ∙ eqb-true _ _ (counts h .1);
         few = leb-true _ _ (counts h .0);
       }
 
@@ -116,12 +112,15 @@ module _ (capture : List ℕ) where
   unfolding accepted badSetting badEvent eventFits
   accepted-sound h =
       let bits = pinBits capture in
-      let clear = nothing-wrong (given 0 (badLength capture)) (given 0 (not (headerFits capture))) (badSetting (settingWords capture)) (badEvent bits (eventBytes capture) (eventCount capture)) h in
+      let clear =
+      nothing-wrong (given 0 (not (lengthFits capture))) (given 0 (not (headerFits capture))) (badSetting (settingWords capture))
+      (badEvent bits (eventBytes capture) (eventCount capture)) h in
+      let unfit : ℕ → Bool = λ j. not (settingFits j (getD (settingWords capture) j 0)) in
       let fits : (i : ℕ) → i < eventCount capture → eventFits bits (eventBytes capture) i ≡ true =
       λ i l. not-false _ (none-below (λ j. not (eventFits bits (eventBytes capture) j)) (eventCount capture) (clear .3) i l) in
       record {
-        sized = sized (not-given _ (clear .0)) (not-false _ (not-given _ (clear .1)));
-        settings = λ i l. not-false _ (none-below (λ j. not (settingFits j (getD (settingWords capture) j 0))) (length (settingWords capture)) (clear .2) i (omega (arith, words-count)));
+        sized = sized (not-false _ (not-given _ (clear .0))) (not-false _ (not-given _ (clear .1)));
+        settings = λ i l. not-false _ (none-below unfit (length (settingWords capture)) (clear .2) i (omega (arith, words-count)));
         events = λ i l. both (ltb (eventAt (eventBytes capture) i .pins) (2 ^ bits)) _ (fits i l) .1;
       }
 

@@ -7,7 +7,7 @@ use native.Mathlib.Omega.{arith}
 use lib.ListN.{length, take, drop, length-drop}
 use lib.Seq.{take-all}
 use Rattle.reading.specs.Settings.{badSetting}
-use Rattle.reading.specs.Capture.{eventCount, settingWords, eventBytes, badLength, headerFits, badEvent}
+use Rattle.reading.specs.Capture.{eventCount, settingWords, eventBytes, lengthFits, headerFits, badEvent}
 use Rattle.reading.specs.Answers.{refused, answered, unless, accepted}
 use Rattle.words.specs.Found.{placeOf}
 use Rattle.words.specs.declared.Found.{Found}
@@ -15,19 +15,19 @@ use Rattle.words.specs.declared.Found.the-variants.{Nothing, At}
 use Rattle.capture.proofs.Accepted.{Sized}
 
 module _ (capture : List ℕ) where
-  -- the part from byte 80 on, as a slice has it
-  pub part-is : take (length capture - 80) (drop 80 capture) ≡ eventBytes capture
-  part-is = take-all (length capture - 80) (drop 80 capture) (omega (arith, length-drop 80 capture))
+  -- the bytes from 80 on, as a slice has them
+  pub bytes-are : take (length capture - 80) (drop 80 capture) ≡ eventBytes capture
+  bytes-are = take-all (length capture - 80) (drop 80 capture) (omega (arith, length-drop 80 capture))
 
   pub events-within : Sized capture → {n : ℕ} → n ≡ eventCount capture →
       (n ≤ 8000) × (8 * n ≤ length (eventBytes capture))
   events-within s {n} e = (omega (arith, s .few), omega (arith, s .size, length-drop 80 capture))
 
-  pub wrong-length : badLength capture ≡ true → refused 1 0 ≡ accepted capture (answered (tt {0}))
+  pub wrong-length : lengthFits capture ≡ false → refused 1 0 ≡ accepted capture (answered (tt {0}))
   unfolding accepted
   wrong-length h = rw h
 
-  module _ (right-length : badLength capture ≡ false) where
+  module _ (right-length : lengthFits capture ≡ true) where
     pub wrong-header : headerFits capture ≡ false → refused 2 0 ≡ accepted capture (answered (tt {0}))
     unfolding accepted
     wrong-header h = rw (right-length, h)

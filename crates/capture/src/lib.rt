@@ -9,22 +9,22 @@ ghost use mathlib.Core.Option.{none};
 ghost use Prim.Native.Nat.{_+_, _*_, _≤_};
 ghost use lib.ListN.{length};
 ghost use Rattle.words.specs.Found.{placeOf};
-ghost use Rattle.reading.specs.Capture.{eventCount, settingWords, eventBytes, eventAt, badLength, headerFits, badEvent};
+ghost use Rattle.reading.specs.Capture.{eventCount, settingWords, eventBytes, eventAt, lengthFits, headerFits, badEvent};
 ghost use Rattle.reading.specs.Answers.{answered, accepted};
 ghost use Rattle.settings.specs.Meaning.{means};
 ghost use Rattle.capture.specs.Meaning.{fitsFrom};
 
 // Where the settings start, and where the events do.
-const SETTINGS: usize = 24;
+pub const SETTINGS: usize = 24;
 
-const EVENTS: usize = SETTINGS + 4 * COUNT;
+pub const EVENTS: usize = SETTINGS + 4 * COUNT;
 
 const MOST_EVENTS: u32 = 8_000;
 
-// Of the shortest and of the longest capture.
-const LEAST: usize = EVENTS;
+// The bytes of the shortest and of the longest capture.
+pub const LEAST: usize = EVENTS;
 
-const MOST: usize = EVENTS + 8 * (MOST_EVENTS as usize);
+pub const MOST: usize = EVENTS + 8 * (MOST_EVENTS as usize);
 
 // Pin words are below this: bits 20-31 are zero.
 const PINS: u32 = 1 << 20;
@@ -32,7 +32,7 @@ const PINS: u32 = 1 << 20;
 const LAST_CYCLE: u32 = 2_000_000_000;
 
 fn bad_length(capture: &[u8]) -> bool
-    ensures { λ r. ⌜ r ≡ badLength (now (capture .entry)) ⌝ }
+    ensures { λ r. ⌜ r ≡ not (lengthFits (now (capture .entry))) ⌝ }
 {
     let size = capture.len();
     if size < LEAST {
@@ -87,7 +87,7 @@ pub fn setting_words(capture: &[u8]) -> Settings
     loaded
 }
 
-// The part of the capture that starts where the events do, where event i stands at byte 8 i.
+// The bytes from where the events start; event i stands at 8 i in them.
 pub fn event_bytes(capture: &[u8]) -> &[u8]
     requires { ⌜ 80 ≤ length (now capture) ⌝ }
     ensures { λ r. ⌜ now r ≡ eventBytes (now (capture .entry)) ⌝ }
@@ -95,7 +95,7 @@ pub fn event_bytes(capture: &[u8]) -> &[u8]
     &capture[EVENTS..]
 }
 
-// The cycle of event i in that part.
+// The cycle of event i in those bytes.
 pub fn cycle_at(bytes: &[u8], i: usize) -> u32
     requires { ⌜ 8 * i + 8 ≤ length (now bytes) ⌝ }
     ensures { λ r. ⌜ r ≡ eventAt (now (bytes .entry)) i .cycle ⌝ }

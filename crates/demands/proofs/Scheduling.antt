@@ -12,6 +12,7 @@ use borrow.Author.Tests.{eqb-true, not-false}
 use Rattle.reading.specs.Search.{given}
 use Rattle.reading.specs.Settings.{settingsOf, badSetting}
 use Rattle.reading.specs.Capture.{Event, eventCount, eventsOf}
+use Rattle.reading.specs.Rules.{placing}
 use Rattle.reading.specs.Schedule.{Schedule, planned, late, badRequest, scheduleOf, captureOf}
 use Rattle.reading.specs.Memory.{Run, replay, plain}
 use Rattle.reading.specs.Answers.{Answer, refused, answered, unless, leaves, fitting, whenPlanned, settingsIn, judgeAnswer, scheduleOutcome}
@@ -87,7 +88,7 @@ module _ (ws qs out : List ℕ) (n : ℕ) (e : scheduleOutcome ws qs out .answer
   outcome-memory : (r : Run) → replay (settingsIn capture) (eventsOf capture) r ≡ plain (settingsOf ws) qs r
   outcome-memory r =
       rw (written .bytes, settings-back ws es l (written .settings) few (y .rises) (y .early), events-back ws es l (written .settings) few (y .rises) (y .early))
-      (schedule-is-plain (settingsOf ws) (ranged ws (settings-fit ws (written .fourteen) (written .settings)) .sized) qs es
+      (schedule-is-plain (settingsOf ws) placing (ranged ws (settings-fit ws (written .fourteen) (written .settings)) .sized) qs es
       (requests-fit (settingsOf ws) qs (written .requests)) (written .schedule) r)
     where
       es : List Event

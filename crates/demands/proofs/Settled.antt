@@ -83,15 +83,18 @@ use Rattle.pins.proofs.ten.Reads as pins-ten
 pub words-word-at-settles : (κs : _) (a : _) (z z′ : _) (e e′ : _) → words-word-at.Post κs a z e → words-word-at.Post κs a z′ e′ → z ≡ z′
 words-word-at-settles κs a z z′ e e′ p q = p ∙ sym q
 
-pub words-put-word-settles : (κs : _) (a : _) (z z′ : _) (e e′ : _) → words-put-word.Post κs a z e → words-put-word.Post κs a z′ e′ → now (e .0) ≡ now (e′ .0)
+pub words-put-word-settles : (κs : _) (a : _) (z z′ : _) (e e′ : _) → words-put-word.Post κs a z e → words-put-word.Post κs a z′ e′ →
+    now (e .0) ≡ now (e′ .0)
 words-put-word-settles κs a z z′ e e′ p q = p ∙ sym q
 
 -- ---- settings
 
-pub settings-mode-word-settles : (κs : _) (a : _) (z z′ : _) (e e′ : _) → settings-mode-word.Post κs a z e → settings-mode-word.Post κs a z′ e′ → z ≡ z′
+pub settings-mode-word-settles : (κs : _) (a : _) (z z′ : _) (e e′ : _) → settings-mode-word.Post κs a z e → settings-mode-word.Post κs a z′ e′ →
+    z ≡ z′
 settings-mode-word-settles κs a z z′ e e′ p q = p ∙ sym q
 
-pub settings-lowest-bad-settles : (κs : _) (a : _) (z z′ : _) (e e′ : _) → settings-lowest-bad.Post κs a z e → settings-lowest-bad.Post κs a z′ e′ → z ≡ z′
+pub settings-lowest-bad-settles : (κs : _) (a : _) (z z′ : _) (e e′ : _) → settings-lowest-bad.Post κs a z e → settings-lowest-bad.Post κs a z′ e′ →
+    z ≡ z′
 settings-lowest-bad-settles κs a z z′ e e′ p q = finding.found-one z z′ (p ∙ sym q)
 
 pub settings-check-settles : (κs : _) (a : _) (z z′ : _) (e e′ : _) → settings-check.Post κs a z e → settings-check.Post κs a z′ e′ → z ≡ z′
@@ -99,10 +102,12 @@ settings-check-settles κs a z z′ e e′ p q = settings.one-answer z z′ (p �
 
 -- ---- capture
 
-pub capture-event-count-settles : (κs : _) (a : _) (z z′ : _) (e e′ : _) → capture-event-count.Post κs a z e → capture-event-count.Post κs a z′ e′ → z ≡ z′
+pub capture-event-count-settles : (κs : _) (a : _) (z z′ : _) (e e′ : _) → capture-event-count.Post κs a z e → capture-event-count.Post κs a z′ e′ →
+    z ≡ z′
 capture-event-count-settles κs a z z′ e e′ p q = p ∙ sym q
 
-pub capture-setting-words-settles : (κs : _) (a : _) (z z′ : _) (e e′ : _) → capture-setting-words.Post κs a z e → capture-setting-words.Post κs a z′ e′ → z ≡ z′
+pub capture-setting-words-settles : (κs : _) (a : _) (z z′ : _) (e e′ : _) → capture-setting-words.Post κs a z e → capture-setting-words.Post κs a z′ e′ →
+    z ≡ z′
 capture-setting-words-settles κs a z z′ e e′ p q = p ∙ sym q
 
 pub capture-cycle-at-settles : (κs : _) (a : _) (z z′ : _) (e e′ : _) → capture-cycle-at.Post κs a z e → capture-cycle-at.Post κs a z′ e′ → z ≡ z′
@@ -114,45 +119,58 @@ capture-pins-at-settles κs a z z′ e e′ p q = p ∙ sym q
 pub capture-open-settles : (κs : _) (a : _) (z z′ : _) (e e′ : _) → capture-open.Post κs a z e → capture-open.Post κs a z′ e′ → z ≡ z′
 capture-open-settles κs a z z′ e e′ p q = settings.one-answer z z′ (p ∙ sym q)
 
-pub capture-event-bytes-settles : (κs : _) (a : _) (z z′ : _) (e e′ : _) → capture-event-bytes.Post κs a z e → capture-event-bytes.Post κs a z′ e′ → now z ≡ now z′
+pub capture-event-bytes-settles : (κs : _) (a : _) (z z′ : _) (e e′ : _) → capture-event-bytes.Post κs a z e → capture-event-bytes.Post κs a z′ e′ →
+    now z ≡ now z′
 capture-event-bytes-settles κs a z z′ e e′ p q = p ∙ sym q
 
 -- ---- deadlines
 
-pub deadlines-sums-past-settles : (κs : _) (a : _) (z z′ : _) (e e′ : _) → deadlines-sums-past.Post κs a z e → deadlines-sums-past.Post κs a z′ e′ → z ≡ z′
+pub deadlines-sums-past-settles : (κs : _) (a : _) (z z′ : _) (e e′ : _) → deadlines-sums-past.Post κs a z e → deadlines-sums-past.Post κs a z′ e′ →
+    z ≡ z′
 deadlines-sums-past-settles κs a z z′ e e′ p q = p ∙ sym q
 
-pub deadlines-sums-after-settles : (κs : _) (a : _) (z z′ : _) (e e′ : _) → deadlines-sums-after.Post κs a z e → deadlines-sums-after.Post κs a z′ e′ → z ≡ z′
+pub deadlines-sums-after-settles : (κs : _) (a : _) (z z′ : _) (e e′ : _) → deadlines-sums-after.Post κs a z e → deadlines-sums-after.Post κs a z′ e′ →
+    z ≡ z′
 deadlines-sums-after-settles κs a z z′ e e′ p q = p ∙ sym q
 
-pub deadlines-sums-after2-settles : (κs : _) (a : _) (z z′ : _) (e e′ : _) → deadlines-sums-after2.Post κs a z e → deadlines-sums-after2.Post κs a z′ e′ → z ≡ z′
+pub deadlines-sums-after2-settles : (κs : _) (a : _) (z z′ : _) (e e′ : _) → deadlines-sums-after2.Post κs a z e → deadlines-sums-after2.Post κs a z′ e′ →
+    z ≡ z′
 deadlines-sums-after2-settles κs a z z′ e e′ p q = p ∙ sym q
 
-pub deadlines-sums-data-after-settles : (κs : _) (a : _) (z z′ : _) (e e′ : _) → deadlines-sums-data-after.Post κs a z e → deadlines-sums-data-after.Post κs a z′ e′ → z ≡ z′
+pub deadlines-sums-data-after-settles : (κs : _) (a : _) (z z′ : _) (e e′ : _) → deadlines-sums-data-after.Post κs a z e → deadlines-sums-data-after.Post κs a z′ e′ →
+    z ≡ z′
 deadlines-sums-data-after-settles κs a z z′ e e′ p q = p ∙ sym q
 
-pub deadlines-sums-data-after2-settles : (κs : _) (a : _) (z z′ : _) (e e′ : _) → deadlines-sums-data-after2.Post κs a z e → deadlines-sums-data-after2.Post κs a z′ e′ → z ≡ z′
+pub deadlines-sums-data-after2-settles : (κs : _) (a : _) (z z′ : _) (e e′ : _) → deadlines-sums-data-after2.Post κs a z e → deadlines-sums-data-after2.Post κs a z′ e′ →
+    z ≡ z′
 deadlines-sums-data-after2-settles κs a z z′ e e′ p q = p ∙ sym q
 
-pub deadlines-sums-least-settles : (κs : _) (a : _) (z z′ : _) (e e′ : _) → deadlines-sums-least.Post κs a z e → deadlines-sums-least.Post κs a z′ e′ → z ≡ z′
+pub deadlines-sums-least-settles : (κs : _) (a : _) (z z′ : _) (e e′ : _) → deadlines-sums-least.Post κs a z e → deadlines-sums-least.Post κs a z′ e′ →
+    z ≡ z′
 deadlines-sums-least-settles κs a z z′ e e′ p q = p ∙ sym q
 
-pub deadlines-sums-latest-settles : (κs : _) (a : _) (z z′ : _) (e e′ : _) → deadlines-sums-latest.Post κs a z e → deadlines-sums-latest.Post κs a z′ e′ → z ≡ z′
+pub deadlines-sums-latest-settles : (κs : _) (a : _) (z z′ : _) (e e′ : _) → deadlines-sums-latest.Post κs a z e → deadlines-sums-latest.Post κs a z′ e′ →
+    z ≡ z′
 deadlines-sums-latest-settles κs a z z′ e e′ p q = p ∙ sym q
 
-pub deadlines-sums-pick-settles : (κs : _) (a : _) (z z′ : _) (e e′ : _) → deadlines-sums-pick.Post κs a z e → deadlines-sums-pick.Post κs a z′ e′ → z ≡ z′
+pub deadlines-sums-pick-settles : (κs : _) (a : _) (z z′ : _) (e e′ : _) → deadlines-sums-pick.Post κs a z e → deadlines-sums-pick.Post κs a z′ e′ →
+    z ≡ z′
 deadlines-sums-pick-settles κs a z z′ e e′ p q = p ∙ sym q
 
-pub deadlines-sums-pace-settles : (κs : _) (a : _) (z z′ : _) (e e′ : _) → deadlines-sums-pace.Post κs a z e → deadlines-sums-pace.Post κs a z′ e′ → z ≡ z′
+pub deadlines-sums-pace-settles : (κs : _) (a : _) (z z′ : _) (e e′ : _) → deadlines-sums-pace.Post κs a z e → deadlines-sums-pace.Post κs a z′ e′ →
+    z ≡ z′
 deadlines-sums-pace-settles κs a z z′ e e′ p q = p ∙ sym q
 
-pub deadlines-sums-rows-settles : (κs : _) (a : _) (z z′ : _) (e e′ : _) → deadlines-sums-rows.Post κs a z e → deadlines-sums-rows.Post κs a z′ e′ → z ≡ z′
+pub deadlines-sums-rows-settles : (κs : _) (a : _) (z z′ : _) (e e′ : _) → deadlines-sums-rows.Post κs a z e → deadlines-sums-rows.Post κs a z′ e′ →
+    z ≡ z′
 deadlines-sums-rows-settles κs a z z′ e e′ p q = p ∙ sym q
 
-pub deadlines-clock-due-at-start-settles : (κs : _) (a : _) (z z′ : _) (e e′ : _) → deadlines-clock-due-at-start.Post κs a z e → deadlines-clock-due-at-start.Post κs a z′ e′ → z ≡ z′
+pub deadlines-clock-due-at-start-settles : (κs : _) (a : _) (z z′ : _) (e e′ : _) → deadlines-clock-due-at-start.Post κs a z e → deadlines-clock-due-at-start.Post κs a z′ e′ →
+    z ≡ z′
 deadlines-clock-due-at-start-settles κs a z z′ e e′ p q = p ∙ sym q
 
-pub deadlines-clock-due-after-refresh-settles : (κs : _) (a : _) (z z′ : _) (e e′ : _) → deadlines-clock-due-after-refresh.Post κs a z e → deadlines-clock-due-after-refresh.Post κs a z′ e′ → z ≡ z′
+pub deadlines-clock-due-after-refresh-settles : (κs : _) (a : _) (z z′ : _) (e e′ : _) → deadlines-clock-due-after-refresh.Post κs a z e → deadlines-clock-due-after-refresh.Post κs a z′ e′ →
+    z ≡ z′
 deadlines-clock-due-after-refresh-settles κs a z z′ e e′ p q = p ∙ sym q
 
 -- ---- pins
@@ -174,25 +192,31 @@ pins-ten-settles κs a z z′ e e′ p q = p ∙ sym q
 pub rules-due-breaks-settles : (κs : _) (a : _) (z z′ : _) (e e′ : _) → rules-due-breaks.Post κs a z e → rules-due-breaks.Post κs a z′ e′ → z ≡ z′
 rules-due-breaks-settles κs a z z′ e e′ p q = p ∙ sym q
 
-pub rules-active-breaks-settles : (κs : _) (a : _) (z z′ : _) (e e′ : _) → rules-active-breaks.Post κs a z e → rules-active-breaks.Post κs a z′ e′ → z ≡ z′
+pub rules-active-breaks-settles : (κs : _) (a : _) (z z′ : _) (e e′ : _) → rules-active-breaks.Post κs a z e → rules-active-breaks.Post κs a z′ e′ →
+    z ≡ z′
 rules-active-breaks-settles κs a z z′ e e′ p q = p ∙ sym q
 
 pub rules-read-breaks-settles : (κs : _) (a : _) (z z′ : _) (e e′ : _) → rules-read-breaks.Post κs a z e → rules-read-breaks.Post κs a z′ e′ → z ≡ z′
 rules-read-breaks-settles κs a z z′ e e′ p q = p ∙ sym q
 
-pub rules-write-breaks-settles : (κs : _) (a : _) (z z′ : _) (e e′ : _) → rules-write-breaks.Post κs a z e → rules-write-breaks.Post κs a z′ e′ → z ≡ z′
+pub rules-write-breaks-settles : (κs : _) (a : _) (z z′ : _) (e e′ : _) → rules-write-breaks.Post κs a z e → rules-write-breaks.Post κs a z′ e′ →
+    z ≡ z′
 rules-write-breaks-settles κs a z z′ e e′ p q = p ∙ sym q
 
-pub rules-terminate-breaks-settles : (κs : _) (a : _) (z z′ : _) (e e′ : _) → rules-terminate-breaks.Post κs a z e → rules-terminate-breaks.Post κs a z′ e′ → z ≡ z′
+pub rules-terminate-breaks-settles : (κs : _) (a : _) (z z′ : _) (e e′ : _) → rules-terminate-breaks.Post κs a z e → rules-terminate-breaks.Post κs a z′ e′ →
+    z ≡ z′
 rules-terminate-breaks-settles κs a z z′ e e′ p q = p ∙ sym q
 
-pub rules-close-breaks-settles : (κs : _) (a : _) (z z′ : _) (e e′ : _) → rules-close-breaks.Post κs a z e → rules-close-breaks.Post κs a z′ e′ → z ≡ z′
+pub rules-close-breaks-settles : (κs : _) (a : _) (z z′ : _) (e e′ : _) → rules-close-breaks.Post κs a z e → rules-close-breaks.Post κs a z′ e′ →
+    z ≡ z′
 rules-close-breaks-settles κs a z z′ e e′ p q = p ∙ sym q
 
-pub rules-close-all-breaks-settles : (κs : _) (a : _) (z z′ : _) (e e′ : _) → rules-close-all-breaks.Post κs a z e → rules-close-all-breaks.Post κs a z′ e′ → z ≡ z′
+pub rules-close-all-breaks-settles : (κs : _) (a : _) (z z′ : _) (e e′ : _) → rules-close-all-breaks.Post κs a z e → rules-close-all-breaks.Post κs a z′ e′ →
+    z ≡ z′
 rules-close-all-breaks-settles κs a z z′ e e′ p q = p ∙ sym q
 
-pub rules-refresh-breaks-settles : (κs : _) (a : _) (z z′ : _) (e e′ : _) → rules-refresh-breaks.Post κs a z e → rules-refresh-breaks.Post κs a z′ e′ → z ≡ z′
+pub rules-refresh-breaks-settles : (κs : _) (a : _) (z z′ : _) (e e′ : _) → rules-refresh-breaks.Post κs a z e → rules-refresh-breaks.Post κs a z′ e′ →
+    z ≡ z′
 rules-refresh-breaks-settles κs a z z′ e e′ p q = p ∙ sym q
 
 pub rules-mode-breaks-settles : (κs : _) (a : _) (z z′ : _) (e e′ : _) → rules-mode-breaks.Post κs a z e → rules-mode-breaks.Post κs a z′ e′ → z ≡ z′
@@ -200,28 +224,36 @@ rules-mode-breaks-settles κs a z z′ e e′ p q = p ∙ sym q
 
 -- ---- effects
 
-pub effects-active-after-settles : (κs : _) (a : _) (z z′ : _) (e e′ : _) → effects-active-after.Post κs a z e → effects-active-after.Post κs a z′ e′ → now (e .1 .0) ≡ now (e′ .1 .0)
+pub effects-active-after-settles : (κs : _) (a : _) (z z′ : _) (e e′ : _) → effects-active-after.Post κs a z e → effects-active-after.Post κs a z′ e′ →
+    now (e .1 .0) ≡ now (e′ .1 .0)
 effects-active-after-settles κs a z z′ e e′ p q = p ∙ sym q
 
-pub effects-read-after-settles : (κs : _) (a : _) (z z′ : _) (e e′ : _) → effects-read-after.Post κs a z e → effects-read-after.Post κs a z′ e′ → now (e .1 .0) ≡ now (e′ .1 .0)
+pub effects-read-after-settles : (κs : _) (a : _) (z z′ : _) (e e′ : _) → effects-read-after.Post κs a z e → effects-read-after.Post κs a z′ e′ →
+    now (e .1 .0) ≡ now (e′ .1 .0)
 effects-read-after-settles κs a z z′ e e′ p q = p ∙ sym q
 
-pub effects-write-after-settles : (κs : _) (a : _) (z z′ : _) (e e′ : _) → effects-write-after.Post κs a z e → effects-write-after.Post κs a z′ e′ → now (e .1 .0) ≡ now (e′ .1 .0)
+pub effects-write-after-settles : (κs : _) (a : _) (z z′ : _) (e e′ : _) → effects-write-after.Post κs a z e → effects-write-after.Post κs a z′ e′ →
+    now (e .1 .0) ≡ now (e′ .1 .0)
 effects-write-after-settles κs a z z′ e e′ p q = p ∙ sym q
 
-pub effects-cut-read-settles : (κs : _) (a : _) (z z′ : _) (e e′ : _) → effects-cut-read.Post κs a z e → effects-cut-read.Post κs a z′ e′ → now (e .0) ≡ now (e′ .0)
+pub effects-cut-read-settles : (κs : _) (a : _) (z z′ : _) (e e′ : _) → effects-cut-read.Post κs a z e → effects-cut-read.Post κs a z′ e′ →
+    now (e .0) ≡ now (e′ .0)
 effects-cut-read-settles κs a z z′ e e′ p q = p ∙ sym q
 
-pub effects-close-after-settles : (κs : _) (a : _) (z z′ : _) (e e′ : _) → effects-close-after.Post κs a z e → effects-close-after.Post κs a z′ e′ → now (e .1 .0) ≡ now (e′ .1 .0)
+pub effects-close-after-settles : (κs : _) (a : _) (z z′ : _) (e e′ : _) → effects-close-after.Post κs a z e → effects-close-after.Post κs a z′ e′ →
+    now (e .1 .0) ≡ now (e′ .1 .0)
 effects-close-after-settles κs a z z′ e e′ p q = p ∙ sym q
 
-pub effects-close-all-after-settles : (κs : _) (a : _) (z z′ : _) (e e′ : _) → effects-close-all-after.Post κs a z e → effects-close-all-after.Post κs a z′ e′ → now (e .1 .0) ≡ now (e′ .1 .0)
+pub effects-close-all-after-settles : (κs : _) (a : _) (z z′ : _) (e e′ : _) → effects-close-all-after.Post κs a z e → effects-close-all-after.Post κs a z′ e′ →
+    now (e .1 .0) ≡ now (e′ .1 .0)
 effects-close-all-after-settles κs a z z′ e e′ p q = p ∙ sym q
 
-pub effects-refresh-after-settles : (κs : _) (a : _) (z z′ : _) (e e′ : _) → effects-refresh-after.Post κs a z e → effects-refresh-after.Post κs a z′ e′ → now (e .1 .0) ≡ now (e′ .1 .0)
+pub effects-refresh-after-settles : (κs : _) (a : _) (z z′ : _) (e e′ : _) → effects-refresh-after.Post κs a z e → effects-refresh-after.Post κs a z′ e′ →
+    now (e .1 .0) ≡ now (e′ .1 .0)
 effects-refresh-after-settles κs a z z′ e e′ p q = p ∙ sym q
 
-pub effects-mode-set-after-settles : (κs : _) (a : _) (z z′ : _) (e e′ : _) → effects-mode-set-after.Post κs a z e → effects-mode-set-after.Post κs a z′ e′ → now (e .1 .0) ≡ now (e′ .1 .0)
+pub effects-mode-set-after-settles : (κs : _) (a : _) (z z′ : _) (e e′ : _) → effects-mode-set-after.Post κs a z e → effects-mode-set-after.Post κs a z′ e′ →
+    now (e .1 .0) ≡ now (e′ .1 .0)
 effects-mode-set-after-settles κs a z z′ e e′ p q = p ∙ sym q
 
 pub effects-start-settles : (κs : _) (a : _) (z z′ : _) (e e′ : _) → effects-start.Post κs a z e → effects-start.Post κs a z′ e′ → z ≡ z′
@@ -229,12 +261,14 @@ effects-start-settles κs a z z′ e e′ p q = p ∙ sym q
 
 -- ---- part
 
-pub part-step-settles : (κs : _) (a : _) (z z′ : _) (e e′ : _) → part-step.Post κs a z e → part-step.Post κs a z′ e′ → (z ≡ z′) × ((now (e .1 .0) ≡ now (e′ .1 .0)) × (now (e .1 .1 .0) ≡ now (e′ .1 .1 .0)))
+pub part-step-settles : (κs : _) (a : _) (z z′ : _) (e e′ : _) → part-step.Post κs a z e → part-step.Post κs a z′ e′ →
+    (z ≡ z′) × ((now (e .1 .0) ≡ now (e′ .1 .0)) × (now (e .1 .1 .0) ≡ now (e′ .1 .1 .0)))
 part-step-settles κs a z z′ e e′ p q = (part.one-answer z z′ (p .0 ∙ sym (q .0)), (p .1 .0 ∙ sym (q .1 .0), p .1 .1 ∙ sym (q .1 .1)))
 
 -- ---- judge
 
-pub judge-walk-settles : (κs : _) (a : _) (z z′ : _) (e e′ : _) → judge-walk.Post κs a z e → judge-walk.Post κs a z′ e′ → (z ≡ z′) × ((now (e .1 .0) ≡ now (e′ .1 .0)) × (now (e .1 .1 .0) ≡ now (e′ .1 .1 .0)))
+pub judge-walk-settles : (κs : _) (a : _) (z z′ : _) (e e′ : _) → judge-walk.Post κs a z e → judge-walk.Post κs a z′ e′ →
+    (z ≡ z′) × ((now (e .1 .0) ≡ now (e′ .1 .0)) × (now (e .1 .1 .0) ≡ now (e′ .1 .1 .0)))
 judge-walk-settles κs a z z′ e e′ p q = (p .0 ∙ sym (q .0), (p .1 .0 ∙ sym (q .1 .0), p .1 .1 ∙ sym (q .1 .1)))
 
 pub judge-judge-settles : (κs : _) (a : _) (z z′ : _) (e e′ : _) → judge-judge.Post κs a z e → judge-judge.Post κs a z′ e′ → z ≡ z′
@@ -242,19 +276,23 @@ judge-judge-settles κs a z z′ e e′ p q = judging.one-answer (now (a .0)) z 
 
 -- ---- requests
 
-pub requests-asks-write-settles : (κs : _) (a : _) (z z′ : _) (e e′ : _) → requests-asks-write.Post κs a z e → requests-asks-write.Post κs a z′ e′ → z ≡ z′
+pub requests-asks-write-settles : (κs : _) (a : _) (z z′ : _) (e e′ : _) → requests-asks-write.Post κs a z e → requests-asks-write.Post κs a z′ e′ →
+    z ≡ z′
 requests-asks-write-settles κs a z z′ e e′ p q = p ∙ sym q
 
 pub requests-bank-settles : (κs : _) (a : _) (z z′ : _) (e e′ : _) → requests-bank.Post κs a z e → requests-bank.Post κs a z′ e′ → z ≡ z′
 requests-bank-settles κs a z z′ e e′ p q = p ∙ sym q
 
-pub requests-active-pins-settles : (κs : _) (a : _) (z z′ : _) (e e′ : _) → requests-active-pins.Post κs a z e → requests-active-pins.Post κs a z′ e′ → z ≡ z′
+pub requests-active-pins-settles : (κs : _) (a : _) (z z′ : _) (e e′ : _) → requests-active-pins.Post κs a z e → requests-active-pins.Post κs a z′ e′ →
+    z ≡ z′
 requests-active-pins-settles κs a z z′ e e′ p q = p ∙ sym q
 
-pub requests-burst-pins-settles : (κs : _) (a : _) (z z′ : _) (e e′ : _) → requests-burst-pins.Post κs a z e → requests-burst-pins.Post κs a z′ e′ → z ≡ z′
+pub requests-burst-pins-settles : (κs : _) (a : _) (z z′ : _) (e e′ : _) → requests-burst-pins.Post κs a z e → requests-burst-pins.Post κs a z′ e′ →
+    z ≡ z′
 requests-burst-pins-settles κs a z z′ e e′ p q = p ∙ sym q
 
-pub requests-lowest-bad-settles : (κs : _) (a : _) (z z′ : _) (e e′ : _) → requests-lowest-bad.Post κs a z e → requests-lowest-bad.Post κs a z′ e′ → z ≡ z′
+pub requests-lowest-bad-settles : (κs : _) (a : _) (z z′ : _) (e e′ : _) → requests-lowest-bad.Post κs a z e → requests-lowest-bad.Post κs a z′ e′ →
+    z ≡ z′
 requests-lowest-bad-settles κs a z z′ e e′ p q = finding.found-one z z′ (p ∙ sym q)
 
 -- ---- turns
@@ -262,12 +300,14 @@ requests-lowest-bad-settles κs a z z′ e e′ p q = finding.found-one z z′ (
 pub turns-start-settles : (κs : _) (a : _) (z z′ : _) (e e′ : _) → turns-start.Post κs a z e → turns-start.Post κs a z′ e′ → z ≡ z′
 turns-start-settles κs a z z′ e e′ p q = p ∙ sym q
 
-pub turns-serve-settles : (κs : _) (a : _) (z z′ : _) (e e′ : _) → turns-serve.Post κs a z e → turns-serve.Post κs a z′ e′ → (z ≡ z′) × (now (e .1 .0) ≡ now (e′ .1 .0))
+pub turns-serve-settles : (κs : _) (a : _) (z z′ : _) (e e′ : _) → turns-serve.Post κs a z e → turns-serve.Post κs a z′ e′ →
+    (z ≡ z′) × (now (e .1 .0) ≡ now (e′ .1 .0))
 turns-serve-settles κs a z z′ e e′ p q = (p .0 ∙ sym (q .0), p .1 ∙ sym (q .1))
 
 -- ---- schedule
 
-pub schedule-schedule-settles : (κs : _) (a : _) (z z′ : _) (e e′ : _) → schedule-schedule.Post κs a z e → schedule-schedule.Post κs a z′ e′ → (z ≡ z′) × (now (e .1 .1 .0) ≡ now (e′ .1 .1 .0))
+pub schedule-schedule-settles : (κs : _) (a : _) (z z′ : _) (e e′ : _) → schedule-schedule.Post κs a z e → schedule-schedule.Post κs a z′ e′ →
+    (z ≡ z′) × (now (e .1 .1 .0) ≡ now (e′ .1 .1 .0))
 schedule-schedule-settles κs a z z′ e e′ p q = (schedule.one-answer z z′ (p .0 ∙ sym (q .0)), p .1 ∙ sym (q .1))
 
 -- ---- beats
@@ -287,10 +327,12 @@ beats-first-cell-settles κs a z z′ e e′ p q = p ∙ sym q
 pub beats-first-cells-settles : (κs : _) (a : _) (z z′ : _) (e e′ : _) → beats-first-cells.Post κs a z e → beats-first-cells.Post κs a z′ e′ → z ≡ z′
 beats-first-cells-settles κs a z z′ e e′ p q = p ∙ sym q
 
-pub beats-open-row-settles : (κs : _) (a : _) (z z′ : _) (e e′ : _) → beats-open-row.Post κs a z e → beats-open-row.Post κs a z′ e′ → now (e .1 .0) ≡ now (e′ .1 .0)
+pub beats-open-row-settles : (κs : _) (a : _) (z z′ : _) (e e′ : _) → beats-open-row.Post κs a z e → beats-open-row.Post κs a z′ e′ →
+    now (e .1 .0) ≡ now (e′ .1 .0)
 beats-open-row-settles κs a z z′ e e′ p q = p ∙ sym q
 
-pub beats-write-burst-settles : (κs : _) (a : _) (z z′ : _) (e e′ : _) → beats-write-burst.Post κs a z e → beats-write-burst.Post κs a z′ e′ → now (e .0) ≡ now (e′ .0)
+pub beats-write-burst-settles : (κs : _) (a : _) (z z′ : _) (e e′ : _) → beats-write-burst.Post κs a z e → beats-write-burst.Post κs a z′ e′ →
+    now (e .0) ≡ now (e′ .0)
 beats-write-burst-settles κs a z z′ e e′ p q = p ∙ sym q
 
 pub beats-kept-settles : (κs : _) (a : _) (z z′ : _) (e e′ : _) → beats-kept.Post κs a z e → beats-kept.Post κs a z′ e′ → z ≡ z′
@@ -298,16 +340,20 @@ beats-kept-settles κs a z z′ e e′ p q = p ∙ sym q
 
 -- ---- cells
 
-pub cells-burst-cells-settles : (κs : _) (a : _) (z z′ : _) (e e′ : _) → cells-burst-cells.Post κs a z e → cells-burst-cells.Post κs a z′ e′ → (z ≡ z′) × (now (e .1 .0) ≡ now (e′ .1 .0))
+pub cells-burst-cells-settles : (κs : _) (a : _) (z z′ : _) (e e′ : _) → cells-burst-cells.Post κs a z e → cells-burst-cells.Post κs a z′ e′ →
+    (z ≡ z′) × (now (e .1 .0) ≡ now (e′ .1 .0))
 cells-burst-cells-settles κs a z z′ e e′ p q = (cells.one-answer z z′ (p .0 ∙ sym (q .0)), p .1 ∙ sym (q .1))
 
 -- ---- morgazell
 
-pub morgazell-morgazell-judge-settles : (κs : _) (a : _) (z z′ : _) (e e′ : _) → morgazell-morgazell-judge.Post κs a z e → morgazell-morgazell-judge.Post κs a z′ e′ → z ≡ z′
+pub morgazell-morgazell-judge-settles : (κs : _) (a : _) (z z′ : _) (e e′ : _) → morgazell-morgazell-judge.Post κs a z e → morgazell-morgazell-judge.Post κs a z′ e′ →
+    z ≡ z′
 morgazell-morgazell-judge-settles κs a z z′ e e′ p q = p ∙ sym q
 
-pub morgazell-morgazell-cells-settles : (κs : _) (a : _) (z z′ : _) (e e′ : _) → morgazell-morgazell-cells.Post κs a z e → morgazell-morgazell-cells.Post κs a z′ e′ → (z ≡ z′) × (now (e .1 .0) ≡ now (e′ .1 .0))
+pub morgazell-morgazell-cells-settles : (κs : _) (a : _) (z z′ : _) (e e′ : _) → morgazell-morgazell-cells.Post κs a z e → morgazell-morgazell-cells.Post κs a z′ e′ →
+    (z ≡ z′) × (now (e .1 .0) ≡ now (e′ .1 .0))
 morgazell-morgazell-cells-settles κs a z z′ e e′ p q = (p .0 ∙ sym (q .0), p .1 ∙ sym (q .1))
 
-pub morgazell-morgazell-schedule-settles : (κs : _) (a : _) (z z′ : _) (e e′ : _) → morgazell-morgazell-schedule.Post κs a z e → morgazell-morgazell-schedule.Post κs a z′ e′ → (z ≡ z′) × (now (e .1 .1 .0) ≡ now (e′ .1 .1 .0))
+pub morgazell-morgazell-schedule-settles : (κs : _) (a : _) (z z′ : _) (e e′ : _) → morgazell-morgazell-schedule.Post κs a z e → morgazell-morgazell-schedule.Post κs a z′ e′ →
+    (z ≡ z′) × (now (e .1 .1 .0) ≡ now (e′ .1 .1 .0))
 morgazell-morgazell-schedule-settles κs a z z′ e e′ p q = (p .0 ∙ sym (q .0), p .1 ∙ sym (q .1))

@@ -24,11 +24,14 @@ struct Event {
 
 // Event i; zeros where there is none.
 fn event_at(capture: &[u8], i: u32) -> Event {
-    let at = i as usize;
-    if capture.len() < 88 + 8 * at {
+    if capture.len() < capture::EVENTS {
         return Event { cycle: 0, pins: 0 };
     }
-    let bytes = &capture[80..];
+    let bytes = capture::event_bytes(capture);
+    let at = i as usize;
+    if bytes.len() < 8 * at + 8 {
+        return Event { cycle: 0, pins: 0 };
+    }
     Event {
         cycle: capture::cycle_at(bytes, at),
         pins: capture::pins_at(bytes, at),

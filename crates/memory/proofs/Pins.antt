@@ -1,92 +1,35 @@
--- The pins of a command carry it, and the column pins carry the column.
+-- The pins of a schedule's commands carry them, and the column pins carry the column.
 use Prim.Native.Nat.{ℕ, _+_, _*_, _/_, _%_, _^_, _≤_, _<_}
 use mathlib.Core.Bool.{Bool, true, false, cond, and-eq-true-iff}
 use mathlib.Core.Path.{_≡_, refl, _∙_}
 use native.Mathlib.Nat.{mod-lt, mod-eq-of-lt}
 use native.Mathlib.Omega.{arith}
 use lib.Dec.{ltb, eqb}
-use lib.Pow.{pow-pos, pow-mono, high}
+use lib.Pow.{pow-pos, pow-mono}
 use borrow.Author.Tests.{ltb-true, eqb-true, eqb-false}
 use Rattle.reading.specs.Words.{bit}
 use Rattle.reading.specs.Settings.{Settings}
-use Rattle.reading.specs.Commands.{Op, ACTIVE, READ, WRITE, BURST-TERMINATE, PRECHARGE, AUTO-REFRESH, MODE-REGISTER-SET, NOP, DESELECT, Command, code, opOf, commandOf, pinsOf}
+use Rattle.reading.specs.Commands.{ACTIVE, READ, WRITE, AUTO-REFRESH, Command, commandOf}
 use Rattle.reading.specs.Bursts.{columnOf}
 use Rattle.reading.specs.Schedule.{asksWrite, firstCell, cellBank, cellRow, cellColumn, requestFits, activePins, columnPins, burstPins, refreshPins}
+use Rattle.pins.proofs.Carried.{command, pins-carry}
 use Rattle.memory.specs.Serving.{Sized}
-
--- ---- any command
-
-abbrev pub command : Op → ℕ → ℕ → Command
-command o bank address = record { op = o; bank = bank; address = address; A10 = eqb (bit 10 address) 1 }
-
-op-back : (o : Op) → opOf (8 * bit 3 (code o) + 4 * bit 2 (code o) + 2 * bit 1 (code o) + bit 0 (code o)) ≡ o
-op-back ACTIVE = refl
-op-back READ = refl
-op-back WRITE = refl
-op-back BURST-TERMINATE = refl
-op-back PRECHARGE = refl
-op-back AUTO-REFRESH = refl
-op-back MODE-REGISTER-SET = refl
-op-back NOP = refl
-op-back DESELECT = refl
-
--- bit j of a word that is put together of what lies below, at and above it
-bit-at : (j w below x above : ℕ) → below < 2 ^ j → x < 2 → w ≡ (x + 2 * above) * 2 ^ j + below → bit j w ≡ x
-bit-at j w below x above hb hx e = rw (e, high (x + 2 * above) j hb) (omega arith)
-
--- the pin word of a command with the code k
-abbrev word : ℕ → ℕ → ℕ → ℕ
-word k bank address = address + 2 ^ 14 * bank + 2 ^ 16 * bit 3 k + 2 ^ 17 * bit 2 k + 2 ^ 18 * bit 1 k + 2 ^ 19 * bit 0 k
-
-module _ (k bank address : ℕ) (hb : bank < 4) (ha : address < 2 ^ 14) where
-  -- CS#, RAS#, CAS#, WE#
-  code-carried : (bit 16 (word k bank address) ≡ bit 3 k) × (bit 17 (word k bank address) ≡ bit 2 k)
-      × (bit 18 (word k bank address) ≡ bit 1 k) × (bit 19 (word k bank address) ≡ bit 0 k)
-  code-carried =
-      let w = word k bank address in
-      let low = address + 2 ^ 14 * bank in (
-        bit-at 16 w low (bit 3 k) (bit 2 k + 2 * (bit 1 k + 2 * bit 0 k)) (omega arith) (omega arith) (omega arith),
-        bit-at 17 w (low + 2 ^ 16 * bit 3 k) (bit 2 k) (bit 1 k + 2 * bit 0 k) (omega arith) (omega arith) (omega arith),
-        bit-at 18 w (low + 2 ^ 16 * bit 3 k + 2 ^ 17 * bit 2 k) (bit 1 k) (bit 0 k) (omega arith) (omega arith) (omega arith),
-        bit-at 19 w (low + 2 ^ 16 * bit 3 k + 2 ^ 17 * bit 2 k + 2 ^ 18 * bit 1 k) (bit 0 k) 0 (omega arith) (omega arith) (omega arith),
-      )
-
-  bank-carried : word k bank address / 2 ^ 14 % 4 ≡ bank
-  bank-carried = omega arith
-
-  address-carried : word k bank address % 2 ^ 14 ≡ address
-  address-carried = omega arith
-
-  A10-carried : bit 10 (word k bank address) ≡ bit 10 address
-  A10-carried = omega arith
-
-pub pins-carry : (o : Op) (bank address : ℕ) → bank < 4 → address < 2 ^ 14 → commandOf (pinsOf o bank address) ≡ command o bank address
-pins-carry o bank address hb ha =
-    let (c, r, a, w) = code-carried (code o) bank address hb ha in
-    let op : commandOf (pinsOf o bank address) .op ≡ o = rw (c, r, a, w) (op-back o) in
-    λ i.
-    record {
-      op = op i;
-      bank = bank-carried (code o) bank address hb ha i;
-      address = address-carried (code o) bank address hb ha i;
-      A10 = eqb (A10-carried (code o) bank address hb ha i) 1;
-    }
 
 -- ---- the column: neither A10 nor a pin above it disturbs it, and with 11 bits A11 is its bit 10
 
 column-carried : (n c : ℕ) → n ≤ 11 → c < 2 ^ n →
-    columnPins c % 2 ^ 10 % 2 ^ n + cond (eqb n 11) (2 ^ 10 * bit 11 (columnPins c)) 0 ≡ c
+    columnPins true c % 2 ^ 10 % 2 ^ n + cond (eqb n 11) (2 ^ 10 * bit 11 (columnPins true c)) 0 ≡ c
 column-carried n c l f = go (eqb n 11) refl
   where
-    low : columnPins c % 2 ^ 10 ≡ c % 2 ^ 10
+    low : columnPins true c % 2 ^ 10 ≡ c % 2 ^ 10
     low = omega arith
 
-    eleven : c < 2 ^ 11 → columnPins c % 2 ^ 10 % 2 ^ 11 + 2 ^ 10 * bit 11 (columnPins c) ≡ c
+    eleven : c < 2 ^ 11 → columnPins true c % 2 ^ 10 % 2 ^ 11 + 2 ^ 10 * bit 11 (columnPins true c) ≡ c
     eleven g =
-        let A11 : bit 11 (columnPins c) ≡ c / 2 ^ 10 = omega arith in
+        let A11 : bit 11 (columnPins true c) ≡ c / 2 ^ 10 = omega arith in
         rw (low, A11) (omega arith)
 
-    go : (b : Bool) → eqb n 11 ≡ b → columnPins c % 2 ^ 10 % 2 ^ n + cond b (2 ^ 10 * bit 11 (columnPins c)) 0 ≡ c
+    go : (b : Bool) → eqb n 11 ≡ b → columnPins true c % 2 ^ 10 % 2 ^ n + cond b (2 ^ 10 * bit 11 (columnPins true c)) 0 ≡ c
     go true e = rw (eqb-true n 11 e) (eleven (rw (eqb-true n 11 e) at f))
     go false e =
         let g : n ≤ 10 = omega (arith, eqb-false n 11 e) in
@@ -94,7 +37,7 @@ column-carried n c l f = go (eqb n 11) refl
         let k : c % 2 ^ 10 ≡ c = omega arith in
         rw (low, k, mod-eq-of-lt f) (omega arith)
 
-A10-asked : (c : ℕ) → bit 10 (columnPins c) ≡ 1
+A10-asked : (c : ℕ) → bit 10 (columnPins true c) ≡ 1
 A10-asked c = omega arith
 
 -- ---- the commands of a schedule
@@ -111,7 +54,7 @@ burstCommand s q address auto =
     record { op = cond (asksWrite q) WRITE READ; bank = cellBank s (firstCell q); address = address; A10 = auto }
 
 module _ (s : Settings) (f : Sized s) where
-  pub column-back : (c : ℕ) → c < 2 ^ s .columnBits → columnOf s (columnPins c) ≡ c
+  pub column-back : (c : ℕ) → c < 2 ^ s .columnBits → columnOf s (columnPins true c) ≡ c
   column-back c l = column-carried (s .columnBits) c (f .columns) l
 
   module _ (q : ℕ) where
@@ -119,7 +62,7 @@ module _ (s : Settings) (f : Sized s) where
     column-small = mod-lt (firstCell q) (pow-pos (s .columnBits))
 
     module _ (fits : requestFits s q ≡ true) where
-      bank-small : cellBank s (firstCell q) < 4
+      pub bank-small : cellBank s (firstCell q) < 4
       unfolding requestFits
       bank-small =
           ltb-true (cellBank s (firstCell q)) 4
@@ -130,9 +73,9 @@ module _ (s : Settings) (f : Sized s) where
           pins-carry ACTIVE (cellBank s (firstCell q)) (cellRow s (firstCell q)) bank-small
           (omega (arith, mod-lt (firstCell q / 2 ^ s .columnBits) (pow-pos (s .rowBits)), pow-mono (f .rows)))
 
-      pub burst-carried : commandOf (burstPins s q) ≡ burstCommand s q (columnPins (cellColumn s (firstCell q))) true
+      pub burst-carried : commandOf (burstPins true s q) ≡ burstCommand s q (columnPins true (cellColumn s (firstCell q))) true
       burst-carried =
           let c = cellColumn s (firstCell q) in
           let l : c < 2 ^ 11 = omega (arith, column-small, pow-mono (f .columns)) in
-          pins-carry (cond (asksWrite q) WRITE READ) (cellBank s (firstCell q)) (columnPins c) bank-small (omega arith)
-          ∙ (λ i. burstCommand s q (columnPins c) (eqb (A10-asked c i) 1))
+          pins-carry (cond (asksWrite q) WRITE READ) (cellBank s (firstCell q)) (columnPins true c) bank-small (omega arith)
+          ∙ (λ i. burstCommand s q (columnPins true c) (eqb (A10-asked c i) 1))

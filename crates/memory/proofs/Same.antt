@@ -6,7 +6,7 @@ use Rattle.reading.specs.Settings.{Settings}
 use Rattle.reading.specs.Capture.{Event}
 use Rattle.reading.specs.Part.{start, run}
 use Rattle.reading.specs.Cells.{burstsOf}
-use Rattle.reading.specs.Schedule.{planned, scheduleOf}
+use Rattle.reading.specs.Schedule.{planned, scheduleBy}
 use Rattle.reading.specs.Memory.{Run, replay, plain}
 use Rattle.memory.specs.Serving.{Sized, EachFits, Serves, Each, nil, cons}
 use Rattle.memory.proofs.Play.{serves-plain}
@@ -29,10 +29,10 @@ module _ (s : Settings) where
   unfolding replay
   bursts-are-plain f qs es v = serves-plain s f v
 
-  module _ (f : Sized s) (qs : List ℕ) (es : List Event) (fits : EachFits s qs) (e : scheduleOf s qs ≡ planned es) where
+  module _ (rs : List ℕ) (f : Sized s) (qs : List ℕ) (es : List Event) (fits : EachFits s qs) (e : scheduleBy rs s qs ≡ planned es) where
     -- burst by burst, what the requests ask for
     pub schedule-bursts : Each (Serves s) (burstsOf s es) qs
-    schedule-bursts = serving-bursts qs es (shape-done s f (schedule-shape s qs es fits e) .serving)
+    schedule-bursts = serving-bursts qs es (shape-done s f (schedule-shape rs s qs es fits e) .serving)
 
     -- the same words are returned in the same order, as many are taken, and every cell ends the same
     pub schedule-is-plain : (r : Run) → replay s es r ≡ plain s qs r

@@ -52,4 +52,4 @@ pub data Shape (s : Settings) : List ℕ → List Event → Type 0 where
   nothing : Shape s [] []
   refresh : {qs : List ℕ} {es : List Event} (t : ℕ) → Shape s qs es → Shape s qs (sent es t refreshPins)
   request : {q : ℕ} {qs : List ℕ} {es : List Event} (t u : ℕ) → requestFits s q ≡ true → Shape s qs es →
-      Shape s (q ∷ qs) (sent (sent es t (activePins s q)) u (burstPins s q))
+      Shape s (q ∷ qs) (sent (sent es t (activePins s q)) u (burstPins true s q))

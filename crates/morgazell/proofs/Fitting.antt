@@ -12,14 +12,14 @@ use lib.ListN.{length, length-append, length-map, length-reverse, getD}
 use Rattle.reading.specs.Search.{find, lowest, given}
 use Rattle.reading.specs.Search as search
 use Rattle.reading.specs.Settings.{Settings, settingsOf, settingFits, badSetting}
-use Rattle.reading.specs.Capture.{Event, eventCount, settingWords, eventBytes, eventAt, eventsOf, badLength, headerFits, pinBits, eventFits, badEvent}
+use Rattle.reading.specs.Capture.{Event, eventCount, settingWords, eventBytes, eventAt, eventsOf, lengthFits, headerFits, pinBits, eventFits, badEvent}
 use Rattle.reading.specs.Commands.{READ, WRITE, among, commandOf}
 use Rattle.reading.specs.Bursts.{Burst, beatCell, burstCells, cutBy}
 use Rattle.reading.specs.Part.{Part, start, step, run, burstGiven}
-use Rattle.reading.specs.Rules.{rules}
+use Rattle.reading.specs.Rules.{rules, placing}
 use Rattle.reading.specs.Verdict as is
 use Rattle.reading.specs.Cells.{burstsOf, cellsOf}
-use Rattle.reading.specs.Schedule.{Schedule, planned, late, requestFits, badRequest, scheduleFrom, scheduleOf, served, onwards, captureOf}
+use Rattle.reading.specs.Schedule.{Schedule, planned, late, requestFits, badRequest, scheduleFrom, scheduleBy, scheduleOf, served, whenServed, captureOf}
 use Rattle.reading.specs.Answers.{Answer, Report, refused, answered, unless, accepted, settingsIn, verdictIn, judgeAnswer, leaves, fitting, notClean, cellsIn, cellsOutcome, whenPlanned, scheduleOutcome}
 use Rattle.reading.proofs.Meaning.{BrokenAt, verdict-broken}
 use Rattle.reading.proofs.Cuts.{All, nil, cons, Whole, bursts-whole}
@@ -59,8 +59,8 @@ below f n i e = omega (arith, counted f 0 n i e)
 
 -- ---- a capture: refused with a number from 1 to 4 and a small place, or short
 
-few : (capture : List ℕ) → given 0 (badLength capture) ≡ none → given 0 (not (headerFits capture)) ≡ none → eventCount capture ≤ 8000
-few capture a b = sized capture (clear _ a) (not-false _ (clear _ b)) .few
+few : (capture : List ℕ) → given 0 (not (lengthFits capture)) ≡ none → given 0 (not (headerFits capture)) ≡ none → eventCount capture ≤ 8000
+few capture a b = sized capture (not-false _ (clear _ a)) (not-false _ (clear _ b)) .few
   where
     clear : (b : Bool) → given 0 b ≡ none → b ≡ false
     clear true e = let z : _≡_ {A = ℕ} 0 1 = cc in absurd (omega arith)
@@ -83,12 +83,12 @@ pub on-accepted : {A : Type 0} (P : Answer A → Type 0) (capture : List ℕ) (r
     ((number place : ℕ) → Number number → Value place → P (refused number place)) → (eventCount capture ≤ 8000 → P rest) → P (accepted capture rest)
 unfolding accepted
 on-accepted {A} P capture rest refusing going-on =
-    go (given 0 (badLength capture)) (given 0 (not (headerFits capture))) (badSetting (settingWords capture)) (badEvent (pinBits capture) (eventBytes capture) (eventCount capture))
+    go (given 0 (not (lengthFits capture))) (given 0 (not (headerFits capture))) (badSetting (settingWords capture)) (badEvent (pinBits capture) (eventBytes capture) (eventCount capture))
     refl refl refl refl
   where
-    go : (a b c d : Option ℕ) → given 0 (badLength capture) ≡ a → given 0 (not (headerFits capture)) ≡ b → badSetting (settingWords capture) ≡ c →
+    go : (a b c d : Option ℕ) → given 0 (not (lengthFits capture)) ≡ a → given 0 (not (headerFits capture)) ≡ b → badSetting (settingWords capture) ≡ c →
         badEvent (pinBits capture) (eventBytes capture) (eventCount capture) ≡ d → P (unless 1 a (unless 2 b (unless 3 c (unless 4 d rest))))
-    go (some place) b c d p q r s = refusing 1 place (omega arith) (at-zero (badLength capture) place p)
+    go (some place) b c d p q r s = refusing 1 place (omega arith) (at-zero (not (lengthFits capture)) place p)
     go none (some place) c d p q r s = refusing 2 place (omega arith) (at-zero (not (headerFits capture)) place q)
     go none none (some place) d p q r s = refusing 3 place (omega arith) (bad-setting (settingWords capture) place (omega (arith, words-count capture)) r)
     go none none none (some place) p q r s = refusing 4 place (omega arith) (bad-event (pinBits capture) (eventBytes capture) (eventCount capture) place (few capture p q) s)
@@ -213,19 +213,19 @@ bad-request s qs place e = go (ltb 2000 (length qs)) refl e
     go true l v = let z : 2000 ≡ place = cc in omega arith
     go false l v = omega (arith, ltb-false 2000 (length qs) l, below (λ i. not (requestFits s (getD qs i 0))) (length qs) place v)
 
-late-request : (s : Settings) (es : List Event) (from : ℕ) (qs : List ℕ) (i : ℕ) → scheduleFrom s es from qs ≡ late i → i < from + length qs
+late-request : (rs : List ℕ) (s : Settings) (es : List Event) (from : ℕ) (qs : List ℕ) (i : ℕ) → scheduleFrom rs s es from qs ≡ late i → i < from + length qs
 unfolding scheduleFrom
-late-request s es from [] i e = let z : _≡_ {A = ℕ} 0 1 = cc in absurd (omega arith)
-late-request s es from (q ∷ qs) i e = go (served s es q) e (λ next. late-request s next (suc from) qs i)
+late-request rs s es from [] i e = let z : _≡_ {A = ℕ} 0 1 = cc in absurd (omega arith)
+late-request rs s es from (q ∷ qs) i e = go (served rs s es q) e (λ next. late-request rs s next (suc from) qs i)
   where
-    go : (x : Option (List Event)) → onwards x (λ next. scheduleFrom s next (suc from) qs) from ≡ late i →
-        ((next : List Event) → scheduleFrom s next (suc from) qs ≡ late i → i < suc from + length qs) → i < from + suc (length qs)
+    go : (x : Option (List Event)) → whenServed x (λ next. scheduleFrom rs s next (suc from) qs) from ≡ late i →
+        ((next : List Event) → scheduleFrom rs s next (suc from) qs ≡ late i → i < suc from + length qs) → i < from + suc (length qs)
     go none v ih = let z : from ≡ i = cc in omega arith
     go (some next) v ih = omega (arith, ih next v)
 
 late-fits : (s : Settings) (qs : List ℕ) (i : ℕ) → badRequest s qs ≡ none → scheduleOf s qs ≡ late i → Value i
-unfolding scheduleOf
-late-fits s qs i r e = omega (arith, few-requests s qs r, late-request s [] 0 qs i e)
+unfolding scheduleBy
+late-fits s qs i r e = omega (arith, few-requests s qs r, late-request placing s [] 0 qs i e)
 
 pub schedule-fits : (ws qs buffer : List ℕ) → Fits (countTold (scheduleOutcome ws qs buffer .answer))
 unfolding scheduleOutcome

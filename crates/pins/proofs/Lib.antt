@@ -1,3 +1,4 @@
 -- Laws of pin words.
 pub mod Pins
 pub mod Commands
+pub mod Carried

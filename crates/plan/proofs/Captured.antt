@@ -13,7 +13,7 @@ use borrow.Author.Tests.{leb-true, le-leb, lt-ltb, le-ltb, eq-eqb, not-false}
 use Rattle.reading.specs.Search.{every, find, count}
 use Rattle.reading.specs.Words.{wordAt, bytesOf}
 use Rattle.reading.specs.Settings.{Limits, limits, settingsOf, settingFits, badSetting}
-use Rattle.reading.specs.Capture.{Event, headerWord, eventCount, settingWords, eventBytes, eventAt, eventsOf, badLength, headerFits, lastCycle, eventFits, badEvent}
+use Rattle.reading.specs.Capture.{Event, headerWord, eventCount, settingWords, eventBytes, eventAt, eventsOf, lengthFits, headerFits, lastCycle, eventFits, badEvent}
 use Rattle.reading.specs.Verdict.{clean, verdictOf}
 use Rattle.reading.specs.Schedule.{badRequest, freeFrom, planned, scheduleOf, eventWords, captureOf}
 use Rattle.reading.specs.Answers.{Answer, Report, answered, accepted, verdictIn, judgeAnswer}
@@ -192,14 +192,14 @@ module _ (ws : List ℕ) (es : List Event) (fourteen : length ws ≡ 14) (good :
         lt-ltb (eventOf es i .cycle) (eventOf es (suc i) .cycle) (rising 0 es rises i l),
       )
 
-  right-length : badLength C ≡ false
-  unfolding badLength
+  right-length : lengthFits C ≡ true
+  unfolding lengthFits
   right-length =
       rw (
         head ws es fourteen 0 (omega arith) (omega arith),
         size ws es fourteen,
-        le-ltb (80 + 8 * length es) 80 (omega arith),
-        le-ltb 64080 (80 + 8 * length es) (omega arith),
+        le-leb 80 (80 + 8 * length es) (omega arith),
+        le-leb (80 + 8 * length es) 64080 (omega arith),
         eq-eqb (80 + 8 * length es) (80 + 8 * length es) refl,
       )
 

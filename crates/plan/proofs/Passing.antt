@@ -31,7 +31,7 @@ module _ (s : Settings) (p : Part) (t : ℕ) where
   abbrev pub passed : Command → Bool
   passed c = every (λ r. keepsRule r s p t c) placing
 
-  pub carried-passes : (pins : ℕ) {c : Command} → commandOf pins ≡ c → passes s p pins t ≡ passed c
+  pub carried-passes : (pins : ℕ) {c : Command} → commandOf pins ≡ c → passes placing s p pins t ≡ passed c
   unfolding passes
   carried-passes pins e = ap passed e
 

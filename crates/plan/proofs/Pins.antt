@@ -1,20 +1,16 @@
 -- The pin words of a schedule's commands have no bit above the pins; the banks and rows that they name are the part's.
-use Prim.Native.Nat.{ℕ, _/_, _%_, _^_, _<_}
-use mathlib.Core.Bool.{true, cond, and-eq-true-iff}
+use Prim.Native.Nat.{ℕ, _/_, _^_, _<_}
+use mathlib.Core.Bool.{true, cond}
 use mathlib.Core.Path.{_≡_}
 use native.Mathlib.Nat.{mod-lt}
 use native.Mathlib.Omega.{arith}
-use lib.Dec.{ltb, eqb}
 use lib.Pow.{pow-pos, pow-mono}
-use borrow.Author.Tests.{ltb-true}
 use Rattle.reading.specs.Settings.{Settings}
-use Rattle.reading.specs.Commands.{Op, ACTIVE, READ, WRITE, pinsOf}
+use Rattle.reading.specs.Commands.{ACTIVE, READ, WRITE}
 use Rattle.reading.specs.Schedule.{asksWrite, firstCell, cellBank, cellRow, cellColumn, requestFits, activePins, columnPins, burstPins, refreshPins}
-use Rattle.memory.proofs.Pins.{column-small}
+use Rattle.pins.proofs.Carried.{pins-small}
+use Rattle.memory.proofs.Pins.{bank-small, column-small}
 use Rattle.plan.proofs.Ranged.{Ranged}
-
-pins-small : (o : Op) (b a : ℕ) → b < 4 → a < 2 ^ 14 → pinsOf o b a < 2 ^ 20
-pins-small o b a lb la = omega arith
 
 pub refresh-small : refreshPins < 2 ^ 20
 refresh-small = omega arith
@@ -30,17 +26,13 @@ module _ (s : Settings) (g : Ranged s) (q : ℕ) (fits : requestFits s q ≡ tru
   abbrev column : ℕ
   column = cellColumn s (firstCell q)
 
-  pub bank-small : bank < 4
-  unfolding requestFits
-  bank-small = ltb-true bank 4 (and-eq-true-iff (eqb (q / 2 ^ 27 % 2 ^ 4) 0) (ltb bank 4) .0 fits .1)
-
   pub row-low : row < 2 ^ s .rowBits
   row-low = mod-lt (firstCell q / 2 ^ s .columnBits) (pow-pos (s .rowBits))
 
   pub active-small : activePins s q < 2 ^ 20
-  active-small = pins-small ACTIVE bank row bank-small (omega (arith, row-low, pow-mono (g .sized .rows)))
+  active-small = pins-small ACTIVE bank row (bank-small s (g .sized) q fits) (omega (arith, row-low, pow-mono (g .sized .rows)))
 
-  pub burst-small : burstPins s q < 2 ^ 20
+  pub burst-small : burstPins true s q < 2 ^ 20
   burst-small =
       let l : column < 2 ^ 11 = omega (arith, column-small s (g .sized) q, pow-mono (g .sized .columns)) in
-      pins-small (cond (asksWrite q) WRITE READ) bank (columnPins column) bank-small (omega arith)
+      pins-small (cond (asksWrite q) WRITE READ) bank (columnPins true column) (bank-small s (g .sized) q fits) (omega arith)

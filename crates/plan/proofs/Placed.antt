@@ -13,17 +13,18 @@ use Rattle.reading.specs.Settings.{Settings}
 use Rattle.reading.specs.Capture.{Event}
 use Rattle.reading.specs.Commands.{READ, WRITE, AUTO-REFRESH, Command}
 use Rattle.reading.specs.Part.{Bank, Part, idleFrom, partAfter}
+use Rattle.reading.specs.Rules.{placing}
 use Rattle.reading.specs.Schedule.{asksWrite, firstCell, cellBank, cellRow, cellColumn, requestFits, activePins, columnPins, burstPins, refreshPins, freeFrom, placed, send}
 use Rattle.deadlines.specs.Deadlines.{Wait, readWaits, writeWaits, refreshWaits, soonest, activeAfter, refreshAfter}
 use Rattle.bridge.specs.Summary.{Held, laid, summary}
 use Rattle.bridge.proofs.Rules.{does}
 use Rattle.bridge.proofs.Next.{Sound, active-next, read-next, write-next, refresh-next}
 use Rattle.bridge.proofs.Kept.{kept-plain, kept-read, kept-write}
-use Rattle.memory.proofs.Pins.{activeCommand, active-carried, burst-carried, refresh-carried}
+use Rattle.memory.proofs.Pins.{bank-small, activeCommand, active-carried, burst-carried, refresh-carried}
 use Rattle.plan.specs.Soonest.{activeSoonest, readSoonest, writeSoonest, burstSoonest, refreshSoonest}
 use Rattle.plan.specs.Behind.{partOf, deadlinesOf, burstAfter}
 use Rattle.plan.proofs.Ranged.{Ranged}
-use Rattle.plan.proofs.Pins.{bank-small, row-low, active-small, burst-small, refresh-small}
+use Rattle.plan.proofs.Pins.{row-low, active-small, burst-small, refresh-small}
 use Rattle.plan.proofs.Passing.{passed, carried-passes, active-passed, read-passed, write-passed, refresh-passed}
 use Rattle.plan.proofs.Near.{Near, near-active, near-read, near-write, near-refresh, active-most, burst-most, refresh-most}
 use Rattle.plan.proofs.Sending.{later-first, later-second, Goes, goes-free, goes-soonest}
@@ -113,17 +114,17 @@ module _ {s : Settings} (g : Ranged s) {es : List Event} (r : Reached s es) wher
           soon = refresh-most (r .near);
         }
 
-    pub refresh-sent : Sent s es refreshPins (refreshSoonest d) (refreshAfter s d (placed s es refreshPins))
+    pub refresh-sent : Sent s es refreshPins (refreshSoonest d) (refreshAfter s d (placed placing s es refreshPins))
     unfolding deadlinesOf refreshSoonest
     refresh-sent =
-        let t = placed s es refreshPins in
+        let t = placed placing s es refreshPins in
         let c = does AUTO-REFRESH 0 0 false in
         let l = goes-free refresh-goes in
         sent r refreshPins c refresh-carried refresh-goes refresh-small refl (kept-plain s p free t l (r .sound) c refl refl refl)
         (refresh-next s p free t l (r .sound) 0 0 false (le-trans (waited (refreshWaits d) 0) (goes-soonest refresh-goes)))
         (near-refresh s g (r .near) t l)
 
-    pub refresh-idle : Idle s (send s es refreshPins)
+    pub refresh-idle : Idle s (send placing s es refreshPins)
     refresh-idle i = ap (λ (x : Part). x .banks i .opened) (part-is r refreshPins (does AUTO-REFRESH 0 0 false) refresh-carried) ∙ idle i
 
   module _ (q : ℕ) (fits : requestFits s q ≡ true) where
@@ -134,7 +135,7 @@ module _ {s : Settings} (g : Ranged s) {es : List Event} (r : Reached s es) wher
     row = cellRow s (firstCell q)
 
     lb : bank < 4
-    lb = bank-small s g q fits
+    lb = bank-small s (g .sized) q fits
 
     -- ACTIVE, with all banks idle
     module _ (idle : Idle s es) where
@@ -148,27 +149,27 @@ module _ {s : Settings} (g : Ranged s) {es : List Event} (r : Reached s es) wher
             soon = active-most (r .near) bank lb;
           }
 
-      pub active-sent : Sent s es (activePins s q) (activeSoonest d bank) (activeAfter s d (placed s es (activePins s q)) bank)
+      pub active-sent : Sent s es (activePins s q) (activeSoonest d bank) (activeAfter s d (placed placing s es (activePins s q)) bank)
       unfolding deadlinesOf
       active-sent =
-          let t = placed s es (activePins s q) in
+          let t = placed placing s es (activePins s q) in
           let l = goes-free active-goes in
           sent r (activePins s q) (activeCommand s q) (active-carried s (g .sized) q fits) active-goes (active-small s g q fits) refl
           (kept-plain s p free t l (r .sound) (activeCommand s q) refl refl refl)
           (active-next s p free t l (r .sound) bank row (eqb (bit 10 row) 1) lb)
           (near-active s g (r .near) t l bank lb)
 
-      active-is : partOf s (send s es (activePins s q)) ≡ partAfter s p (placed s es (activePins s q)) (activeCommand s q)
+      active-is : partOf s (send placing s es (activePins s q)) ≡ partAfter s p (placed placing s es (activePins s q)) (activeCommand s q)
       active-is = part-is r (activePins s q) (activeCommand s q) (active-carried s (g .sized) q fits)
 
-      pub active-opens : Opened s (send s es (activePins s q)) bank
+      pub active-opens : Opened s (send placing s es (activePins s q)) bank
       active-opens =
           record {
             own = ap (λ (x : Part). x .banks bank .opened) active-is ∙ rw (eq-eqb bank bank refl);
             others = λ i e. ap (λ (x : Part). x .banks i .opened) active-is ∙ rw e (idle i);
           }
 
-      pub active-ticks : partOf s (send s es (activePins s q)) .clock ≡ p .clock
+      pub active-ticks : partOf s (send placing s es (activePins s q)) .clock ≡ p .clock
       active-ticks = ap (λ (x : Part). x .clock) active-is
 
     -- READ or WRITE, with its bank open
@@ -177,33 +178,33 @@ module _ {s : Settings} (g : Ranged s) {es : List Event} (r : Reached s es) wher
       write = asksWrite q
 
       abbrev address : ℕ
-      address = columnPins (cellColumn s (firstCell q))
+      address = columnPins true (cellColumn s (firstCell q))
 
-      burst-goes : Goes s es (burstPins s q) (burstSoonest write d bank)
+      burst-goes : Goes s es (burstPins true s q) (burstSoonest write d bank)
       unfolding deadlinesOf
       burst-goes =
           record {
-            passing = λ u. carried-passes s p u (burstPins s q) (burst-carried s (g .sized) q fits) ∙ burst-passed s p bank address lb (o .own) u write;
+            passing = λ u. carried-passes s p u (burstPins true s q) (burst-carried s (g .sized) q fits) ∙ burst-passed s p bank address lb (o .own) u write;
             soon = burst-most (r .near) bank lb write;
           }
 
-      pub burst-sent : Sent s es (burstPins s q) (burstSoonest write d bank) (burstAfter write s d (s .mode) (placed s es (burstPins s q)) bank)
+      pub burst-sent : Sent s es (burstPins true s q) (burstSoonest write d bank) (burstAfter write s d (s .mode) (placed placing s es (burstPins true s q)) bank)
       unfolding deadlinesOf
       burst-sent =
-          let t = placed s es (burstPins s q) in
+          let t = placed placing s es (burstPins true s q) in
           let l = goes-free burst-goes in
-          sent r (burstPins s q) (bursts s p bank address lb (o .own) write) (burst-carried s (g .sized) q fits) burst-goes (burst-small s g q fits)
+          sent r (burstPins true s q) (bursts s p bank address lb (o .own) write) (burst-carried s (g .sized) q fits) burst-goes (burst-small s g q fits)
           (burst-mode s p bank address lb (o .own) t write)
           (burst-sound s p bank address lb (o .own) free t l (r .sound) write (goes-soonest burst-goes))
           (burst-leaves s p bank address lb (o .own) free t l (r .sound) write (goes-soonest burst-goes) ∙ ap (λ (m : ℕ). burstAfter write s d m t bank) (r .mode))
           (subst (λ (m : ℕ). Near (suc t) (burstAfter write s d m t bank)) (r .mode) (burst-near s p bank address lb (o .own) free t l (r .sound) g (r .near) write))
 
-      burst-is : partOf s (send s es (burstPins s q)) ≡ partAfter s p (placed s es (burstPins s q)) (bursts s p bank address lb (o .own) write)
-      burst-is = part-is r (burstPins s q) (bursts s p bank address lb (o .own) write) (burst-carried s (g .sized) q fits)
+      burst-is : partOf s (send placing s es (burstPins true s q)) ≡ partAfter s p (placed placing s es (burstPins true s q)) (bursts s p bank address lb (o .own) write)
+      burst-is = part-is r (burstPins true s q) (bursts s p bank address lb (o .own) write) (burst-carried s (g .sized) q fits)
 
-      pub burst-idle : Idle s (send s es (burstPins s q))
+      pub burst-idle : Idle s (send placing s es (burstPins true s q))
       burst-idle i =
-          ap (λ (x : Part). x .banks i .opened) burst-is ∙ burst-shuts s p bank address lb (o .own) (o .others) (placed s es (burstPins s q)) write i
+          ap (λ (x : Part). x .banks i .opened) burst-is ∙ burst-shuts s p bank address lb (o .own) (o .others) (placed placing s es (burstPins true s q)) write i
 
-      pub burst-ticks : partOf s (send s es (burstPins s q)) .clock ≡ p .clock
-      burst-ticks = ap (λ (x : Part). x .clock) burst-is ∙ burst-clock s p bank address lb (o .own) (placed s es (burstPins s q)) write
+      pub burst-ticks : partOf s (send placing s es (burstPins true s q)) .clock ≡ p .clock
+      burst-ticks = ap (λ (x : Part). x .clock) burst-is ∙ burst-clock s p bank address lb (o .own) (placed placing s es (burstPins true s q)) write

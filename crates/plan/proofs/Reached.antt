@@ -10,6 +10,7 @@ use Rattle.reading.specs.Settings.{Settings}
 use Rattle.reading.specs.Capture.{Event}
 use Rattle.reading.specs.Commands.{Command, commandOf}
 use Rattle.reading.specs.Part.{Part, partAfter}
+use Rattle.reading.specs.Rules.{placing}
 use Rattle.reading.specs.Schedule.{passes, freeFrom, placed, send}
 use Rattle.bridge.specs.Summary.{laid, summary}
 use Rattle.bridge.proofs.Next.{Sound}
@@ -44,25 +45,25 @@ rises-more from (x ∷ es) e r l k = (r .0, r .1, rises-more (suc (x .cycle)) es
 -- what holds of a command that was sent: where it went, and the deadlines d after it
 pub record Sent (s : Settings) (es : List Event) (pins soonest : ℕ) (d : List ℕ) : Type 0 where
   pub goes : Goes s es pins soonest
-  pub cycle : placed s es pins ≡ later (freeFrom 0 es) soonest
-  pub not-before : freeFrom 0 es ≤ placed s es pins
-  pub soon : placed s es pins ≤ freeFrom 0 es + wait
-  pub passed : passes s (partOf s es) pins (placed s es pins) ≡ true
-  pub leaves : deadlinesOf s (send s es pins) ≡ d
-  pub reached : Reached s (send s es pins)
+  pub cycle : placed placing s es pins ≡ later (freeFrom 0 es) soonest
+  pub not-before : freeFrom 0 es ≤ placed placing s es pins
+  pub soon : placed placing s es pins ≤ freeFrom 0 es + wait
+  pub passed : passes placing s (partOf s es) pins (placed placing s es pins) ≡ true
+  pub leaves : deadlinesOf s (send placing s es pins) ≡ d
+  pub reached : Reached s (send placing s es pins)
 
 module _ {s : Settings} {es : List Event} (r : Reached s es) (pins : ℕ) (c : Command) (carried : commandOf pins ≡ c) where
   abbrev next : Part
-  next = partAfter s (partOf s es) (placed s es pins) c
+  next = partAfter s (partOf s es) (placed placing s es pins) c
 
-  pub part-is : partOf s (send s es pins) ≡ next
-  part-is = part-sent s es pins ∙ ap (partAfter s (partOf s es) (placed s es pins)) carried
+  pub part-is : partOf s (send placing s es pins) ≡ next
+  part-is = part-sent s es pins ∙ ap (partAfter s (partOf s es) (placed placing s es pins)) carried
 
-  pub sent : {soonest : ℕ} → Goes s es pins soonest → pins < 2 ^ 20 → next .mode ≡ partOf s es .mode → Sound (suc (placed s es pins)) next →
-      {d : List ℕ} → laid (summary s next) ≡ d → Near (suc (placed s es pins)) d → Sent s es pins soonest d
+  pub sent : {soonest : ℕ} → Goes s es pins soonest → pins < 2 ^ 20 → next .mode ≡ partOf s es .mode → Sound (suc (placed placing s es pins)) next →
+      {d : List ℕ} → laid (summary s next) ≡ d → Near (suc (placed placing s es pins)) d → Sent s es pins soonest d
   unfolding deadlinesOf send
   sent w small mode sound {d} leaves near =
-      let left : laid (summary s (partOf s (send s es pins))) ≡ d = ap (λ (q : Part). laid (summary s q)) part-is ∙ leaves in
+      let left : laid (summary s (partOf s (send placing s es pins))) ≡ d = ap (λ (q : Part). laid (summary s q)) part-is ∙ leaves in
       record {
         goes = w;
         cycle = goes-at w;
@@ -75,7 +76,7 @@ module _ {s : Settings} {es : List Event} (r : Reached s es) (pins : ℕ) (c : C
               mode = ap (λ (q : Part). q .mode) part-is ∙ mode ∙ r .mode;
               sound = rw (free-sent s es pins, part-is) sound;
               near = rw (free-sent s es pins, left) near;
-              rises = rises-more 0 es (record { cycle = placed s es pins; pins = pins }) (r .rises) (goes-free w) small;
+              rises = rises-more 0 es (record { cycle = placed placing s es pins; pins = pins }) (r .rises) (goes-free w) small;
               early = omega (arith, free-sent s es pins, length-sent s es pins, goes-soon w, r .early);
             };
       }

@@ -13,7 +13,8 @@ use Rattle.reading.specs.Settings.{Settings}
 use Rattle.reading.specs.RefreshClock.{clockAtStart}
 use Rattle.reading.specs.Capture.{Event, lastCycle}
 use Rattle.reading.specs.Verdict.{clean, verdictOf, judgeBy, verdictBy}
-use Rattle.reading.specs.Schedule.{asksWrite, requestFits, badRequest, firstCell, cellBank, activePins, burstPins, refreshPins, freeFrom, placed, send, sendRequest, refreshInTime, served, planned, onwards, scheduleFrom, scheduleOf}
+use Rattle.reading.specs.Rules.{placing}
+use Rattle.reading.specs.Schedule.{asksWrite, requestFits, badRequest, firstCell, cellBank, activePins, burstPins, refreshPins, freeFrom, placed, send, sendAll, sendRequest, sendRefresh, refreshInTime, served, planned, whenServed, scheduleFrom, scheduleBy, scheduleOf}
 use Rattle.memory.specs.Serving.{EachFits}
 use Rattle.words.proofs.Search.{none-below}
 use Rattle.deadlines.specs.Deadlines.{DUE, at, soonest, activeAfter, refreshAfter}
@@ -21,7 +22,7 @@ use Rattle.plan.specs.Soonest.{activeSoonest, burstSoonest, refreshSoone
 use Rattle.bridge.specs.Summary.{dueBy}
 use Rattle.plan.specs.Behind.{partOf, deadlinesOf, burstAfter}
 use Rattle.plan.proofs.Ranged.{Ranged}
-use Rattle.plan.proofs.Sending.{free-sent, length-sent, clean-sent}
+use Rattle.plan.proofs.Sending.{free-sent, last-sent, length-sent, clean-sent}
 use Rattle.plan.proofs.Reached.{Rises, Reached, Sent, start-reached}
 use Rattle.plan.proofs.Placed.{Idle, Opened, refresh-sent, refresh-idle, active-sent, active-opens, active-ticks, burst-sent, burst-idle, burst-ticks}
 
@@ -29,30 +30,30 @@ use Rattle.plan.proofs.Placed.{Idle, Opened, refresh-sent, refresh-idle
 abbrev pub dueOf : Settings → List Event → ℕ
 dueOf s es = dueBy s (partOf s es .clock)
 
-in-time : (s : Settings) (es : List Event) → refreshInTime s es ≡ leb (placed s es refreshPins) (dueOf s es)
-unfolding refreshInTime
-in-time s es = refl
+in-time : (s : Settings) (es : List Event) → refreshInTime placing s es ≡ leb (placed placing s es refreshPins) (dueOf s es)
+unfolding refreshInTime sendRefresh sendAll
+in-time s es = ap (λ (t : ℕ). leb t (dueOf s es)) (last-sent s es refreshPins)
 
-pub in-time-le : (s : Settings) (es : List Event) → refreshInTime s es ≡ true → placed s es refreshPins ≤ dueOf s es
-in-time-le s es k = leb-true (placed s es refreshPins) (dueOf s es) (sym (in-time s es) ∙ k)
+pub in-time-le : (s : Settings) (es : List Event) → refreshInTime placing s es ≡ true → placed placing s es refreshPins ≤ dueOf s es
+in-time-le s es k = leb-true (placed placing s es refreshPins) (dueOf s es) (sym (in-time s es) ∙ k)
 
 -- the test of a schedule, by the deadlines
 pub in-time-is : {s : Settings} → Ranged s → {es : List Event} → Reached s es → Idle s es →
-    refreshInTime s es ≡ leb (later (freeFrom 0 es) (refreshSoonest (deadlinesOf s es))) (at (deadlinesOf s es) DUE)
+    refreshInTime placing s es ≡ leb (later (freeFrom 0 es) (refreshSoonest (deadlinesOf s es))) (at (deadlinesOf s es) DUE)
 unfolding deadlinesOf
 in-time-is {s} g {es} r idle = in-time s es ∙ ap (λ (t : ℕ). leb t (dueOf s es)) (refresh-sent g r idle .cycle)
 
 -- a command in time for rule 14
 timely-clean : {s : Settings} {es : List Event} {pins soonest : ℕ} {d : List ℕ} → Sent s es pins soonest d → verdictOf s es ≡ clean →
-    placed s es pins ≤ dueOf s es → verdictOf s (send s es pins) ≡ clean
-timely-clean {s} {es} {pins} w c l = clean-sent s es pins c (w .passed) (le-leb (placed s es pins) (dueOf s es) l)
+    placed placing s es pins ≤ dueOf s es → verdictOf s (send placing s es pins) ≡ clean
+timely-clean {s} {es} {pins} w c l = clean-sent s es pins c (w .passed) (le-leb (placed placing s es pins) (dueOf s es) l)
 
 -- between requests: all banks are idle, all events are clean, and an AUTO REFRESH placed next comes in time
 pub record Ready (s : Settings) (es : List Event) : Type 0 where
   pub reached : Reached s es
   pub idle : Idle s es
   pub judged : verdictOf s es ≡ clean
-  pub timely : refreshInTime s es ≡ true
+  pub timely : refreshInTime placing s es ≡ true
 
 pub start-ready : (s : Settings) → Ranged s → Ready s []
 unfolding verdictBy judgeBy deadlinesOf refreshSoonest soonest freeFrom
@@ -70,45 +71,45 @@ module _ (s : Settings) (g : Ranged s) (q : ℕ) (fits : requestFits s q ≡ tru
   bank = cellBank s (firstCell q)
 
   abbrev opened : List Event
-  opened = send s es (activePins s q)
+  opened = send placing s es (activePins s q)
 
   abbrev alone : List Event
-  alone = sendRequest s es q
+  alone = sendRequest placing s es q
 
-  pub first-sent : Sent s es (activePins s q) (activeSoonest (deadlinesOf s es) bank) (activeAfter s (deadlinesOf s es) (placed s es (activePins s q)) bank)
+  pub first-sent : Sent s es (activePins s q) (activeSoonest (deadlinesOf s es) bank) (activeAfter s (deadlinesOf s es) (placed placing s es (activePins s q)) bank)
   first-sent = active-sent g r q fits idle
 
   o : Opened s opened bank
   o = active-opens g r q fits idle
 
-  pub second-sent : Sent s opened (burstPins s q) (burstSoonest (asksWrite q) (deadlinesOf s opened) bank)
-      (burstAfter (asksWrite q) s (deadlinesOf s opened) (s .mode) (placed s opened (burstPins s q)) bank)
+  pub second-sent : Sent s opened (burstPins true s q) (burstSoonest (asksWrite q) (deadlinesOf s opened) bank)
+      (burstAfter (asksWrite q) s (deadlinesOf s opened) (s .mode) (placed placing s opened (burstPins true s q)) bank)
   second-sent = burst-sent g (first-sent .reached) q fits o
 
-  pub request-reached : Reached s (sendRequest s es q)
-  unfolding sendRequest
+  pub request-reached : Reached s (sendRequest placing s es q)
+  unfolding sendRequest sendAll
   request-reached = second-sent .reached
 
-  pub request-idle : Idle s (sendRequest s es q)
-  unfolding sendRequest
+  pub request-idle : Idle s (sendRequest placing s es q)
+  unfolding sendRequest sendAll
   request-idle = burst-idle g (first-sent .reached) q fits o
 
-  same-due : dueOf s (sendRequest s es q) ≡ dueOf s es
-  unfolding sendRequest
+  same-due : dueOf s (sendRequest placing s es q) ≡ dueOf s es
+  unfolding sendRequest sendAll
   same-due = ap (dueBy s) (burst-ticks g (first-sent .reached) q fits o ∙ active-ticks g r q fits idle)
 
-  request-length : length (sendRequest s es q) ≡ suc (suc (length es))
-  unfolding sendRequest
-  request-length = length-sent s opened (burstPins s q) ∙ ap suc (length-sent s es (activePins s q))
+  request-length : length (sendRequest placing s es q) ≡ suc (suc (length es))
+  unfolding sendRequest sendAll
+  request-length = length-sent s opened (burstPins true s q) ∙ ap suc (length-sent s es (activePins s q))
 
   -- the request's events come before the AUTO REFRESH that is in time
-  request-ready : verdictOf s es ≡ clean → refreshInTime s (sendRequest s es q) ≡ true → Ready s (sendRequest s es q)
-  unfolding sendRequest
+  request-ready : verdictOf s es ≡ clean → refreshInTime placing s (sendRequest placing s es q) ≡ true → Ready s (sendRequest placing s es q)
+  unfolding sendRequest sendAll
   request-ready c k =
-      let last : placed s alone refreshPins ≤ dueOf s es = omega (arith, in-time-le s alone k, same-due) in
-      let burst : placed s opened (burstPins s q) ≤ dueOf s es =
-      omega (arith, last, refresh-sent g request-reached request-idle .not-before, free-sent s opened (burstPins s q)) in
-      let active : placed s es (activePins s q) ≤ dueOf s es = omega (arith, burst, second-sent .not-before, free-sent s es (activePins s q)) in
+      let last : placed placing s alone refreshPins ≤ dueOf s es = omega (arith, in-time-le s alone k, same-due) in
+      let burst : placed placing s opened (burstPins true s q) ≤ dueOf s es =
+      omega (arith, last, refresh-sent g request-reached request-idle .not-before, free-sent s opened (burstPins true s q)) in
+      let active : placed placing s es (activePins s q) ≤ dueOf s es = omega (arith, burst, second-sent .not-before, free-sent s es (activePins s q)) in
       let due : dueOf s opened ≡ dueOf s es = ap (dueBy s) (active-ticks g r q fits idle) in
       record {
         reached = request-reached;
@@ -124,24 +125,24 @@ pub record Served (s : Settings) (es next : List Event) : Type 0 where
   pub few : length next ≤ length es + 3
 
 module _ (s : Settings) (g : Ranged s) where
-  pub served-ready : (es : List Event) → Ready s es → (q : ℕ) → requestFits s q ≡ true → (next : List Event) → served s es q ≡ some next → Served s es next
-  unfolding served
-  served-ready es y q fits next e = go (refreshInTime s alone) refl (refreshInTime s refreshed) refl e
+  pub served-ready : (es : List Event) → Ready s es → (q : ℕ) → requestFits s q ≡ true → (next : List Event) → served placing s es q ≡ some next → Served s es next
+  unfolding served sendRefresh sendAll
+  served-ready es y q fits next e = go (refreshInTime placing s alone) refl (refreshInTime placing s behind) refl e
     where
       alone : List Event
-      alone = sendRequest s es q
+      alone = sendRequest placing s es q
 
       first : List Event
-      first = send s es refreshPins
+      first = send placing s es refreshPins
 
-      refreshed : List Event
-      refreshed = sendRequest s first q
+      behind : List Event
+      behind = sendRequest placing s first q
 
-      ahead : Sent s es refreshPins (refreshSoonest (deadlinesOf s es)) (refreshAfter s (deadlinesOf s es) (placed s es refreshPins))
+      ahead : Sent s es refreshPins (refreshSoonest (deadlinesOf s es)) (refreshAfter s (deadlinesOf s es) (placed placing s es refreshPins))
       ahead = refresh-sent g (y .reached) (y .idle)
 
-      go : (v : Bool) → refreshInTime s alone ≡ v → (w : Bool) → refreshInTime s refreshed ≡ w →
-          cond v (some alone) (cond w (some refreshed) none) ≡ some next → Served s es next
+      go : (v : Bool) → refreshInTime placing s alone ≡ v → (w : Bool) → refreshInTime placing s behind ≡ w →
+          cond v (some alone) (cond w (some behind) none) ≡ some next → Served s es next
       go true k w m f =
           subst (λ (n : List Event). Served s es n) (let z : alone ≡ next = cc in z)
           (record {
@@ -149,7 +150,7 @@ module _ (s : Settings) (g : Ranged s) where
             few = omega (arith, request-length s g q fits es (y .reached) (y .idle));
           })
       go false k true m f =
-          subst (λ (n : List Event). Served s es n) (let z : refreshed ≡ next = cc in z)
+          subst (λ (n : List Event). Served s es n) (let z : behind ≡ next = cc in z)
           (record {
             ready =
                 request-ready s g q fits first (ahead .reached) (refresh-idle g (y .reached) (y .idle))
@@ -160,16 +161,16 @@ module _ (s : Settings) (g : Ranged s) where
 
   -- ---- all requests
 
-  from-ready : (es : List Event) → Ready s es → (i : ℕ) (qs : List ℕ) → EachFits s qs → (last : List Event) → scheduleFrom s es i qs ≡ planned last →
+  from-ready : (es : List Event) → Ready s es → (i : ℕ) (qs : List ℕ) → EachFits s qs → (last : List Event) → scheduleFrom placing s es i qs ≡ planned last →
       Ready s last × (length last ≤ length es + 3 * length qs)
   unfolding scheduleFrom
   from-ready es y i [] fits last e =
       let z : es ≡ last = cc in subst (λ (n : List Event). Ready s n × (length n ≤ length es + 0)) z (y, omega arith)
   from-ready es y i (q ∷ qs) fits last e =
-      go (served s es q) refl e (λ next v k. from-ready next (v .ready) (suc i) qs (λ j l. fits (suc j) (omega arith)) last k)
+      go (served placing s es q) refl e (λ next v k. from-ready next (v .ready) (suc i) qs (λ j l. fits (suc j) (omega arith)) last k)
     where
-      go : (x : Option (List Event)) → served s es q ≡ x → onwards x (λ next. scheduleFrom s next (suc i) qs) i ≡ planned last →
-          ((next : List Event) → Served s es next → scheduleFrom s next (suc i) qs ≡ planned last → Ready s last × (length last ≤ length next + 3 * length qs)) →
+      go : (x : Option (List Event)) → served placing s es q ≡ x → whenServed x (λ next. scheduleFrom placing s next (suc i) qs) i ≡ planned last →
+          ((next : List Event) → Served s es next → scheduleFrom placing s next (suc i) qs ≡ planned last → Ready s last × (length last ≤ length next + 3 * length qs)) →
           Ready s last × (length last ≤ length es + 3 * length (q ∷ qs))
       go none k f ih = let z : _≡_ {A = ℕ} 0 1 = cc in absurd (omega arith)
       go (some next) k f ih =
@@ -201,7 +202,7 @@ module _ (s : Settings) (qs : List ℕ) (good : badRequest s qs ≡ none) where
   requests-fit i l = not-false (requestFits s (getD qs i 0)) (none-below (λ j. not (requestFits s (getD qs j 0))) (length qs) (nothing-bad .1) i l)
 
   pub schedule-planned : Ranged s → (es : List Event) → scheduleOf s qs ≡ planned es → Planned s qs es
-  unfolding scheduleOf
+  unfolding scheduleBy
   schedule-planned g es e =
       let (y, few) = from-ready s g [] (start-ready s g) 0 qs requests-fit es e in
       record {

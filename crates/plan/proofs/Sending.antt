@@ -16,7 +16,7 @@ use Rattle.reading.specs.Commands.{commandOf}
 use Rattle.reading.specs.Part.{Part, start, partAfter, step, run}
 use Rattle.reading.specs.Rules.{keepsRule, rule14, placing, brokenBy}
 use Rattle.reading.specs.Verdict.{clean, brokenOr, judgeFrom, verdictOf, judgeBy, verdictBy}
-use Rattle.reading.specs.Schedule.{passes, earliest, freeFrom, placed, send}
+use Rattle.reading.specs.Schedule.{passes, earliest, freeFrom, lastFrom, placed, send}
 use Rattle.reading.proofs.Found.{earliest-is}
 use Rattle.plan.specs.Behind.{partOf}
 use Rattle.plan.proofs.Near.{wait, later-most}
@@ -58,6 +58,11 @@ unfolding freeFrom
 free-more from [] e = refl
 free-more from (x ∷ es) e = free-more (suc (x .cycle)) es e
 
+last-more : (t : ℕ) (es : List Event) (e : Event) → lastFrom t (es ++ (e ∷ [])) ≡ e .cycle
+unfolding lastFrom
+last-more t [] e = refl
+last-more t (x ∷ es) e = last-more (x .cycle) es e
+
 clean-more : (s : Settings) (p : Part) (i : ℕ) (es : List Event) (e : Event) → judgeFrom s p i es ≡ clean → brokenBy s (run s p es) e ≡ none →
     judgeFrom s p i (es ++ (e ∷ [])) ≡ clean
 unfolding judgeBy
@@ -84,46 +89,50 @@ none-with f r (q ∷ rs) a b = go (f q) refl a (none-with f r rs)
 
 module _ (s : Settings) (es : List Event) (pins : ℕ) where
   abbrev event : Event
-  event = record { cycle = placed s es pins; pins = pins }
+  event = record { cycle = placed placing s es pins; pins = pins }
 
-  pub free-sent : freeFrom 0 (send s es pins) ≡ suc (placed s es pins)
+  pub free-sent : freeFrom 0 (send placing s es pins) ≡ suc (placed placing s es pins)
   unfolding send
   free-sent = free-more 0 es event
 
-  pub length-sent : length (send s es pins) ≡ suc (length es)
+  pub last-sent : lastFrom 0 (send placing s es pins) ≡ placed placing s es pins
+  unfolding send
+  last-sent = last-more 0 es event
+
+  pub length-sent : length (send placing s es pins) ≡ suc (length es)
   unfolding send
   length-sent = omega (arith, length-append es (event ∷ []))
 
-  pub part-sent : partOf s (send s es pins) ≡ partAfter s (partOf s es) (placed s es pins) (commandOf pins)
+  pub part-sent : partOf s (send placing s es pins) ≡ partAfter s (partOf s es) (placed placing s es pins) (commandOf pins)
   unfolding send
   part-sent = run-more s (start s) es event
 
   -- where rules 1 to 13 pass it, and in time for rule 14, it is judged clean too
-  pub clean-sent : verdictOf s es ≡ clean → passes s (partOf s es) pins (placed s es pins) ≡ true →
-      rule14 s (partOf s es) (placed s es pins) (commandOf pins) ≡ true → verdictOf s (send s es pins) ≡ clean
+  pub clean-sent : verdictOf s es ≡ clean → passes placing s (partOf s es) pins (placed placing s es pins) ≡ true →
+      rule14 s (partOf s es) (placed placing s es pins) (commandOf pins) ≡ true → verdictOf s (send placing s es pins) ≡ clean
   unfolding verdictBy send passes
   clean-sent c k l =
-      clean-more s (start s) 0 es event c (none-with (λ r. keepsRule r s (partOf s es) (placed s es pins) (commandOf pins)) 14 placing k l)
+      clean-more s (start s) 0 es event c (none-with (λ r. keepsRule r s (partOf s es) (placed placing s es pins) (commandOf pins)) 14 placing k l)
 
 -- rules 1 to 13 pass it from the cycle `soonest` on, which is not far
 pub record Goes (s : Settings) (es : List Event) (pins soonest : ℕ) : Type 0 where
-  pub passing : (t : ℕ) → passes s (partOf s es) pins t ≡ leb soonest t
+  pub passing : (t : ℕ) → passes placing s (partOf s es) pins t ≡ leb soonest t
   pub soon : soonest ≤ freeFrom 0 es + wait
 
 module _ {s : Settings} {es : List Event} {pins soonest : ℕ} (w : Goes s es pins soonest) where
-  pub goes-at : placed s es pins ≡ later (freeFrom 0 es) soonest
+  pub goes-at : placed placing s es pins ≡ later (freeFrom 0 es) soonest
   unfolding placed
-  goes-at = earliest-from (passes s (partOf s es) pins) soonest (w .passing) (freeFrom 0 es) lastCycle (omega (arith, w .soon))
+  goes-at = earliest-from (passes placing s (partOf s es) pins) soonest (w .passing) (freeFrom 0 es) lastCycle (omega (arith, w .soon))
 
-  pub goes-free : freeFrom 0 es ≤ placed s es pins
+  pub goes-free : freeFrom 0 es ≤ placed placing s es pins
   goes-free = rw goes-at (later-first (freeFrom 0 es) soonest)
 
-  pub goes-soonest : soonest ≤ placed s es pins
+  pub goes-soonest : soonest ≤ placed placing s es pins
   goes-soonest = rw goes-at (later-second (freeFrom 0 es) soonest)
 
-  pub goes-soon : placed s es pins ≤ freeFrom 0 es + wait
+  pub goes-soon : placed placing s es pins ≤ freeFrom 0 es + wait
   goes-soon = rw goes-at (later-most (freeFrom 0 es) soonest (freeFrom 0 es + wait) (omega arith) (w .soon))
 
   -- the search ends where it should: at a cycle that rules 1 to 13 pass
-  pub goes-passes : passes s (partOf s es) pins (placed s es pins) ≡ true
-  goes-passes = w .passing (placed s es pins) ∙ le-leb soonest (placed s es pins) goes-soonest
+  pub goes-passes : passes placing s (partOf s es) pins (placed placing s es pins) ≡ true
+  goes-passes = w .passing (placed placing s es pins) ∙ le-leb soonest (placed placing s es pins) goes-soonest

@@ -6,7 +6,7 @@ use mathlib.Core.Path.{_≡_}
 use lib.ListN.{length}
 use Rattle.reading.specs.Words.{wordAt, wordBytes, bytesOf}
 use Rattle.reading.specs.Settings.{Settings, settingsOf, settingFits, badSetting}
-use Rattle.reading.specs.Capture.{Event, settingWords, eventsOf, badLength, headerFits, eventFits, badEvent}
+use Rattle.reading.specs.Capture.{Event, settingWords, eventsOf, lengthFits, headerFits, eventFits, badEvent}
 use Rattle.reading.specs.Bursts.{burstCells, beatCell, beatColumn, place}
 use Rattle.reading.specs.Verdict.{Verdict, clean, broken, verdictOf, judgedOf, judgeBy, verdictBy}
 use Rattle.reading.specs.Cells.{burstsOf, cellsOf}
@@ -89,7 +89,7 @@ answerSaid cells (answered r) = verdictSaid (r .judged) cells (r .verdict)
 
 -- to unfold this is to unfold all that a capture's answers are made of
 said : List ℕ → Said
-unfolding answerSaid verdictSaid captureOf eventWords bytesOf wordBytes wordAt judgeAnswer accepted verdictIn cellsIn settingWords badSetting settingFits eventsOf badLength headerFits eventFits badEvent verdictBy judgeBy cellsOf burstsOf burstCells beatCell beatColumn place
+unfolding answerSaid verdictSaid captureOf eventWords bytesOf wordBytes wordAt judgeAnswer accepted verdictIn cellsIn settingWords badSetting settingFits eventsOf lengthFits headerFits eventFits badEvent verdictBy judgeBy cellsOf burstsOf burstCells beatCell beatColumn place
 said capture = answerSaid (cellsIn capture) (judgeAnswer capture)
 
 record Case : Type 0 where

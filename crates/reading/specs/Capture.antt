@@ -43,22 +43,22 @@ countIn capture = settingsCount
 unfoldable pub settingWords : List ℕ → List ℕ
 settingWords capture = map (λ i. wordAt capture (settingsStart + 4 * i)) (count 0 (countIn capture))
 
--- the part of the capture that starts where events start; event i stands at 8 i in it
+-- the bytes from where events start; event i stands at 8 i in them
 abbrev pub eventBytes : List ℕ → List ℕ
 eventBytes capture = drop (eventsStart (countIn capture)) capture
 
 abbrev pub eventAt : List ℕ → ℕ → Event
-eventAt part i = record { cycle = wordAt part (8 * i); pins = wordAt part (8 * i + 4) }
+eventAt bytes i = record { cycle = wordAt bytes (8 * i); pins = wordAt bytes (8 * i + 4) }
 
 unfoldable pub eventsOf : List ℕ → List Event
 eventsOf capture = map (eventAt (eventBytes capture)) (count 0 (eventCount capture))
 
--- shorter than without events, longer than with the most, or not of its stated total
-unfoldable pub badLength : List ℕ → Bool
-badLength capture =
-    ltb (length capture) (captureSize (countIn capture) 0)
-    || ltb (captureSize (countIn capture) mostEvents) (length capture)
-    || not (eqb (headerWord capture 0) (length capture))
+-- at least as long as without events, at most as long as with the most, and as long as the first header word says
+unfoldable pub lengthFits : List ℕ → Bool
+lengthFits capture =
+    leb (captureSize (countIn capture) 0) (length capture)
+    && leb (length capture) (captureSize (countIn capture) mostEvents)
+    && eqb (headerWord capture 0) (length capture)
 
 -- every other header word is as it should be, and the total is that of N events
 unfoldable pub headerFits : List ℕ → Bool
@@ -79,11 +79,11 @@ pinBits capture = 20
 
 -- the cycle is not too large and above the one before
 abbrev pub cycleFits : List ℕ → ℕ → Bool
-cycleFits part i = leb (eventAt part i .cycle) lastCycle && (eqb i 0 || ltb (eventAt part (i - 1) .cycle) (eventAt part i .cycle))
+cycleFits bytes i = leb (eventAt bytes i .cycle) lastCycle && (eqb i 0 || ltb (eventAt bytes (i - 1) .cycle) (eventAt bytes i .cycle))
 
 unfoldable pub eventFits : ℕ → List ℕ → ℕ → Bool
-eventFits bits part i = ltb (eventAt part i .pins) (2 ^ bits) && cycleFits part i
+eventFits bits bytes i = ltb (eventAt bytes i .pins) (2 ^ bits) && cycleFits bytes i
 
 -- the lowest of n events that does not fit
 unfoldable pub badEvent : ℕ → List ℕ → ℕ → Option ℕ
-badEvent bits part n = lowest (λ i. not (eventFits bits part i)) n
+badEvent bits bytes n = lowest (λ i. not (eventFits bits bytes i)) n

@@ -1,6 +1,6 @@
 -- The fixed schedule of a list of requests.
 use Prim.Native.Nat.{ℕ, zero, suc, _+_, _*_, _/_, _%_, _^_}
-use mathlib.Core.Bool.{Bool, cond, not, _&&_}
+use mathlib.Core.Bool.{Bool, true, cond, not, _&&_}
 use mathlib.Core.List.{List, [], _∷_, _++_}
 use mathlib.Core.Option.{Option, none, some}
 use lib.ListN.{length, getD}
@@ -37,24 +37,27 @@ requestFits s q = eqb (q / 2 ^ 27 % 2 ^ 4) 0 && ltb (cellBank s (firstCell q)) 4
 unfoldable pub badRequest : Settings → List ℕ → Option ℕ
 badRequest s qs = cond (ltb 2000 (length qs)) (some 2000) (lowest (λ i. not (requestFits s (getD qs i 0))) (length qs))
 
--- the pins of a request's commands; those that are not named are 0
+-- the pins of a schedule's commands; those that are not named are 0
 abbrev pub activePins : Settings → ℕ → ℕ
 activePins s q = pinsOf ACTIVE (cellBank s (firstCell q)) (cellRow s (firstCell q))
 
 -- column bits 0-9 on A0-A9, bit 10 on A11; A10 asks for auto precharge
-abbrev pub columnPins : ℕ → ℕ
-columnPins column = column % 2 ^ 10 + 2 ^ 10 + 2 ^ 11 * (column / 2 ^ 10)
+abbrev pub columnPins : Bool → ℕ → ℕ
+columnPins A10 column = column % 2 ^ 10 + cond A10 (2 ^ 10) 0 + 2 ^ 11 * (column / 2 ^ 10)
 
-abbrev pub burstPins : Settings → ℕ → ℕ
-burstPins s q =
-    pinsOf (cond (asksWrite q) WRITE READ) (cellBank s (firstCell q)) (columnPins (cellColumn s (firstCell q)))
+abbrev pub burstPins : Bool → Settings → ℕ → ℕ
+burstPins A10 s q =
+    pinsOf (cond (asksWrite q) WRITE READ) (cellBank s (firstCell q)) (columnPins A10 (cellColumn s (firstCell q)))
 
 abbrev pub refreshPins : ℕ
 refreshPins = pinsOf AUTO-REFRESH 0 0
 
--- rules 1-13 pass the pins at t
-unfoldable pub passes : Settings → Part → ℕ → ℕ → Bool
-passes s p pins t = every (λ r. keepsRule r s p t (commandOf pins)) placing
+-- the commands of a request, and those of a refresh, for the part as it stands
+abbrev pub requestCommands : Settings → Part → ℕ → List ℕ
+requestCommands s p q = activePins s q ∷ burstPins true s q ∷ []
+
+abbrev pub refreshCommands : Part → List ℕ
+refreshCommands p = refreshPins ∷ []
 
 -- the earliest cycle, not before `from`, at which f holds, looked for through n cycles
 unfoldable pub earliest : (ℕ → Bool) → ℕ → ℕ → ℕ
@@ -66,42 +69,63 @@ unfoldable pub freeFrom : ℕ → List Event → ℕ
 freeFrom from [] = from
 freeFrom from (e ∷ es) = freeFrom (suc (e .cycle)) es
 
--- where a command behind these events goes: the earliest cycle after them at which rules 1-13 pass it
-unfoldable pub placed : Settings → List Event → ℕ → ℕ
-placed s es pins = earliest (passes s (run s (start s) es) pins) (freeFrom 0 es) lastCycle
-
-unfoldable pub send : Settings → List Event → ℕ → List Event
-send s es pins = es ++ (record { cycle = placed s es pins; pins = pins } ∷ [])
-
-unfoldable pub sendRequest : Settings → List Event → ℕ → List Event
-sendRequest s es q = send s (send s es (activePins s q)) (burstPins s q)
-
--- an AUTO REFRESH placed next comes in time
-unfoldable pub refreshInTime : Settings → List Event → Bool
-refreshInTime s es = inTime s (run s (start s) es .clock) (placed s es refreshPins)
-
--- the events with those of one more request; none if refresh cannot be kept
-unfoldable pub served : Settings → List Event → ℕ → Option (List Event)
-served s es q =
-    let alone = sendRequest s es q in
-    let lastRefresh = sendRequest s (send s es refreshPins) q in
-    cond (refreshInTime s alone) (some alone) (cond (refreshInTime s refreshed) (some refreshed) none)
+-- the cycle of the last event
+unfoldable pub lastFrom : ℕ → List Event → ℕ
+lastFrom t [] = t
+lastFrom t (e ∷ es) = lastFrom (e .cycle) es
 
 pub data Schedule : Type 0 where
   planned : List Event → Schedule
   -- the request at which refresh cannot be kept
   late : ℕ → Schedule
 
-abbrev pub onwards : Option (List Event) → (List Event → Schedule) → ℕ → Schedule
-onwards none f i = late i
-onwards (some es) f i = f es
+abbrev pub whenServed : Option (List Event) → (List Event → Schedule) → ℕ → Schedule
+whenServed none f i = late i
+whenServed (some es) f i = f es
 
-unfoldable pub scheduleFrom : Settings → List Event → ℕ → List ℕ → Schedule
-scheduleFrom s es i [] = planned es
-scheduleFrom s es i (q ∷ qs) = onwards (served s es q) (λ next. scheduleFrom s next (suc i) qs) i
+-- by some rules, listed by their numbers
+module _ (rs : List ℕ) (s : Settings) where
+  -- the rules pass the pins at t
+  unfoldable pub passes : Part → ℕ → ℕ → Bool
+  passes p pins t = every (λ r. keepsRule r s p t (commandOf pins)) rs
 
-unfoldable pub scheduleOf : Settings → List ℕ → Schedule
-scheduleOf s qs = scheduleFrom s [] 0 qs
+  -- where a command behind these events goes: the earliest cycle after them at which the rules pass it
+  unfoldable pub placed : List Event → ℕ → ℕ
+  placed es pins = earliest (passes (run s (start s) es) pins) (freeFrom 0 es) lastCycle
+
+  unfoldable pub send : List Event → ℕ → List Event
+  send es pins = es ++ (record { cycle = placed es pins; pins = pins } ∷ [])
+
+  unfoldable pub sendAll : List Event → List ℕ → List Event
+  sendAll es [] = es
+  sendAll es (pins ∷ more) = sendAll (send es pins) more
+
+  unfoldable pub sendRequest : List Event → ℕ → List Event
+  sendRequest es q = sendAll es (requestCommands s (run s (start s) es) q)
+
+  unfoldable pub sendRefresh : List Event → List Event
+  sendRefresh es = sendAll es (refreshCommands (run s (start s) es))
+
+  -- an AUTO REFRESH sent next comes in time
+  unfoldable pub refreshInTime : List Event → Bool
+  refreshInTime es = inTime s (run s (start s) es .clock) (lastFrom 0 (sendRefresh es))
+
+  -- the events with those of one more request; none if refresh cannot be kept
+  unfoldable pub served : List Event → ℕ → Option (List Event)
+  served es q =
+      let alone = sendRequest es q in
+      let behind = sendRequest (sendRefresh es) q in
+      cond (refreshInTime alone) (some alone) (cond (refreshInTime behind) (some behind) none)
+
+  unfoldable pub scheduleFrom : List Event → ℕ → List ℕ → Schedule
+  scheduleFrom es i [] = planned es
+  scheduleFrom es i (q ∷ qs) = whenServed (served es q) (λ next. scheduleFrom next (suc i) qs) i
+
+  unfoldable pub scheduleBy : List ℕ → Schedule
+  scheduleBy qs = scheduleFrom [] 0 qs
+
+abbrev pub scheduleOf : Settings → List ℕ → Schedule
+scheduleOf = scheduleBy placing
 
 -- a whole capture: header, settings, events
 unfoldable pub eventWords : List Event → List ℕ

@@ -8,7 +8,7 @@ use console::say_number;
 use judge::Verdict;
 
 // One byte more than the longest capture, so that a longer input is seen to be too long and nothing is judged in part.
-const ROOM: usize = 64_081;
+const ROOM: usize = capture::MOST + 1;
 
 fn print_counts(out: &mut Out, events: u32, judged: u32) {
     say_number(out, b"events ", events);

@@ -82,7 +82,7 @@ fn burst_code(write: bool) -> u32
 // Column bits 0-9 on A0-A9, bit 10 on A11; A10 asks for auto precharge.
 fn column_pins(column: u32) -> u32
     requires { ⌜ column < 16384 ⌝ }
-    ensures { λ r. ⌜ r ≡ columnPins column ⌝ }
+    ensures { λ r. ⌜ r ≡ columnPins true column ⌝ }
     ensures { λ r. ⌜ r < 65536 ⌝ }
 {
     column % 1024 + 1024 + 2048 * (column / 1024)
@@ -90,7 +90,7 @@ fn column_pins(column: u32) -> u32
 
 pub fn burst_pins(s: &Settings, q: u32) -> u32
     requires { ⌜ Asked (settingsOf (now s)) q ⌝ }
-    ensures { λ r. ⌜ r ≡ burstPins (settingsOf (now (s .entry))) q ⌝ }
+    ensures { λ r. ⌜ r ≡ burstPins true (settingsOf (now (s .entry))) q ⌝ }
 {
     let code = burst_code(asks_write(q));
     column_pins(column(s, q)) + pins::BANK * bank(s, q) + code

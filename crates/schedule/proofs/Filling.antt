@@ -8,6 +8,7 @@ use native.Mathlib.Omega.{arith}
 use lib.ListN.{length, set, getD, take, drop, replicate, length-set, length-take}
 use lib.Seq.{sets, sets-eq, length-sets, take-suc, drop-cons}
 use Rattle.reading.specs.Words.{wordBytes, bytesOf}
+use Rattle.reading.specs.Settings.{settingsCount}
 use Rattle.reading.specs.Capture.{Event}
 use Rattle.reading.specs.Schedule.{eventWords}
 use Rattle.words.proofs.Words.{sets-words}
@@ -25,20 +26,20 @@ front vs l h = sets-eq vs l 0 (omega arith) ∙ ap (λ (k : ℕ). vs ++ drop k l
 -- ---- the settings as an array
 
 pub record Loading (settings s : List ℕ) (i : ℕ) : Type 0 where
-  pub within : i ≤ 14
-  pub full : length s ≡ 14
+  pub within : i ≤ settingsCount
+  pub full : length s ≡ settingsCount
   pub same : sets s i (drop i settings) ≡ settings
 
-pub begins : (settings : List ℕ) → length settings ≡ 14 → Loading settings (replicate 14 0) 0
+pub begins : (settings : List ℕ) → length settings ≡ settingsCount → Loading settings (replicate settingsCount 0) 0
 begins settings h =
     record {
       within = omega arith;
       full = refl;
-      same = front settings (replicate 14 0) (omega arith) ∙ ap (λ (k : ℕ). settings ++ drop k (replicate 14 0)) h ∙ append-nil settings;
+      same = front settings (replicate settingsCount 0) (omega arith) ∙ ap (λ (k : ℕ). settings ++ drop k (replicate settingsCount 0)) h ∙ append-nil settings;
     }
 
-module _ {settings s : List ℕ} {i : ℕ} (h : length settings ≡ 14) (x : Loading settings s i) where
-  pub goes-on : i < 14 → Loading settings (set s i (getD settings i 0)) (i + 1)
+module _ {settings s : List ℕ} {i : ℕ} (h : length settings ≡ settingsCount) (x : Loading settings s i) where
+  pub goes-on : i < settingsCount → Loading settings (set s i (getD settings i 0)) (i + 1)
   goes-on l =
       record {
         within = omega arith;
@@ -46,7 +47,7 @@ module _ {settings s : List ℕ} {i : ℕ} (h : length settings ≡ 14) (x : Loa
         same = rw (add-one i) (sym (ap (sets s i) (drop-cons settings i 0 (omega arith))) ∙ x .same);
       }
 
-  pub ends : 14 ≤ i → s ≡ settings
+  pub ends : settingsCount ≤ i → s ≡ settings
   ends l = sym (ap (sets s i) (none-behind settings i (omega arith))) ∙ x .same
 
 -- ---- words in a row

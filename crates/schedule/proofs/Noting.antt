@@ -1,5 +1,6 @@
 -- The events of a request, stored one behind the other.
 use Prim.Native.Nat.{ℕ, suc, _+_, _*_}
+use mathlib.Core.Bool.{true}
 use mathlib.Core.List.{List, [], _∷_}
 use mathlib.Core.Path.{_≡_, _∙_}
 use native.Mathlib.Omega.{arith}
@@ -9,7 +10,7 @@ use Rattle.reading.specs.Schedule.{activePins, burstPins, refreshPins, eventWor
 use Rattle.turns.specs.Events.{requestEvents, behindEvents}
 
 -- a request's two
-pub noted-two : (s : Settings) (q n t u : ℕ) (w : List ℕ) {active burst : ℕ} → active ≡ activePins s q → burst ≡ burstPins s q → {w₁ w₂ : List ℕ} →
+pub noted-two : (s : Settings) (q n t u : ℕ) (w : List ℕ) {active burst : ℕ} → active ≡ activePins s q → burst ≡ burstPins true s q → {w₁ w₂ : List ℕ} →
     w₁ ≡ sets w (2 * n) (t ∷ active ∷ []) → w₂ ≡ sets w₁ (2 * (n + 1)) (u ∷ burst ∷ []) →
     w₂ ≡ sets w (2 * n) (eventWords (requestEvents s t u q))
 unfolding eventWords

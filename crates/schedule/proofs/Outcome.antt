@@ -11,7 +11,7 @@ use lib.Seq.{sets, length-sets, take-append-le, take-length}
 use borrow.Author.Tests.{eqb-true, ltb-false}
 use Rattle.reading.specs.Search.{given}
 use Rattle.reading.specs.Words.{bytesOf}
-use Rattle.reading.specs.Settings.{settingsOf, badSetting}
+use Rattle.reading.specs.Settings.{settingsCount, settingsOf, badSetting}
 use Rattle.reading.specs.Capture.{Event}
 use Rattle.reading.specs.Schedule.{Schedule, planned, late, badRequest, scheduleOf, eventWords, captureOf}
 use Rattle.reading.specs.Answers.{Answer, refused, answered, unless, Outcome, leaves, whenPlanned, fitting, scheduleOutcome}
@@ -57,17 +57,17 @@ module _ (x y : Option ℕ) where
       go none (some q) e = let z : _≡_ {A = ℕ} 0 1 = cc in absurd (omega arith)
       go (some q) y e = let z : _≡_ {A = ℕ} 0 1 = cc in absurd (omega arith)
 
-right-count : (n : ℕ) → given 0 (not (eqb n 14)) ≡ none → n ≡ 14
-right-count n e = go (eqb n 14) refl e
+right-count : (n : ℕ) → given 0 (not (eqb n settingsCount)) ≡ none → n ≡ settingsCount
+right-count n e = go (eqb n settingsCount) refl e
   where
-    go : (v : Bool) → eqb n 14 ≡ v → given 0 (not v) ≡ none → n ≡ 14
-    go true k e = eqb-true n 14 k
+    go : (v : Bool) → eqb n settingsCount ≡ v → given 0 (not v) ≡ none → n ≡ settingsCount
+    go true k e = eqb-true n settingsCount k
     go false k e = let z : _≡_ {A = ℕ} 0 1 = cc in absurd (omega arith)
 
 module _ (ws qs out : List ℕ) where
   unfit : (k p : ℕ) → refused k p ≡ checked ws → scheduleOutcome ws qs out ≡ leaves (refused k p) out
   unfolding scheduleOutcome checked
-  unfit k p e = ap (λ (a : Answer (List ℕ)). leaves a out) (refused-so (given 0 (not (eqb (length ws) 14))) (badSetting ws) _ k p e)
+  unfit k p e = ap (λ (a : Answer (List ℕ)). leaves a out) (refused-so (given 0 (not (eqb (length ws) settingsCount))) (badSetting ws) _ k p e)
 
   pub refuses : (r : Checked) → settings.means r ≡ checked ws → {number place : ℕ} → r ≡ check.Refused number place →
       Ends (scheduleOutcome ws qs out) (Refused number place) out
@@ -76,13 +76,13 @@ module _ (ws qs out : List ℕ) where
 -- ---- settings that fit
 
 pub record Right (ws : List ℕ) : Type 0 where
-  pub count : length ws ≡ 14
+  pub count : length ws ≡ settingsCount
   pub each : badSetting ws ≡ none
 
 pub right : (ws : List ℕ) (r : Checked) → settings.means r ≡ checked ws → r ≡ check.Fine → Right ws
 unfolding checked
 right ws r e f =
-    let (x, y) = fine-so (given 0 (not (eqb (length ws) 14))) (badSetting ws) (sym (ap settings.means f) ∙ e) in
+    let (x, y) = fine-so (given 0 (not (eqb (length ws) settingsCount))) (badSetting ws) (sym (ap settings.means f) ∙ e) in
     record { count = right-count (length ws) x; each = y }
 
 module _ {ws : List ℕ} (fit : Right ws) {s : List ℕ} (same : s ≡ ws) where

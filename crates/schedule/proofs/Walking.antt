@@ -13,7 +13,8 @@ use lib.ListN.{length, getD, drop, length-append}
 use lib.Seq.{sets, length-sets, drop-cons}
 use Rattle.reading.specs.Settings.{Settings, settingsOf}
 use Rattle.reading.specs.Capture.{Event}
-use Rattle.reading.specs.Schedule.{planned, late, firstCell, cellBank, requestFits, freeFrom, served, onwards, scheduleFrom, scheduleOf, eventWords}
+use Rattle.reading.specs.Rules.{placing}
+use Rattle.reading.specs.Schedule.{planned, late, firstCell, cellBank, requestFits, freeFrom, served, whenServed, scheduleFrom, scheduleBy, scheduleOf, eventWords}
 use Rattle.words.proofs.Runs.{sets-append}
 use Rattle.deadlines.specs.Deadlines.{BUSY, at}
 use Rattle.deadlines.specs.Deadlines as all
@@ -23,7 +24,7 @@ use Rattle.bridge.proofs.Turn.{start-laid}
 use Rattle.requests.specs.Asked.{Asked}
 use Rattle.plan.specs.Behind.{partOf, deadlinesOf}
 use Rattle.plan.proofs.Ranged.{Ranged, ranged}
-use Rattle.plan.proofs.Pins.{bank-small}
+use Rattle.memory.proofs.Pins.{bank-small}
 use Rattle.plan.proofs.Captured.{words-length, settings-fit}
 use Rattle.plan.proofs.Ready.{Ready, start-ready, Served, served-ready, few-requests, requests-fit}
 use Rattle.turns.specs.declared.Placed.{Placed}
@@ -66,7 +67,7 @@ module _ (ws qs w₀ : List ℕ) where
     pub few : length es ≤ 3 * i
     pub within : i ≤ length qs
     pub noted : words ≡ sets w₀ 0 (eventWords es)
-    pub decides : scheduleOf (settingsOf ws) qs ≡ scheduleFrom (settingsOf ws) es i (drop i qs)
+    pub decides : scheduleOf (settingsOf ws) qs ≡ scheduleFrom placing (settingsOf ws) es i (drop i qs)
 
   module _ (p : Plannable ws qs w₀) where
     g : Ranged s
@@ -80,7 +81,7 @@ module _ (ws qs w₀ : List ℕ) where
     begins = refl
 
     pub walk-begins : Walked w₀ (startOf (settingsOf ws)) 0 0 0
-    unfolding scheduleOf deadlinesOf freeFrom eventWords
+    unfolding scheduleBy deadlinesOf freeFrom eventWords
     walk-begins =
         record {
           es = [];
@@ -117,7 +118,7 @@ module _ (ws qs w₀ : List ℕ) where
       pub walk-ends : length qs ≤ i → (Events n ≡ plannedAs (scheduleOf (settingsOf ws) qs)) × Noted (scheduleOf (settingsOf ws) qs) w₀ words
       unfolding scheduleFrom
       walk-ends l =
-          let e : scheduleOf s qs ≡ planned (x .es) = x .decides ∙ ap (scheduleFrom s (x .es) i) (none-behind qs i l) in
+          let e : scheduleOf s qs ≡ planned (x .es) = x .decides ∙ ap (scheduleFrom placing s (x .es) i) (none-behind qs i l) in
           rw e (ap Events (x .counted), record { words = λ es k. let z : x .es ≡ es = cc in x .noted ∙ ap (λ (l : List Event). sets w₀ 0 (eventWords l)) z })
 
       module _ (l : i < length qs) where
@@ -139,9 +140,9 @@ module _ (ws qs w₀ : List ℕ) where
         early : freeFrom 0 (x .es) + 60000 ≤ far
         early = omega (arith, x .ready .reached .early, x .few, most)
 
-        unfolds : scheduleOf s qs ≡ onwards (served s (x .es) q) (λ more. scheduleFrom s more (suc i) (drop (suc i) qs)) i
+        unfolds : scheduleOf s qs ≡ whenServed (served placing s (x .es) q) (λ more. scheduleFrom placing s more (suc i) (drop (suc i) qs)) i
         unfolding scheduleFrom
-        unfolds = x .decides ∙ ap (scheduleFrom s (x .es) i) (drop-cons qs i 0 l)
+        unfolds = x .decides ∙ ap (scheduleFrom placing s (x .es) i) (drop-cons qs i 0 l)
 
         abbrev D : List ℕ
         D = deadlinesOf s (x .es)
@@ -150,7 +151,7 @@ module _ (ws qs w₀ : List ℕ) where
         F = freeFrom 0 (x .es)
 
         lb : cellBank s (firstCell q) < 4
-        lb = bank-small s g q fits
+        lb = bank-small s (g .sized) q fits
 
         abbrev t : Turn
         t = serving (settingsOf ws) k free (getD qs i 0)
@@ -179,7 +180,7 @@ module _ (ws qs w₀ : List ℕ) where
         goes-on e {more} mm kk nn ww ff =
             let kept : turning s D F q .kept ≡ true = sym (ap (λ (y : Turn). y .kept) turned-is) ∙ e in
             let v : Taken s (x .es) q t (turnedAfter s D F q) = rw turned-is (turn-taken s g q fits (x .es) (x .ready) early refl refl kept) in
-            let serves : served s (x .es) q ≡ some (x .es ++ more) = rw (← mm) (v .serves) in
+            let serves : served placing s (x .es) q ≡ some (x .es ++ more) = rw (← mm) (v .serves) in
             let leaves : turnedAfter s D F q ≡ deadlinesOf s (x .es ++ more) = rw (← mm) (v .leaves) in
             let free : freeFrom 0 (x .es ++ more) ≡ t .burst + 1 = rw (← mm) (v .next) in
             let next : turning s D F q .burst + 1 ≡ freeFrom 0 (x .es ++ more) = ap (λ (y : Turn). y .burst + 1) (sym turned-is) ∙ sym free in
@@ -202,8 +203,8 @@ module _ (ws qs w₀ : List ℕ) where
                   ∙ sets-append w₀ 0 (eventWords (x .es)) (eventWords more)
                   ∙ ap (sets w₀ 0) (sym (words-append (x .es) more));
               decides =
-                  unfolds ∙ ap (λ (o : Option (List Event)). onwards o (λ z. scheduleFrom s z (suc i) (drop (suc i) qs)) i) serves
-                  ∙ ap (λ (j : ℕ). scheduleFrom s (x .es ++ more) j (drop j qs)) (sym (add-one i));
+                  unfolds ∙ ap (λ (o : Option (List Event)). whenServed o (λ z. scheduleFrom placing s z (suc i) (drop (suc i) qs)) i) serves
+                  ∙ ap (λ (j : ℕ). scheduleFrom placing s (x .es ++ more) j (drop j qs)) (sym (add-one i));
             }
 
         module _ {placed : Placed} (said : placed ≡ told (serving (settingsOf ws) k free (getD qs i 0))) where
@@ -213,7 +214,7 @@ module _ (ws qs w₀ : List ℕ) where
               let late-is = sym (ap (λ (y : Turn). y .kept) turned-is) ∙ told-late t said e in
               let none-is = turn-late s g q fits (x .es) (x .ready) early refl refl late-is in
               let so : scheduleOf s qs ≡ late i =
-              unfolds ∙ ap (λ (o : Option (List Event)). onwards o (λ more. scheduleFrom s more (suc i) (drop (suc i) qs)) i) none-is in
+              unfolds ∙ ap (λ (o : Option (List Event)). whenServed o (λ more. scheduleFrom placing s more (suc i) (drop (suc i) qs)) i) none-is in
               rw so (refl, record { words = λ es m. let z : _≡_ {A = ℕ} 0 1 = cc in absurd (omega arith) })
 
           module _ {active burst : ℕ} {k′ words′ : List ℕ} {free′ : ℕ} (kk : k′ ≡ servedAfter (settingsOf ws) k free (getD qs i 0)) (ff : free′ ≡ burst + 1) where

@@ -7,6 +7,8 @@ use lib.ListN.{length, take, length-append}
 use lib.Seq.{sets, take-all}
 use borrow.Author.Tests.{lt-ltb, le-ltb}
 use Rattle.reading.specs.Words.{bytesOf}
+use Rattle.reading.specs.Settings.{settingsCount}
+use Rattle.reading.specs.Capture.{settingsStart, eventsStart}
 use Rattle.words.proofs.Words.{sets-words}
 use Rattle.schedule.specs.declared.Scheduled.the-variants.{Refused, Written}
 use Rattle.schedule.specs.Meaning.{size, head, written, writing}
@@ -16,17 +18,17 @@ module _ (settings list : List ℕ) (n : ℕ) (out : List ℕ) where
   unfolding written writing
   too-short l = rw (lt-ltb (length out) (size n) l) (refl, refl)
 
-  module _ (l : size n ≤ length out) (h : length settings ≡ 14) {o₁ o₂ o₃ : List ℕ} (a : o₁ ≡ sets out 0 (bytesOf (head n)))
-      (b : o₂ ≡ sets o₁ 24 (bytesOf (take 14 settings))) (c : o₃ ≡ sets o₂ 80 (bytesOf (take (2 * n) list))) where
+  module _ (l : size n ≤ length out) (h : length settings ≡ settingsCount) {o₁ o₂ o₃ : List ℕ} (a : o₁ ≡ sets out 0 (bytesOf (head n)))
+      (b : o₂ ≡ sets o₁ settingsStart (bytesOf (take settingsCount settings))) (c : o₃ ≡ sets o₂ (eventsStart settingsCount) (bytesOf (take (2 * n) list))) where
     two : o₂ ≡ sets out 0 (bytesOf (head n ++ settings))
     two =
-        b ∙ (λ i. sets (a i) 24 (bytesOf (take-all 14 settings (omega arith) i)))
-        ∙ sets-words out 0 24 (head n) settings refl
+        b ∙ (λ i. sets (a i) settingsStart (bytesOf (take-all settingsCount settings (omega arith) i)))
+        ∙ sets-words out 0 settingsStart (head n) settings refl
 
     three : o₃ ≡ sets out 0 (bytesOf (head n ++ settings ++ take (2 * n) list))
     three =
-        c ∙ ap (λ (o : List ℕ). sets o 80 (bytesOf (take (2 * n) list))) two
-        ∙ sets-words out 0 80 (head n ++ settings) (take (2 * n) list) (omega (arith, length-append (head n) settings))
+        c ∙ ap (λ (o : List ℕ). sets o (eventsStart settingsCount) (bytesOf (take (2 * n) list))) two
+        ∙ sets-words out 0 (eventsStart settingsCount) (head n ++ settings) (take (2 * n) list) (omega (arith, length-append (head n) settings))
 
     pub wrote : (Written (size n) ≡ written out n) × (o₃ ≡ writing settings list n out)
     unfolding written writing

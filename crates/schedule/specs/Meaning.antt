@@ -41,7 +41,7 @@ pub record Notable (s : reading.Settings) (words : List ℕ) (n events q : ℕ) 
 
 -- nothing is refused, and there is room for the events
 pub record Plannable (settings requests words : List ℕ) : Type 0 where
-  pub fourteen : length settings ≡ 14
+  pub fourteen : length settings ≡ settingsCount
   pub right : badSetting settings ≡ none
   pub fine : badRequest (settingsOf settings) requests ≡ none
   pub room : 6 * length requests ≤ length words
@@ -49,7 +49,7 @@ pub record Plannable (settings requests words : List ℕ) : Type 0 where
 -- ---- the capture
 
 pub record Writable (settings list : List ℕ) (n : ℕ) : Type 0 where
-  pub fourteen : length settings ≡ 14
+  pub fourteen : length settings ≡ settingsCount
   pub few : n ≤ 6000
   pub there : 2 * n ≤ length list
 

@@ -1,6 +1,7 @@
 // The fixed schedule of a list of requests, written as a whole capture.
 use deadlines::sums;
 use requests::REFRESH_PINS;
+use settings::COUNT;
 use settings::Checked;
 use settings::Settings;
 use settings::places::MODE;
@@ -12,7 +13,7 @@ ghost use Prim.Native.Nat.{_+_, _*_, _≤_};
 ghost use lib.ListN.{length, take};
 ghost use lib.Seq.{sets};
 ghost use Rattle.reading.specs.Words.{bytesOf};
-ghost use Rattle.reading.specs.Settings.{settingsOf};
+ghost use Rattle.reading.specs.Settings.{settingsCount, settingsOf};
 ghost use Rattle.reading.specs.Schedule.{scheduleOf, eventWords};
 ghost use Rattle.reading.specs.Answers.{scheduleOutcome};
 ghost use Rattle.turns.specs.Events.{requestEvents, behindEvents};
@@ -33,13 +34,20 @@ enum Planned {
 // Document 01 has at most 2,000 requests, and a schedule three events per request, of two words each.
 const WORDS: usize = 12_000;
 
+// How many settings there are, where they start and where the events do, as header words.
+const SETTINGS_COUNT: u32 = COUNT as u32;
+
+const SETTINGS: u32 = capture::SETTINGS as u32;
+
+const EVENTS: u32 = capture::EVENTS as u32;
+
 // The settings as an array.
 fn fourteen(settings: &[u32]) -> Settings
-    requires { ⌜ length (now settings) ≡ 14 ⌝ }
+    requires { ⌜ length (now settings) ≡ settingsCount ⌝ }
     ensures { λ r. ⌜ r ≡ now (settings .entry) ⌝ }
 {
-    let mut s = [0u32; settings::COUNT];
-    'settings: for i in 0..14 {
+    let mut s = [0u32; COUNT];
+    'settings: for i in 0..COUNT {
         s[i] = settings[i];
     }
     s
@@ -129,17 +137,17 @@ fn write(settings: &[u32], list: &[u32], n: u32, out: &mut [u8]) -> Scheduled
     ensures { λ r. ⌜ r ≡ written (now (out .entry)) n ⌝ }
     ensures { λ r. ⌜ now (out .exit) ≡ writing (now (settings .entry)) (now (list .entry)) n (now (out .entry)) ⌝ }
 {
-    let bytes = 80 + 8 * n;
+    let bytes = EVENTS + 8 * n;
     if out.len() < bytes as usize {
         return Scheduled::Refused {
             number: 7,
             place: bytes,
         };
     }
-    let head = [bytes, 14, 24, n, 80, 0];
+    let head = [bytes, SETTINGS_COUNT, SETTINGS, n, EVENTS, 0];
     put_words(out, 0, &head, 6);
-    put_words(out, 24, settings, 14);
-    put_words(out, 80, list, 2 * (n as usize));
+    put_words(out, capture::SETTINGS, settings, COUNT);
+    put_words(out, capture::EVENTS, list, 2 * (n as usize));
     Scheduled::Written { bytes }
 }
 

@@ -10,7 +10,8 @@ use lib.Dec.{leb}
 use Rattle.reading.specs.Search.{later}
 use Rattle.reading.specs.Settings.{Settings}
 use Rattle.reading.specs.Capture.{Event}
-use Rattle.reading.specs.Schedule.{asksWrite, firstCell, cellBank, requestFits, activePins, burstPins, refreshPins, freeFrom, placed, send, sendRequest, refreshInTime}
+use Rattle.reading.specs.Rules.{placing}
+use Rattle.reading.specs.Schedule.{asksWrite, firstCell, cellBank, requestFits, activePins, burstPins, refreshPins, freeFrom, placed, send, sendAll, sendRequest, refreshInTime}
 use Rattle.deadlines.specs.Deadlines.{DUE, at, paceOf, activeAfter, refreshAfter}
 use Rattle.plan.specs.Soonest.{burstSoonest, refreshSoonest}
 use Rattle.plan.specs.Behind.{deadlinesOf}
@@ -32,15 +33,15 @@ module _ (s : Settings) (g : Ranged s) (es : List Event) (r : Reached s es) (idl
 
   -- AUTO REFRESH
   module _ (l : freeFrom 0 es ≤ far) where
-    pub refresh-at : refreshAt s (deadlinesOf s es) (freeFrom 0 es) ≡ placed s es refreshPins
+    pub refresh-at : refreshAt s (deadlinesOf s es) (freeFrom 0 es) ≡ placed placing s es refreshPins
     unfolding refreshAt
     refresh-at = cycle-is (refresh-sent g r idle) l
 
-    pub refreshed-is : refreshed s (deadlinesOf s es) (freeFrom 0 es) ≡ deadlinesOf s (send s es refreshPins)
+    pub refreshed-is : refreshed s (deadlinesOf s es) (freeFrom 0 es) ≡ deadlinesOf s (send placing s es refreshPins)
     unfolding refreshed
     refreshed-is = ap (refreshAfter s D) refresh-at ∙ sym (refresh-sent g r idle .leaves)
 
-    pub refresh-free : freeFrom 0 (send s es refreshPins) ≡ refreshAt s (deadlinesOf s es) (freeFrom 0 es) + 1
+    pub refresh-free : freeFrom 0 (send placing s es refreshPins) ≡ refreshAt s (deadlinesOf s es) (freeFrom 0 es) + 1
     refresh-free = free-sent s es refreshPins ∙ ap suc (sym refresh-at) ∙ sym (add-one _)
 
   -- a request
@@ -49,9 +50,9 @@ module _ (s : Settings) (g : Ranged s) (es : List Event) (r : Reached s es) (idl
     bank = cellBank s (firstCell q)
 
     abbrev opened : List Event
-    opened = send s es (activePins s q)
+    opened = send placing s es (activePins s q)
 
-    pub active-at : activeAt s (deadlinesOf s es) (freeFrom 0 es) q ≡ placed s es (activePins s q)
+    pub active-at : activeAt s (deadlinesOf s es) (freeFrom 0 es) q ≡ placed placing s es (activePins s q)
     unfolding activeAt
     active-at = cycle-is (first-sent s g q fits es r idle) (omega arith)
 
@@ -62,23 +63,23 @@ module _ (s : Settings) (g : Ranged s) (es : List Event) (r : Reached s es) (idl
     opened-free : activeAt s D F q + 1 ≡ freeFrom 0 opened
     opened-free = add-one _ ∙ ap suc active-at ∙ sym (free-sent s es (activePins s q))
 
-    pub burst-at : burstAt s (deadlinesOf s es) (freeFrom 0 es) q ≡ placed s (send s es (activePins s q)) (burstPins s q)
+    pub burst-at : burstAt s (deadlinesOf s es) (freeFrom 0 es) q ≡ placed placing s (send placing s es (activePins s q)) (burstPins true s q)
     unfolding burstAt
     burst-at =
         (λ i. cycleFor (opened-free i) (burstSoonest (asksWrite q) (opened-is i) bank))
         ∙ cycle-is (second-sent s g q fits es r idle) (omega (arith, free-sent s es (activePins s q), first-sent s g q fits es r idle .soon))
 
-    pub tried-after : triedAfter s (deadlinesOf s es) (freeFrom 0 es) q ≡ deadlinesOf s (sendRequest s es q)
-    unfolding triedAfter sendRequest
+    pub tried-after : triedAfter s (deadlinesOf s es) (freeFrom 0 es) q ≡ deadlinesOf s (sendRequest placing s es q)
+    unfolding triedAfter sendRequest sendAll
     tried-after =
         (λ i. burstLeaves (asksWrite q) s (opened-is i) (paceOf (s .mode)) (burst-at i) bank)
         ∙ sym (second-sent s g q fits es r idle .leaves)
 
-    pub tried-free : freeFrom 0 (sendRequest s es q) ≡ burstAt s (deadlinesOf s es) (freeFrom 0 es) q + 1
-    unfolding sendRequest
-    tried-free = free-sent s opened (burstPins s q) ∙ ap suc (sym burst-at) ∙ sym (add-one _)
+    pub tried-free : freeFrom 0 (sendRequest placing s es q) ≡ burstAt s (deadlinesOf s es) (freeFrom 0 es) q + 1
+    unfolding sendRequest sendAll
+    tried-free = free-sent s opened (burstPins true s q) ∙ ap suc (sym burst-at) ∙ sym (add-one _)
 
-    pub tried-kept : triedKept s (deadlinesOf s es) (freeFrom 0 es) q ≡ refreshInTime s (sendRequest s es q)
+    pub tried-kept : triedKept s (deadlinesOf s es) (freeFrom 0 es) q ≡ refreshInTime placing s (sendRequest placing s es q)
     unfolding triedKept inTime
     tried-kept =
         (λ i. leb (later (sym tried-free i) (refreshSoonest (tried-after i))) (at (tried-after i) DUE))

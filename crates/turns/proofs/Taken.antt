@@ -7,7 +7,8 @@ use mathlib.Core.Path.{_≡_, refl, sym, ap, _∙_}
 use native.Mathlib.Omega.{arith}
 use Rattle.reading.specs.Settings.{Settings}
 use Rattle.reading.specs.Capture.{Event}
-use Rattle.reading.specs.Schedule.{requestFits, activePins, burstPins, refreshPins, freeFrom, placed, send, sendRequest, refreshInTime, served}
+use Rattle.reading.specs.Rules.{placing}
+use Rattle.reading.specs.Schedule.{requestFits, activePins, burstPins, refreshPins, freeFrom, placed, send, sendAll, sendRequest, sendRefresh, refreshInTime, served}
 use Rattle.plan.specs.Behind.{deadlinesOf}
 use Rattle.plan.proofs.Ranged.{Ranged}
 use Rattle.plan.proofs.Sending.{free-sent}
@@ -26,30 +27,30 @@ event t pins = record { cycle = t; pins = pins }
 -- by deadlines d and a free cycle f that are those behind es
 module _ (s : Settings) (g : Ranged s) (q : ℕ) (fits : requestFits s q ≡ true) (es : List Event) (r : Reached s es) (idle : Idle s es)
     (l : freeFrom 0 es + 30000 ≤ far) {d : List ℕ} {f : ℕ} (dd : d ≡ deadlinesOf s es) (ff : f ≡ freeFrom 0 es) where
-  kept-is : triedKept s d f q ≡ refreshInTime s (sendRequest s es q)
+  kept-is : triedKept s d f q ≡ refreshInTime placing s (sendRequest placing s es q)
   kept-is = (λ i. triedKept s (dd i) (ff i) q) ∙ tried-kept s g es r idle q fits l
 
-  after-is : triedAfter s d f q ≡ deadlinesOf s (sendRequest s es q)
+  after-is : triedAfter s d f q ≡ deadlinesOf s (sendRequest placing s es q)
   after-is = (λ i. triedAfter s (dd i) (ff i) q) ∙ tried-after s g es r idle q fits l
 
-  free-is : freeFrom 0 (sendRequest s es q) ≡ burstAt s d f q + 1
+  free-is : freeFrom 0 (sendRequest placing s es q) ≡ burstAt s d f q + 1
   free-is = tried-free s g es r idle q fits l ∙ (λ i. burstAt s (sym dd i) (sym ff i) q + 1)
 
-  a-is : placed s es (activePins s q) ≡ activeAt s d f q
+  a-is : placed placing s es (activePins s q) ≡ activeAt s d f q
   a-is = sym ((λ i. activeAt s (dd i) (ff i) q) ∙ active-at s g es r idle q fits l)
 
-  b-is : placed s (send s es (activePins s q)) (burstPins s q) ≡ burstAt s d f q
+  b-is : placed placing s (send placing s es (activePins s q)) (burstPins true s q) ≡ burstAt s d f q
   b-is = sym ((λ i. burstAt s (dd i) (ff i) q) ∙ burst-at s g es r idle q fits l)
 
-  events-are : sendRequest s es q ≡ es ++ (event (activeAt s d f q) (activePins s q) ∷ event (burstAt s d f q) (burstPins s q) ∷ [])
-  unfolding sendRequest send
+  events-are : sendRequest placing s es q ≡ es ++ (event (activeAt s d f q) (activePins s q) ∷ event (burstAt s d f q) (burstPins true s q) ∷ [])
+  unfolding sendRequest sendAll send
   events-are =
-      append-assoc es (event (placed s es (activePins s q)) (activePins s q) ∷ []) (event (placed s (send s es (activePins s q)) (burstPins s q)) (burstPins s q) ∷ [])
-      ∙ (λ i. es ++ (event (a-is i) (activePins s q) ∷ event (b-is i) (burstPins s q) ∷ []))
+      append-assoc es (event (placed placing s es (activePins s q)) (activePins s q) ∷ []) (event (placed placing s (send placing s es (activePins s q)) (burstPins true s q)) (burstPins true s q) ∷ [])
+      ∙ (λ i. es ++ (event (a-is i) (activePins s q) ∷ event (b-is i) (burstPins true s q) ∷ []))
 
 -- what a turn that is kept makes of the schedule
 pub record Taken (s : Settings) (es : List Event) (q : ℕ) (t : Turn) (d : List ℕ) : Type 0 where
-  pub serves : served s es q ≡ some (es ++ turnEvents s t q)
+  pub serves : served placing s es q ≡ some (es ++ turnEvents s t q)
   pub leaves : d ≡ deadlinesOf s (es ++ turnEvents s t q)
   pub next : freeFrom 0 (es ++ turnEvents s t q) ≡ t .burst + 1
 
@@ -59,57 +60,57 @@ module _ (s : Settings) (g : Ranged s) (q : ℕ) (fits : requestFits s q ≡ tru
   near : freeFrom 0 es + 30000 ≤ far
   near = omega arith
 
-  kept₁ : triedKept s d f q ≡ refreshInTime s (sendRequest s es q)
+  kept₁ : triedKept s d f q ≡ refreshInTime placing s (sendRequest placing s es q)
   kept₁ = kept-is s g q fits es (y .reached) (y .idle) near dd ff
 
-  events₁ : sendRequest s es q ≡ es ++ turnEvents s (alone s d f q) q
+  events₁ : sendRequest placing s es q ≡ es ++ turnEvents s (alone s d f q) q
   unfolding turnEvents
   events₁ = events-are s g q fits es (y .reached) (y .idle) near dd ff
 
   -- with an AUTO REFRESH before it
-  reached₁ : Reached s (send s es refreshPins)
+  reached₁ : Reached s (send placing s es refreshPins)
   reached₁ = refresh-sent g (y .reached) (y .idle) .reached
 
-  idle₁ : Idle s (send s es refreshPins)
+  idle₁ : Idle s (send placing s es refreshPins)
   idle₁ = refresh-idle g (y .reached) (y .idle)
 
-  near₁ : freeFrom 0 (send s es refreshPins) + 30000 ≤ far
+  near₁ : freeFrom 0 (send placing s es refreshPins) + 30000 ≤ far
   near₁ = omega (arith, free-sent s es refreshPins, refresh-sent g (y .reached) (y .idle) .soon)
 
   small : freeFrom 0 es ≤ far
   small = omega arith
 
-  t-is : refreshAt s d f ≡ placed s es refreshPins
+  t-is : refreshAt s d f ≡ placed placing s es refreshPins
   t-is = (λ i. refreshAt s (dd i) (ff i)) ∙ refresh-at s g es (y .reached) (y .idle) small
 
-  d-is : refreshed s d f ≡ deadlinesOf s (send s es refreshPins)
+  d-is : refreshed s d f ≡ deadlinesOf s (send placing s es refreshPins)
   d-is = (λ i. refreshed s (dd i) (ff i)) ∙ refreshed-is s g es (y .reached) (y .idle) small
 
-  f-is : refreshAt s d f + 1 ≡ freeFrom 0 (send s es refreshPins)
+  f-is : refreshAt s d f + 1 ≡ freeFrom 0 (send placing s es refreshPins)
   f-is = (λ i. refreshAt s (dd i) (ff i) + 1) ∙ sym (refresh-free s g es (y .reached) (y .idle) small)
 
-  kept₂ : led s d f q .kept ≡ refreshInTime s (sendRequest s (send s es refreshPins) q)
-  kept₂ = kept-is s g q fits (send s es refreshPins) reached₁ idle₁ near₁ d-is f-is
+  kept₂ : led s d f q .kept ≡ refreshInTime placing s (sendRequest placing s (send placing s es refreshPins) q)
+  kept₂ = kept-is s g q fits (send placing s es refreshPins) reached₁ idle₁ near₁ d-is f-is
 
-  events₂ : sendRequest s (send s es refreshPins) q ≡ es ++ turnEvents s (led s d f q) q
+  events₂ : sendRequest placing s (send placing s es refreshPins) q ≡ es ++ turnEvents s (led s d f q) q
   unfolding turnEvents send
   events₂ =
-      events-are s g q fits (send s es refreshPins) reached₁ idle₁ near₁ d-is f-is
-      ∙ append-assoc es (event (placed s es refreshPins) refreshPins ∷ []) _
-      ∙ (λ i. es ++ (event (sym t-is i) refreshPins ∷ event (led s d f q .active) (activePins s q) ∷ event (led s d f q .burst) (burstPins s q) ∷ []))
+      events-are s g q fits (send placing s es refreshPins) reached₁ idle₁ near₁ d-is f-is
+      ∙ append-assoc es (event (placed placing s es refreshPins) refreshPins ∷ []) _
+      ∙ (λ i. es ++ (event (sym t-is i) refreshPins ∷ event (led s d f q .active) (activePins s q) ∷ event (led s d f q .burst) (burstPins true s q) ∷ []))
 
-  pub turn-late : turning s d f q .kept ≡ false → served s es q ≡ none
-  unfolding turning served
+  pub turn-late : turning s d f q .kept ≡ false → served placing s es q ≡ none
+  unfolding turning served sendRefresh sendAll
   turn-late k = go (triedKept s d f q) refl k
     where
       go : (v : Bool) → triedKept s d f q ≡ v → cond v (alone s d f q) (led s d f q) .kept ≡ false →
-          cond (refreshInTime s (sendRequest s es q)) (some (sendRequest s es q))
-          (cond (refreshInTime s (sendRequest s (send s es refreshPins) q)) (some (sendRequest s (send s es refreshPins) q)) none) ≡ none
+          cond (refreshInTime placing s (sendRequest placing s es q)) (some (sendRequest placing s es q))
+          (cond (refreshInTime placing s (sendRequest placing s (send placing s es refreshPins) q)) (some (sendRequest placing s (send placing s es refreshPins) q)) none) ≡ none
       go true e h = let z : _≡_ {A = ℕ} 0 1 = cc in absurd (omega arith)
       go false e h = rw (sym kept₁ ∙ e, sym kept₂ ∙ h)
 
   pub turn-taken : turning s d f q .kept ≡ true → Taken s es q (turning s d f q) (turnedAfter s d f q)
-  unfolding turning turnedAfter served
+  unfolding turning turnedAfter served sendRefresh sendAll
   turn-taken k = go (triedKept s d f q) refl k
     where
       go : (v : Bool) → triedKept s d f q ≡ v → cond v (alone s d f q) (led s d f q) .kept ≡ true →
@@ -123,6 +124,6 @@ module _ (s : Settings) (g : Ranged s) (q : ℕ) (fits : requestFits s q ≡ tru
       go false e h =
           record {
             serves = rw (sym kept₁ ∙ e, sym kept₂ ∙ h) (ap some events₂);
-            leaves = after-is s g q fits (send s es refreshPins) reached₁ idle₁ near₁ d-is f-is ∙ ap (deadlinesOf s) events₂;
-            next = ap (freeFrom 0) (sym events₂) ∙ free-is s g q fits (send s es refreshPins) reached₁ idle₁ near₁ d-is f-is;
+            leaves = after-is s g q fits (send placing s es refreshPins) reached₁ idle₁ near₁ d-is f-is ∙ ap (deadlinesOf s) events₂;
+            next = ap (freeFrom 0) (sym events₂) ∙ free-is s g q fits (send placing s es refreshPins) reached₁ idle₁ near₁ d-is f-is;
           }

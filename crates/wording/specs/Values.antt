@@ -4,8 +4,9 @@ use mathlib.Core.Bool.{cond}
 use mathlib.Core.List.{List}
 use lib.Dec.{ltb}
 use lib.ListN.{length, replicate}
-use Rattle.reading.specs.Capture.{settingWords}
+use Rattle.reading.specs.Settings.{settingsCount}
+use Rattle.reading.specs.Capture.{eventsStart, settingWords}
 
--- the fourteen of a capture; zeros where there is no room for them
+-- those of a capture; zeros where there is no room for them
 abbrev pub shown : List ℕ → List ℕ
-shown capture = cond (ltb (length capture) 80) (replicate 14 0) (settingWords capture)
+shown capture = cond (ltb (length capture) (eventsStart settingsCount)) (replicate settingsCount 0) (settingWords capture)

@@ -3,19 +3,20 @@ use console::Out;
 use console::say;
 use console::say_number;
 use console::say_word;
+use settings::COUNT;
 use settings::Settings;
 ghost use mathlib.Core.Path.{_≡_};
 ghost use Rattle.reading.specs.Mode.{BL, interleaved as isInterleaved, CL};
 ghost use Rattle.wording.specs.Values.{shown};
 
-const MODE: u32 = 3;
+const MODE: u32 = settings::places::MODE as u32;
 
-// The fourteen settings; zeros where there is no room for them, as in no capture whose settings were looked at.
+// The settings; zeros where there is no room for them, as in no capture whose settings were looked at.
 pub fn settings_of(capture: &[u8]) -> Settings
     ensures { λ r. ⌜ r ≡ shown (now (capture .entry)) ⌝ }
 {
-    if capture.len() < 80 {
-        return [0; 14];
+    if capture.len() < capture::EVENTS {
+        return [0; COUNT];
     }
     capture::setting_words(capture)
 }
@@ -87,7 +88,7 @@ fn print_setting(out: &mut Out, i: u32, word: u32) {
 }
 
 pub fn print_settings(out: &mut Out, settings: &Settings) {
-    for i in 0..14 {
+    for i in 0..COUNT {
         print_setting(out, i as u32, settings[i]);
     }
 }
@@ -95,7 +96,7 @@ pub fn print_settings(out: &mut Out, settings: &Settings) {
 // The setting that was refused.
 pub fn print_refused(out: &mut Out, capture: &[u8], i: u32) {
     let settings = settings_of(capture);
-    if 14 <= i {
+    if COUNT <= i as usize {
         return;
     }
     say_setting(out, i, settings[i as usize]);

@@ -16,16 +16,54 @@ returns-2 : tie.Need-returns-2
 returns-2 c = rw (← c .before .before .code2 .ensures, ← c .before .before .before .code .ensures, ne-eqb _ 2 (c .before .if1 .left), eq-eqb _ 10 (c .if2 .taken))
 
 returns-3 : tie.Need-returns-3
-returns-3 c = rw (← c .before .before .before .code2 .ensures, ← c .before .before .before .before .code .ensures, ne-eqb _ 2 (c .before .before .if1 .left), ne-eqb _ 10 (c .before .if2 .left), eq-eqb _ 6 (c .if3 .taken))
+returns-3 c =
+    let at-if1 = c .before .before in
+    let at-code2 = at-if1 .before in
+    let at-code = at-code2 .before in
+    rw (
+      ← at-code2 .code2 .ensures,
+      ← at-code .code .ensures,
+      ne-eqb _ 2 (at-if1 .if1 .left),
+      ne-eqb _ 10 (c .before .if2 .left),
+      eq-eqb _ 6 (c .if3 .taken),
+    )
 
 returns-4 : tie.Need-returns-4
-returns-4 c = rw (← c .before .before .before .before .code2 .ensures, ← c .before .before .before .before .before .code .ensures, ne-eqb _ 2 (c .before .before .before .if1 .left), ne-eqb _ 10 (c .before .before .if2 .left), ne-eqb _ 6 (c .before .if3 .left), ne-eqb _ 4 (c .if4 .taken))
+returns-4 c =
+    let at-if2 = c .before .before in
+    let at-if1 = at-if2 .before in
+    let at-code2 = at-if1 .before in
+    let at-code = at-code2 .before in
+    rw (
+      ← at-code2 .code2 .ensures,
+      ← at-code .code .ensures,
+      ne-eqb _ 2 (at-if1 .if1 .left),
+      ne-eqb _ 10 (at-if2 .if2 .left),
+      ne-eqb _ 6 (c .before .if3 .left),
+      ne-eqb _ 4 (c .if4 .taken),
+    )
 
 ten-requires : tie.Need-ten-requires
 ten-requires c κs = search needs
 
 returns-5 : tie.Need-returns-5
-returns-5 c = rw (← c .before .before .before .before .before .before .code2 .ensures, ← c .before .before .before .before .before .before .before .code .ensures, ne-eqb _ 2 (c .before .before .before .before .before .if1 .left), ne-eqb _ 10 (c .before .before .before .before .if2 .left), ne-eqb _ 6 (c .before .before .before .if3 .left), eq-eqb _ 4 (c .before .before .if4 .left), ← c .before .ten .ensures, c .if5 .taken)
+returns-5 c =
+    let at-if4 = c .before .before in
+    let at-if3 = at-if4 .before in
+    let at-if2 = at-if3 .before in
+    let at-if1 = at-if2 .before in
+    let at-code2 = at-if1 .before in
+    let at-code = at-code2 .before in
+    rw (
+      ← at-code2 .code2 .ensures,
+      ← at-code .code .ensures,
+      ne-eqb _ 2 (at-if1 .if1 .left),
+      ne-eqb _ 10 (at-if2 .if2 .left),
+      ne-eqb _ 6 (at-if3 .if3 .left),
+      eq-eqb _ 4 (at-if4 .if4 .left),
+      ← c .before .ten .ensures,
+      c .if5 .taken,
+    )
 
 bank-requires : tie.Need-bank-requires
 bank-requires c κs = search needs
@@ -34,7 +72,27 @@ bank-requires-2 : tie.Need-bank-requires-2
 bank-requires-2 c κs = search needs
 
 returns-6 : tie.Need-returns-6
-returns-6 c = rw (← c .before .before .before .before .before .before .before .before .code2 .ensures, ← c .before .before .before .before .before .before .before .before .before .code .ensures, ne-eqb _ 2 (c .before .before .before .before .before .before .before .if1 .left), ne-eqb _ 10 (c .before .before .before .before .before .before .if2 .left), ne-eqb _ 6 (c .before .before .before .before .before .if3 .left), eq-eqb _ 4 (c .before .before .before .before .if4 .left), ← c .before .before .before .ten .ensures, c .before .before .if5 .left, c .bank2 .ensures .0, c .before .bank .ensures .0)
+returns-6 c =
+    let at-if5 = c .before .before in
+    let at-ten = at-if5 .before in
+    let at-if4 = at-ten .before in
+    let at-if3 = at-if4 .before in
+    let at-if2 = at-if3 .before in
+    let at-if1 = at-if2 .before in
+    let at-code2 = at-if1 .before in
+    let at-code = at-code2 .before in
+    rw (
+      ← at-code2 .code2 .ensures,
+      ← at-code .code .ensures,
+      ne-eqb _ 2 (at-if1 .if1 .left),
+      ne-eqb _ 10 (at-if2 .if2 .left),
+      ne-eqb _ 6 (at-if3 .if3 .left),
+      eq-eqb _ 4 (at-if4 .if4 .left),
+      ← at-ten .ten .ensures,
+      at-if5 .if5 .left,
+      c .bank2 .ensures .0,
+      c .before .bank .ensures .0,
+    )
 
 pub cuts-burst-spec : {M : Type 1} → statement M
 cuts-burst-spec =

@@ -11,10 +11,14 @@ power-requires : tie.Need-power-requires
 power-requires c κs = search needs
 
 mul-result : tie.Need-mul-result
-mul-result c = rw (c .power .ensures) (omega (arith, bank-fits _ (c .before .before .pre .0) (c .before .before .args .bank) (c .before .before .args .row) (c .before .before .pre .1 .0) (c .before .before .pre .1 .1)))
+mul-result c =
+    let start = c .before .before in
+    rw (c .power .ensures) (omega (arith, bank-fits _ (start .pre .0) (start .args .bank) (start .args .row) (start .pre .1 .0) (start .pre .1 .1)))
 
 add-result : tie.Need-add-result
-add-result c = rw (c .power .ensures) (omega (arith, bank-fits _ (c .before .before .pre .0) (c .before .before .args .bank) (c .before .before .args .row) (c .before .before .pre .1 .0) (c .before .before .pre .1 .1)))
+add-result c =
+    let start = c .before .before in
+    rw (c .power .ensures) (omega (arith, bank-fits _ (start .pre .0) (start .args .bank) (start .args .row) (start .pre .1 .0) (start .pre .1 .1)))
 
 element-copy-out-power-2 : tie.Need-element-copy-out-power-2
 element-copy-out-power-2 c = search needs
@@ -23,7 +27,11 @@ power-requires-2 : tie.Need-power-requires-2
 power-requires-2 c κs = search needs
 
 mul-result-2 : tie.Need-mul-result-2
-mul-result-2 c = rw (c .before .before .power .ensures, c .power2 .ensures) (omega (arith, first-lt _ (c .before .before .before .before .pre .0) (c .before .before .before .before .args .bank) (c .before .before .before .before .args .row) (c .before .before .before .before .pre .1 .0) (c .before .before .before .before .pre .1 .1)))
+mul-result-2 c =
+    let at-power = c .before .before in
+    let start = at-power .before .before in
+    rw (at-power .power .ensures, c .power2 .ensures)
+    (omega (arith, first-lt _ (start .pre .0) (start .args .bank) (start .args .row) (start .pre .1 .0) (start .pre .1 .1)))
 
 returns : tie.Need-returns
 returns c = rw (c .before .before .power .ensures, c .power2 .ensures)

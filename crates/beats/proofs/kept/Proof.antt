@@ -16,7 +16,12 @@ gives-burst-requires : tie.Need-gives-burst-requires
 gives-burst-requires c κs = search needs
 
 returns : tie.Need-returns
-returns c = kept-none (c .before .before .before .before .args .mode) (eventAt (c .before .before .before .before .args .bytes .now) (c .before .before .before .before .args .i)) (eventsFrom (c .before .before .before .before .args .bytes .now) (c .before .before .before .before .args .n) (c .before .before .before .before .args .i + 1)) (c .before .before .pins-at .ensures) (c .before .gives-burst .ensures) (not-true _ (c .if1 .taken))
+returns c =
+    let at-pins-at = c .before .before in
+    let start = at-pins-at .before .before in
+    let a = start .args in
+    kept-none (a .mode) (eventAt (a .bytes .now) (a .i)) (eventsFrom (a .bytes .now) (a .n) (a .i + 1)) (at-pins-at .pins-at .ensures)
+    (c .before .gives-burst .ensures) (not-true _ (c .if1 .taken))
 
 ten-requires : tie.Need-ten-requires
 ten-requires c κs = search needs
@@ -25,13 +30,30 @@ length-of-requires : tie.Need-length-of-requires
 length-of-requires c κs = search needs
 
 returns-2 : tie.Need-returns-2
-returns-2 c = kept-all (c .before .before .before .before .before .before .before .args .mode) (eventAt (c .before .before .before .before .before .before .before .args .bytes .now) (c .before .before .before .before .before .before .before .args .i)) (eventsFrom (c .before .before .before .before .before .before .before .args .bytes .now) (c .before .before .before .before .before .before .before .args .n) (c .before .before .before .before .before .before .before .args .i + 1)) (c .before .before .before .before .before .pins-at .ensures) (c .before .before .before .before .gives-burst .ensures) (not-false _ (c .before .before .before .if1 .left)) (c .before .before .ten .ensures) (c .before .if2 .taken) (ap (λ (v : ℕ). v / 2) (c .length-of .ensures))
+returns-2 c =
+    let at-ten = c .before .before in
+    let at-if1 = at-ten .before in
+    let at-gives-burst = at-if1 .before in
+    let at-pins-at = at-gives-burst .before in
+    let start = at-pins-at .before .before in
+    let a = start .args in
+    kept-all (a .mode) (eventAt (a .bytes .now) (a .i)) (eventsFrom (a .bytes .now) (a .n) (a .i + 1)) (at-pins-at .pins-at .ensures)
+    (at-gives-burst .gives-burst .ensures) (not-false _ (at-if1 .if1 .left)) (at-ten .ten .ensures) (c .before .if2 .taken)
+    (ap (λ (v : ℕ). v / 2) (c .length-of .ensures))
 
 look-ahead-requires : tie.Need-look-ahead-requires
 look-ahead-requires c κs = search needs
 
 returns-3 : tie.Need-returns-3
-returns-3 c = kept-cut (c .before .before .before .before .before .before .before .args .mode) (eventAt (c .before .before .before .before .before .before .before .args .bytes .now) (c .before .before .before .before .before .before .before .args .i)) (eventsFrom (c .before .before .before .before .before .before .before .args .bytes .now) (c .before .before .before .before .before .before .before .args .n) (c .before .before .before .before .before .before .before .args .i + 1)) (c .before .before .before .before .before .pins-at .ensures) (c .before .before .before .before .gives-burst .ensures) (not-false _ (c .before .before .before .if1 .left)) (c .before .before .ten .ensures) (c .before .if2 .left) (c .look-ahead .ensures)
+returns-3 c =
+    let at-ten = c .before .before in
+    let at-if1 = at-ten .before in
+    let at-gives-burst = at-if1 .before in
+    let at-pins-at = at-gives-burst .before in
+    let start = at-pins-at .before .before in
+    let a = start .args in
+    kept-cut (a .mode) (eventAt (a .bytes .now) (a .i)) (eventsFrom (a .bytes .now) (a .n) (a .i + 1)) (at-pins-at .pins-at .ensures)
+    (at-gives-burst .gives-burst .ensures) (not-false _ (at-if1 .if1 .left)) (at-ten .ten .ensures) (c .before .if2 .left) (c .look-ahead .ensures)
 
 pub kept-spec : {M : Type 1} → statement M
 kept-spec =

@@ -25,13 +25,20 @@ length-of-requires : tie.Need-length-of-requires Inv-later μ-later
 length-of-requires c κs = search needs
 
 add-end : tie.Need-add-end Inv-later μ-later
-add-end c = rw (c .length-of .ensures) (omega (arith, half-le (c .before .before .before .before .args .mode), c .before .cycle-at .ensures, cycle-fits (c .before .before .before .before .args .bytes .now) (c .before .before .before .before .args .i) (c .before .before .before .before .pre .0 .events (c .before .before .before .before .args .i) (c .before .before .before .before .pre .1))))
+add-end c =
+    let start = c .before .before .before .before in
+    let a = start .args in
+    rw (c .length-of .ensures)
+    (omega (arith, half-le (a .mode), c .before .cycle-at .ensures, cycle-fits (a .bytes .now) (a .i) (start .pre .0 .events (a .i) (start .pre .1))))
 
 add-j : tie.Need-add-j Inv-later μ-later
 add-j c = omega arith
 
 later-holds : tie.Need-later-holds Inv-later μ-later
-later-holds c = begins (c .before .before .before .before .args .bytes .now) (c .before .before .before .before .args .n) (c .before .before .before .before .args .i) (c .before .before .before .before .args .mode) (c .before .before .before .before .pre .1)
+later-holds c =
+    let start = c .before .before .before .before in
+    let a = start .args in
+    begins (a .bytes .now) (a .n) (a .i) (a .mode) (start .pre .1)
 
 cast-behind : tie.Need-cast-behind Inv-later μ-later
 cast-behind c = omega arith
@@ -40,7 +47,16 @@ cycle-at-requires-2 : tie.Need-cycle-at-requires-2 Inv-later μ-later
 cycle-at-requires-2 c κs = omega (arith, c .before .before .before .before .before .before .pre .0 .long)
 
 returns : tie.Need-returns Inv-later μ-later
-returns c = stops (c .before .before .before .before .before .before .before .before .args .bytes .now) (c .before .before .before .before .before .before .before .before .args .n) (c .before .before .before .before .before .before .before .before .args .i) (c .before .before .before .before .before .before .before .before .args .mode) (c .before .before .before .later .inv) (c .before .before .before .before .before .before .pins-at .ensures) (c .before .before .before .before .before .cycle-at .ensures) (ap (λ (v : ℕ). v / 2) (c .before .before .before .before .length-of .ensures)) (c .before .before .later-test .taken) (c .before .cycle-at2 .ensures) (c .if1 .taken)
+returns c =
+    let at-later-test = c .before .before in
+    let at-later = at-later-test .before in
+    let at-length-of = at-later .before in
+    let at-cycle-at = at-length-of .before in
+    let at-pins-at = at-cycle-at .before in
+    let start = at-pins-at .before .before in
+    let a = start .args in
+    stops (a .bytes .now) (a .n) (a .i) (a .mode) (at-later .later .inv) (at-pins-at .pins-at .ensures) (at-cycle-at .cycle-at .ensures)
+    (ap (λ (v : ℕ). v / 2) (at-length-of .length-of .ensures)) (at-later-test .later-test .taken) (c .before .cycle-at2 .ensures) (c .if1 .taken)
 
 pins-at-requires-2 : tie.Need-pins-at-requires-2 Inv-later μ-later
 pins-at-requires-2 c κs = omega (arith, c .before .before .before .before .before .before .before .before .pre .0 .long)
@@ -49,10 +65,43 @@ cuts-burst-requires : tie.Need-cuts-burst-requires Inv-later μ-later
 cuts-burst-requires c κs = search needs
 
 sub-result : tie.Need-sub-result Inv-later μ-later
-sub-result c = omega (arith, c .before .before .before .before .before .before .before .before .cycle-at .ensures, c .before .before .before .before .cycle-at2 .ensures, cycles-rise (c .before .before .before .before .before .before .before .before .before .before .before .args .bytes .now) (c .before .before .before .before .before .before .before .before .before .before .before .args .n) (c .before .before .before .before .before .before .before .before .before .before .before .pre .0 .events) (c .before .before .before .before .before .before .before .before .before .before .before .args .i) (c .before .before .before .before .before .before .later .j) (c .before .before .before .before .before .before .later .inv .behind) (c .before .before .before .before .before .later-test .taken))
+sub-result c =
+    let at-cycle-at2 = c .before .before .before .before in
+    let at-later-test = at-cycle-at2 .before in
+    let at-later = at-later-test .before in
+    let at-cycle-at = at-later .before .before in
+    let start = at-cycle-at .before .before .before in
+    let a = start .args in
+    omega (
+      arith,
+      at-cycle-at .cycle-at .ensures,
+      at-cycle-at2 .cycle-at2 .ensures,
+      cycles-rise (a .bytes .now) (a .n) (start .pre .0 .events) (a .i) (at-later .later .j) (at-later .later .inv .behind)
+          (at-later-test .later-test .taken),
+    )
 
 returns-2 : tie.Need-returns-2 Inv-later μ-later
-returns-2 c = cut-short (c .before .before .before .before .before .before .before .before .before .before .before .args .bytes .now) (c .before .before .before .before .before .before .before .before .before .before .before .args .n) (c .before .before .before .before .before .before .before .before .before .before .before .args .i) (c .before .before .before .before .before .before .before .before .before .before .before .args .mode) (c .before .before .before .before .before .before .later .inv) (c .before .before .before .before .before .before .before .before .before .pins-at .ensures) (c .before .before .before .before .before .before .before .before .cycle-at .ensures) (ap (λ (v : ℕ). v / 2) (c .before .before .before .before .before .before .before .length-of .ensures)) (c .before .before .before .before .before .later-test .taken) (c .before .before .before .before .cycle-at2 .ensures) (c .before .before .pins-at2 .ensures) (omega (arith, c .before .before .before .if1 .left)) (c .before .before .before .before .before .before .before .before .before .before .before .pre .0) (omega (arith, c .before .before .before .before .before .before .before .before .cycle-at .ensures, c .before .before .before .before .cycle-at2 .ensures, cycles-rise (c .before .before .before .before .before .before .before .before .before .before .before .args .bytes .now) (c .before .before .before .before .before .before .before .before .before .before .before .args .n) (c .before .before .before .before .before .before .before .before .before .before .before .pre .0 .events) (c .before .before .before .before .before .before .before .before .before .before .before .args .i) (c .before .before .before .before .before .before .later .j) (c .before .before .before .before .before .before .later .inv .behind) (c .before .before .before .before .before .later-test .taken))) (sym (c .if2 .taken) ∙ c .before .cuts-burst .ensures)
+returns-2 c =
+    let at-pins-at2 = c .before .before in
+    let at-if1 = at-pins-at2 .before in
+    let at-cycle-at2 = at-if1 .before in
+    let at-later-test = at-cycle-at2 .before in
+    let at-later = at-later-test .before in
+    let at-length-of = at-later .before in
+    let at-cycle-at = at-length-of .before in
+    let at-pins-at = at-cycle-at .before in
+    let start = at-pins-at .before .before in
+    let a = start .args in
+    cut-short (a .bytes .now) (a .n) (a .i) (a .mode) (at-later .later .inv) (at-pins-at .pins-at .ensures) (at-cycle-at .cycle-at .ensures)
+    (ap (λ (v : ℕ). v / 2) (at-length-of .length-of .ensures)) (at-later-test .later-test .taken) (at-cycle-at2 .cycle-at2 .ensures)
+    (at-pins-at2 .pins-at2 .ensures) (omega (arith, at-if1 .if1 .left)) (start .pre .0)
+    (omega (
+      arith,
+      at-cycle-at .cycle-at .ensures,
+      at-cycle-at2 .cycle-at2 .ensures,
+      cycles-rise (a .bytes .now) (a .n) (start .pre .0 .events) (a .i) (at-later .later .j) (at-later .later .inv .behind)
+          (at-later-test .later-test .taken),
+    )) (sym (c .if2 .taken) ∙ c .before .cuts-burst .ensures)
 
 add-j-2 : tie.Need-add-j-2 Inv-later μ-later
 add-j-2 c = omega arith
@@ -61,10 +110,27 @@ later-less : tie.Need-later-less Inv-later μ-later
 later-less c = omega arith
 
 later-again : tie.Need-later-again Inv-later μ-later
-later-again c = goes-on (c .before .before .before .before .before .before .before .before .before .before .before .args .bytes .now) (c .before .before .before .before .before .before .before .before .before .before .before .args .n) (c .before .before .before .before .before .before .before .before .before .before .before .args .i) (c .before .before .before .before .before .before .before .before .before .before .before .args .mode) (c .before .before .before .before .before .before .later .inv) (c .before .before .before .before .before .before .before .before .before .pins-at .ensures) (c .before .before .before .before .before .before .before .before .cycle-at .ensures) (ap (λ (v : ℕ). v / 2) (c .before .before .before .before .before .before .before .length-of .ensures)) (c .before .before .before .before .before .later-test .taken) (c .before .before .before .before .cycle-at2 .ensures) (c .before .before .pins-at2 .ensures) (omega (arith, c .before .before .before .if1 .left)) (sym (c .if2 .left) ∙ c .before .cuts-burst .ensures)
+later-again c =
+    let at-pins-at2 = c .before .before in
+    let at-if1 = at-pins-at2 .before in
+    let at-cycle-at2 = at-if1 .before in
+    let at-later-test = at-cycle-at2 .before in
+    let at-later = at-later-test .before in
+    let at-length-of = at-later .before in
+    let at-cycle-at = at-length-of .before in
+    let at-pins-at = at-cycle-at .before in
+    let start = at-pins-at .before .before in
+    let a = start .args in
+    goes-on (a .bytes .now) (a .n) (a .i) (a .mode) (at-later .later .inv) (at-pins-at .pins-at .ensures) (at-cycle-at .cycle-at .ensures)
+    (ap (λ (v : ℕ). v / 2) (at-length-of .length-of .ensures)) (at-later-test .later-test .taken) (at-cycle-at2 .cycle-at2 .ensures)
+    (at-pins-at2 .pins-at2 .ensures) (omega (arith, at-if1 .if1 .left)) (sym (c .if2 .left) ∙ c .before .cuts-burst .ensures)
 
 returns-3 : tie.Need-returns-3 Inv-later μ-later
-returns-3 c = ends (c .before .before .before .before .before .before .args .bytes .now) (c .before .before .before .before .before .before .args .n) (c .before .before .before .before .before .before .args .i) (c .before .before .before .before .before .before .args .mode) (c .before .later .inv) (ap (λ (v : ℕ). v / 2) (c .before .before .length-of .ensures)) (omega arith)
+returns-3 c =
+    let at-length-of = c .before .before in
+    let start = at-length-of .before .before .before .before in
+    let a = start .args in
+    ends (a .bytes .now) (a .n) (a .i) (a .mode) (c .before .later .inv) (ap (λ (v : ℕ). v / 2) (at-length-of .length-of .ensures)) (omega arith)
 
 pub look-ahead-spec : {M : Type 1} → statement M
 look-ahead-spec =

@@ -23,7 +23,12 @@ address-requires c κs = search needs
 
 returns-3 : tie.Need-returns-3
 unfolding modeAfter
-returns-3 c = rw (← c .before .before .before .before .code .ensures, eq-eqb _ 0 (c .before .before .before .if1 .left), ← c .before .before .bank .ensures .0, eq-eqb _ 0 (c .before .if2 .left)) (c .address .ensures .0)
+returns-3 c =
+    let at-bank = c .before .before in
+    let at-if1 = at-bank .before in
+    let at-code = at-if1 .before in
+    rw (← at-code .code .ensures, eq-eqb _ 0 (at-if1 .if1 .left), ← at-bank .bank .ensures .0, eq-eqb _ 0 (c .before .if2 .left))
+    (c .address .ensures .0)
 
 pub mode-after-spec : {M : Type 1} → statement M
 mode-after-spec =

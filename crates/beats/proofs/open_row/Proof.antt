@@ -28,7 +28,12 @@ element-write-firsts : tie.Need-element-write-firsts
 element-write-firsts c = search needs
 
 returns-2 : tie.Need-returns-2
-returns-2 c = rw (← c .before .before .before .before .code .ensures, eq-eqb _ 12 (c .before .before .before .if1 .left), ← c .before .before .bank .ensures .0, ← c .before .address .ensures .0, c .first-cell .ensures)
+returns-2 c =
+    let at-bank = c .before .before in
+    let at-if1 = at-bank .before in
+    let at-code = at-if1 .before in
+    rw
+    (← at-code .code .ensures, eq-eqb _ 12 (at-if1 .if1 .left), ← at-bank .bank .ensures .0, ← c .before .address .ensures .0, c .first-cell .ensures)
 
 pub open-row-spec : {M : Type 1} → statement M
 open-row-spec =

@@ -23,22 +23,46 @@ add-block : tie.Need-add-block
 add-block c = omega (arith, block-le (c .length-of .result) (c .before .before .args .column), c .before .before .pre .0 .cell, c .before .before .pre .0 .low)
 
 write-interleaved-requires : tie.Need-write-interleaved-requires
-write-interleaved-requires c κs = (block-fits (c .before .before .before .before .args .first) (c .before .before .before .before .args .mode) (c .before .before .before .before .args .column) (c .before .before .before .before .args .pairs) (c .before .before .before .before .pre .0) (c .before .before .length-of .ensures), c .before .before .before .before .pre .1)
+write-interleaved-requires c κs =
+    let at-length-of = c .before .before in
+    let start = at-length-of .before .before in
+    let a = start .args in
+    (block-fits (a .first) (a .mode) (a .column) (a .pairs) (start .pre .0) (at-length-of .length-of .ensures), start .pre .1)
 
 same-length : tie.Need-same-length
 same-length c = search needs
 
 returns : tie.Need-returns
-returns c = c .before .before .write-interleaved .ensures ∙ ap (sets (c .before .before .before .before .before .before .before .args .out .now) (c .before .before .before .before .before .before .before .args .at)) (in-block (c .before .before .before .before .before .before .before .args .first) (c .before .before .before .before .before .before .before .args .mode) (c .before .before .before .before .before .before .before .args .column) true (2 * c .before .before .before .before .before .before .before .args .pairs) (eq-eqb _ 1 (c .before .before .before .before .if1 .taken)) (c .before .before .before .before .before .length-of .ensures))
+returns c =
+    let at-write-interleaved = c .before .before in
+    let at-if1 = at-write-interleaved .before .before in
+    let at-length-of = at-if1 .before in
+    let start = at-length-of .before .before in
+    let a = start .args in
+    at-write-interleaved .write-interleaved .ensures
+    ∙ ap (sets (a .out .now) (a .at))
+    (in-block (a .first) (a .mode) (a .column) true (2 * a .pairs) (eq-eqb _ 1 (at-if1 .if1 .taken)) (at-length-of .length-of .ensures))
 
 write-sequential-requires : tie.Need-write-sequential-requires
-write-sequential-requires c κs = (block-fits (c .before .before .before .before .args .first) (c .before .before .before .before .args .mode) (c .before .before .before .before .args .column) (c .before .before .before .before .args .pairs) (c .before .before .before .before .pre .0) (c .before .before .length-of .ensures), c .before .before .before .before .pre .1)
+write-sequential-requires c κs =
+    let at-length-of = c .before .before in
+    let start = at-length-of .before .before in
+    let a = start .args in
+    (block-fits (a .first) (a .mode) (a .column) (a .pairs) (start .pre .0) (at-length-of .length-of .ensures), start .pre .1)
 
 same-length-2 : tie.Need-same-length-2
 same-length-2 c = search needs
 
 returns-2 : tie.Need-returns-2
-returns-2 c = c .before .before .write-sequential .ensures ∙ ap (sets (c .before .before .before .before .before .before .before .args .out .now) (c .before .before .before .before .before .before .before .args .at)) (in-block (c .before .before .before .before .before .before .before .args .first) (c .before .before .before .before .before .before .before .args .mode) (c .before .before .before .before .before .before .before .args .column) false (2 * c .before .before .before .before .before .before .before .args .pairs) (ne-eqb _ 1 (c .before .before .before .before .if1 .left)) (c .before .before .before .before .before .length-of .ensures))
+returns-2 c =
+    let at-write-sequential = c .before .before in
+    let at-if1 = at-write-sequential .before .before in
+    let at-length-of = at-if1 .before in
+    let start = at-length-of .before .before in
+    let a = start .args in
+    at-write-sequential .write-sequential .ensures
+    ∙ ap (sets (a .out .now) (a .at))
+    (in-block (a .first) (a .mode) (a .column) false (2 * a .pairs) (ne-eqb _ 1 (at-if1 .if1 .left)) (at-length-of .length-of .ensures))
 
 pub write-burst-spec : {M : Type 1} → statement M
 write-burst-spec =

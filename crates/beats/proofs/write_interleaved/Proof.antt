@@ -25,7 +25,14 @@ rem-out : tie.Need-rem-out Inv-loop μ-loop
 rem-out c = c .before .before .pre .0 .some
 
 add-out : tie.Need-add-out Inv-loop μ-loop
-add-out c = omega (arith, c .before .before .pre .0 .cell, place-lt true (c .before .before .args .size) (c .before .before .args .column) (c .before .loop .beat) (c .before .before .pre .0 .some) (c .before .before .pre .0 .most) (omega (arith, c .before .before .pre .0 .short)))
+add-out c =
+    let start = c .before .before in
+    omega (
+      arith,
+      start .pre .0 .cell,
+      place-lt true (start .args .size) (start .args .column) (c .before .loop .beat) (start .pre .0 .some) (start .pre .0 .most)
+          (omega (arith, start .pre .0 .short)),
+    )
 
 mul-out : tie.Need-mul-out Inv-loop μ-loop
 mul-out c = omega arith
@@ -43,13 +50,20 @@ loop-less : tie.Need-loop-less Inv-loop μ-loop
 loop-less c = omega arith
 
 loop-again : tie.Need-loop-again Inv-loop μ-loop
-loop-again c = goes-on (λ (j : ℕ). c .before .before .args .block + placeIn true (c .before .before .args .size) (c .before .before .args .column) j) (c .before .before .args .out .now) (c .before .before .args .at) (2 * c .before .before .args .pairs) (c .before .loop .inv) (omega arith) refl
+loop-again c =
+    let start = c .before .before in
+    let a = start .args in
+    goes-on (λ (j : ℕ). a .block + placeIn true (a .size) (a .column) j) (a .out .now) (a .at) (2 * a .pairs) (c .before .loop .inv) (omega arith)
+    refl
 
 same-length : tie.Need-same-length Inv-loop μ-loop
 same-length c = c .before .loop .inv .size
 
 returns : tie.Need-returns Inv-loop μ-loop
-returns c = ends (λ (j : ℕ). c .before .before .args .block + placeIn true (c .before .before .args .size) (c .before .before .args .column) j) (c .before .before .args .out .now) (c .before .before .args .at) (2 * c .before .before .args .pairs) (c .before .loop .inv) (omega arith)
+returns c =
+    let start = c .before .before in
+    let a = start .args in
+    ends (λ (j : ℕ). a .block + placeIn true (a .size) (a .column) j) (a .out .now) (a .at) (2 * a .pairs) (c .before .loop .inv) (omega arith)
 
 pub write-interleaved-spec : {M : Type 1} → statement M
 write-interleaved-spec =

@@ -18,7 +18,10 @@ abbrev μ-loop : tie.MeasureT-loop
 μ-loop out₀ at block size column pairs from₀ next₀ pair₀ out from next pair = pairs - pair
 
 loop-holds : tie.Need-loop-holds Inv-loop μ-loop
-loop-holds c = (begins (λ (j : ℕ). c .args .block + placeIn false (c .args .size) (c .args .column) j) (c .args .out .now) (c .args .at) (2 * c .args .pairs), omega arith)
+loop-holds c = (
+  begins (λ (j : ℕ). c .args .block + placeIn false (c .args .size) (c .args .column) j) (c .args .out .now) (c .args .at) (2 * c .args .pairs),
+  omega arith,
+)
 
 rem-out : tie.Need-rem-out Inv-loop μ-loop
 rem-out c = c .before .before .pre .0 .some
@@ -48,7 +51,16 @@ mul-out-2 : tie.Need-mul-out-2 Inv-loop μ-loop
 mul-out-2 c = omega arith
 
 slice-write-out-2 : tie.Need-slice-write-out-2 Inv-loop μ-loop
-slice-write-out-2 c = omega (arith, length-set (c .before .loop .out) (c .before .loop .next) (c .before .before .args .block + c .before .loop .from % c .before .before .args .size), c .before .loop .inv .0 .place, c .before .loop .inv .0 .size, c .before .before .pre .1)
+slice-write-out-2 c =
+    let at-loop = c .before in
+    let start = at-loop .before in
+    omega (
+      arith,
+      length-set (at-loop .loop .out) (at-loop .loop .next) (start .args .block + at-loop .loop .from % start .args .size),
+      at-loop .loop .inv .0 .place,
+      at-loop .loop .inv .0 .size,
+      start .pre .1,
+    )
 
 add-from : tie.Need-add-from Inv-loop μ-loop
 add-from c = omega (arith, c .before .loop .inv .1, c .before .before .pre .0 .low, c .before .before .pre .0 .short)
@@ -63,13 +75,24 @@ loop-less : tie.Need-loop-less Inv-loop μ-loop
 loop-less c = omega arith
 
 loop-again : tie.Need-loop-again Inv-loop μ-loop
-loop-again c = (pair-on (λ (j : ℕ). c .before .before .args .block + placeIn false (c .before .before .args .size) (c .before .before .args .column) j) (c .before .before .args .out .now) (c .before .before .args .at) (2 * c .before .before .args .pairs) (c .before .loop .pair) (c .before .loop .inv .0) (omega arith) (rw (c .before .loop .inv .1)) (ap (λ (k : ℕ). c .before .before .args .block + k % c .before .before .args .size) (omega (arith, c .before .loop .inv .1))), omega (arith, c .before .loop .inv .1))
+loop-again c =
+    let at-loop = c .before in
+    let start = at-loop .before in
+    let a = start .args in (
+      pair-on (λ (j : ℕ). a .block + placeIn false (a .size) (a .column) j) (a .out .now) (a .at) (2 * a .pairs) (at-loop .loop .pair)
+          (at-loop .loop .inv .0) (omega arith) (rw (at-loop .loop .inv .1))
+          (ap (λ (k : ℕ). a .block + k % a .size) (omega (arith, at-loop .loop .inv .1))),
+      omega (arith, at-loop .loop .inv .1),
+    )
 
 same-length : tie.Need-same-length Inv-loop μ-loop
 same-length c = c .before .loop .inv .0 .size
 
 returns : tie.Need-returns Inv-loop μ-loop
-returns c = ends (λ (j : ℕ). c .before .before .args .block + placeIn false (c .before .before .args .size) (c .before .before .args .column) j) (c .before .before .args .out .now) (c .before .before .args .at) (2 * c .before .before .args .pairs) (c .before .loop .inv .0) (omega arith)
+returns c =
+    let start = c .before .before in
+    let a = start .args in
+    ends (λ (j : ℕ). a .block + placeIn false (a .size) (a .column) j) (a .out .now) (a .at) (2 * a .pairs) (c .before .loop .inv .0) (omega arith)
 
 pub write-sequential-spec : {M : Type 1} → statement M
 write-sequential-spec =

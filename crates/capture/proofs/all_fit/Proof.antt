@@ -20,7 +20,9 @@ cycle-at-requires : tie.Need-cycle-at-requires Inv-loop μ-loop
 cycle-at-requires c κs = omega arith
 
 loop-holds : tie.Need-loop-holds Inv-loop μ-loop
-loop-holds c = begins (c .before .before .before .before .args .bytes .now) (c .before .before .before .before .args .n) (omega arith) (c .before .pins-at .ensures) (c .cycle-at .ensures)
+loop-holds c =
+    let start = c .before .before .before .before in
+    begins (start .args .bytes .now) (start .args .n) (omega arith) (c .before .pins-at .ensures) (c .cycle-at .ensures)
 
 cycle-at-requires-2 : tie.Need-cycle-at-requires-2 Inv-loop μ-loop
 cycle-at-requires-2 c κs = omega arith
@@ -41,13 +43,22 @@ loop-less : tie.Need-loop-less Inv-loop μ-loop
 loop-less c = omega arith
 
 loop-again : tie.Need-loop-again Inv-loop μ-loop
-loop-again c = goes-on (c .before .before .before .before .before .before .before .before .before .before .args .bytes .now) (c .before .before .before .before .before .before .before .before .before .before .args .n) (c .before .before .before .before .before .loop .inv) (omega arith) (c .before .before .before .cycle-at2 .ensures) (c .before .before .pins-at2 .ensures) (c .before .both .ensures) (c .both2 .ensures)
+loop-again c =
+    let at-pins-at2 = c .before .before in
+    let at-cycle-at2 = at-pins-at2 .before in
+    let at-loop = at-cycle-at2 .before .before in
+    let start = at-loop .before .before .before .before .before in
+    goes-on (start .args .bytes .now) (start .args .n) (at-loop .loop .inv) (omega arith) (at-cycle-at2 .cycle-at2 .ensures)
+    (at-pins-at2 .pins-at2 .ensures) (c .before .both .ensures) (c .both2 .ensures)
 
 both-requires-3 : tie.Need-both-requires-3 Inv-loop μ-loop
 both-requires-3 c κs = tt
 
 returns-2 : tie.Need-returns-2 Inv-loop μ-loop
-returns-2 c = ends (c .before .before .before .before .before .before .before .args .bytes .now) (c .before .before .before .before .before .before .before .args .n) (c .before .before .loop .inv) (omega arith) (c .both3 .ensures)
+returns-2 c =
+    let at-loop = c .before .before in
+    let start = at-loop .before .before .before .before .before in
+    ends (start .args .bytes .now) (start .args .n) (at-loop .loop .inv) (omega arith) (c .both3 .ensures)
 
 pub all-fit-spec : {M : Type 1} → statement M
 all-fit-spec =

@@ -31,7 +31,18 @@ event-count-requires c κs = search needs
 returns-3 : tie.Need-returns-3
 unfolding headerFits
 returns-3 c =
-    rw (← c .before .before .before .before .before .word-at .ensures, eq-eqb _ _ (c .before .before .before .before .if1 .left), ← c .before .before .before .word-at2 .ensures, eq-eqb _ _ (c .before .before .if2 .left), ← c .before .event-count .ensures, lt-leb _ _ (c .if3 .taken))
+    let at-if2 = c .before .before in
+    let at-word-at2 = at-if2 .before in
+    let at-if1 = at-word-at2 .before in
+    let at-word-at = at-if1 .before in
+    rw (
+      ← at-word-at .word-at .ensures,
+      eq-eqb _ _ (at-if1 .if1 .left),
+      ← at-word-at2 .word-at2 .ensures,
+      eq-eqb _ _ (at-if2 .if2 .left),
+      ← c .before .event-count .ensures,
+      lt-leb _ _ (c .if3 .taken),
+    )
 
 word-at-requires-3 : tie.Need-word-at-requires-3
 word-at-requires-3 c κs = search needs
@@ -42,7 +53,22 @@ cast-if4 c = search needs
 returns-4 : tie.Need-returns-4
 unfolding headerFits
 returns-4 c =
-    rw (← c .before .before .before .before .before .before .before .word-at .ensures, eq-eqb _ _ (c .before .before .before .before .before .before .if1 .left), ← c .before .before .before .before .before .word-at2 .ensures, eq-eqb _ _ (c .before .before .before .before .if2 .left), ← c .before .before .before .event-count .ensures, le-leb _ _ (c .before .before .if3 .left), ← c .before .word-at3 .ensures, ne-eqb _ _ (c .if4 .taken))
+    let at-if3 = c .before .before in
+    let at-event-count = at-if3 .before in
+    let at-if2 = at-event-count .before in
+    let at-word-at2 = at-if2 .before in
+    let at-if1 = at-word-at2 .before in
+    let at-word-at = at-if1 .before in
+    rw (
+      ← at-word-at .word-at .ensures,
+      eq-eqb _ _ (at-if1 .if1 .left),
+      ← at-word-at2 .word-at2 .ensures,
+      eq-eqb _ _ (at-if2 .if2 .left),
+      ← at-event-count .event-count .ensures,
+      le-leb _ _ (at-if3 .if3 .left),
+      ← c .before .word-at3 .ensures,
+      ne-eqb _ _ (c .if4 .taken),
+    )
 
 word-at-requires-4 : tie.Need-word-at-requires-4
 word-at-requires-4 c κs = search needs
@@ -50,7 +76,26 @@ word-at-requires-4 c κs = search needs
 returns-5 : tie.Need-returns-5
 unfolding headerFits
 returns-5 c =
-    rw (← c .before .before .before .before .before .before .before .before .before .word-at .ensures, eq-eqb _ _ (c .before .before .before .before .before .before .before .before .if1 .left), ← c .before .before .before .before .before .before .before .word-at2 .ensures, eq-eqb _ _ (c .before .before .before .before .before .before .if2 .left), ← c .before .before .before .before .before .event-count .ensures, le-leb _ _ (c .before .before .before .before .if3 .left), ← c .before .before .before .word-at3 .ensures, eq-eqb _ _ (c .before .before .if4 .left), ← c .before .word-at4 .ensures, ne-eqb _ _ (c .if5 .taken))
+    let at-if4 = c .before .before in
+    let at-word-at3 = at-if4 .before in
+    let at-if3 = at-word-at3 .before in
+    let at-event-count = at-if3 .before in
+    let at-if2 = at-event-count .before in
+    let at-word-at2 = at-if2 .before in
+    let at-if1 = at-word-at2 .before in
+    let at-word-at = at-if1 .before in
+    rw (
+      ← at-word-at .word-at .ensures,
+      eq-eqb _ _ (at-if1 .if1 .left),
+      ← at-word-at2 .word-at2 .ensures,
+      eq-eqb _ _ (at-if2 .if2 .left),
+      ← at-event-count .event-count .ensures,
+      le-leb _ _ (at-if3 .if3 .left),
+      ← at-word-at3 .word-at3 .ensures,
+      eq-eqb _ _ (at-if4 .if4 .left),
+      ← c .before .word-at4 .ensures,
+      ne-eqb _ _ (c .if5 .taken),
+    )
 
 word-at-requires-5 : tie.Need-word-at-requires-5
 word-at-requires-5 c κs = search needs
@@ -67,7 +112,28 @@ add-result c = search needs
 returns-6 : tie.Need-returns-6
 unfolding headerFits
 returns-6 c =
-    rw (← c .before .before .before .before .before .before .before .before .before .before .word-at .ensures, eq-eqb _ _ (c .before .before .before .before .before .before .before .before .before .if1 .left), ← c .before .before .before .before .before .before .before .before .word-at2 .ensures, eq-eqb _ _ (c .before .before .before .before .before .before .before .if2 .left), ← c .before .before .before .before .before .before .event-count .ensures, le-leb _ _ (c .before .before .before .before .before .if3 .left), ← c .before .before .before .before .word-at3 .ensures, eq-eqb _ _ (c .before .before .before .if4 .left), ← c .before .before .word-at4 .ensures, eq-eqb _ _ (c .before .if5 .left), ← c .word-at5 .ensures)
+    let at-word-at4 = c .before .before in
+    let at-if4 = at-word-at4 .before in
+    let at-word-at3 = at-if4 .before in
+    let at-if3 = at-word-at3 .before in
+    let at-event-count = at-if3 .before in
+    let at-if2 = at-event-count .before in
+    let at-word-at2 = at-if2 .before in
+    let at-if1 = at-word-at2 .before in
+    let at-word-at = at-if1 .before in
+    rw (
+      ← at-word-at .word-at .ensures,
+      eq-eqb _ _ (at-if1 .if1 .left),
+      ← at-word-at2 .word-at2 .ensures,
+      eq-eqb _ _ (at-if2 .if2 .left),
+      ← at-event-count .event-count .ensures,
+      le-leb _ _ (at-if3 .if3 .left),
+      ← at-word-at3 .word-at3 .ensures,
+      eq-eqb _ _ (at-if4 .if4 .left),
+      ← at-word-at4 .word-at4 .ensures,
+      eq-eqb _ _ (c .before .if5 .left),
+      ← c .word-at5 .ensures,
+    )
 
 pub bad-header-spec : {M : Type 1} → statement M
 bad-header-spec =

@@ -1,5 +1,5 @@
 use borrow.Author.Needs.{needs}
-use Rattle.capture.proofs.Opening.{part-is}
+use Rattle.capture.proofs.Opening.{bytes-are}
 use Rattle.capture.proofs.event_bytes.Statement.{statement}
 use Rattle.capture.proofs.event_bytes.Tie as tie
 
@@ -13,7 +13,7 @@ part-result-end : tie.Need-part-result-end
 part-result-end c = search needs
 
 returns : tie.Need-returns
-returns c = part-is (c .before .args .capture .now)
+returns c = bytes-are (c .before .args .capture .now)
 
-pub event-part-spec : {M : Type 1} → statement M
-event-part-spec = tie.close (tie.spec sub-result part-result-start part-result-end returns)
+pub event-bytes-spec : {M : Type 1} → statement M
+event-bytes-spec = tie.close (tie.spec sub-result part-result-start part-result-end returns)

@@ -42,14 +42,22 @@ events-less c = omega arith
 
 events-again : tie.Need-events-again Inv-events μ-events
 events-again c =
-    goes-on (c .before .before .before .before .before .events .inv) (omega arith) (c .before .before .before .cycle-at .ensures) (c .before .before .pins-at .ensures) (sym (c .before .event-fits .ensures) ∙ c .if2 .taken)
+    let at-pins-at = c .before .before in
+    let at-cycle-at = at-pins-at .before in
+    let at-events = at-cycle-at .before .before in
+    goes-on (at-events .events .inv) (omega arith) (at-cycle-at .cycle-at .ensures) (at-pins-at .pins-at .ensures)
+    (sym (c .before .event-fits .ensures) ∙ c .if2 .taken)
 
 cast-t10 : tie.Need-cast-t10 Inv-events μ-events
 cast-t10 c = omega arith
 
 returns-2 : tie.Need-returns-2 Inv-events μ-events
 returns-2 c =
-    stops (c .before .before .before .before .before .events .inv) (omega arith) (c .before .before .before .cycle-at .ensures) (c .before .before .pins-at .ensures) (sym (c .before .event-fits .ensures) ∙ c .if2 .left)
+    let at-pins-at = c .before .before in
+    let at-cycle-at = at-pins-at .before in
+    let at-events = at-cycle-at .before .before in
+    stops (at-events .events .inv) (omega arith) (at-cycle-at .cycle-at .ensures) (at-pins-at .pins-at .ensures)
+    (sym (c .before .event-fits .ensures) ∙ c .if2 .left)
 
 returns-3 : tie.Need-returns-3 Inv-events μ-events
 returns-3 c = ends (c .before .events .inv) (omega arith)

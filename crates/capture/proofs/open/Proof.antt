@@ -7,7 +7,7 @@ use borrow.Author.Tests.{not-true, not-false}
 use borrow.Author.Needs.{needs}
 use lib.ListN.{length}
 use Rattle.reading.specs.Settings.{badSetting}
-use Rattle.reading.specs.Capture.{badLength, headerFits}
+use Rattle.reading.specs.Capture.{lengthFits, headerFits}
 use Rattle.reading.specs.Answers.{Answer, answered, unless, accepted}
 use Rattle.words.specs.Found.{placeOf}
 use Rattle.words.specs.declared.Found.{Found}
@@ -20,8 +20,8 @@ use Rattle.capture.proofs.open.Tie as tie
 abbrev capture-of : tie.Else2 → List ℕ
 capture-of c = c .before .before .before .before .before .args .capture .now
 
-right-length : (c : tie.Else1) → badLength (c .before .before .before .args .capture .now) ≡ false
-right-length c = sym (c .before .bad-length .ensures) ∙ c .if1 .left
+right-length : (c : tie.Else1) → lengthFits (c .before .before .before .args .capture .now) ≡ true
+right-length c = not-false _ (sym (c .before .bad-length .ensures) ∙ c .if1 .left)
 
 right-header : (c : tie.Else2) → headerFits (capture-of c) ≡ true
 right-header c = not-false _ (sym (c .before .bad-header .ensures) ∙ c .if2 .left)
@@ -34,14 +34,16 @@ bad-length-requires c κs = search needs
 
 returns : tie.Need-returns
 returns c =
-    wrong-length (c .before .before .before .args .capture .now) (sym (c .before .bad-length .ensures) ∙ c .if1 .taken)
+    wrong-length (c .before .before .before .args .capture .now) (not-true _ (sym (c .before .bad-length .ensures) ∙ c .if1 .taken))
 
 bad-header-requires : tie.Need-bad-header-requires
 bad-header-requires c κs = omega (arith, long-enough (c .before .before .before .args .capture .now) (right-length c))
 
 returns-2 : tie.Need-returns-2
 returns-2 c =
-    wrong-header (c .before .before .before .before .before .args .capture .now) (right-length (c .before .before)) (not-true _ (sym (c .before .bad-header .ensures) ∙ c .if2 .taken))
+    let at-there = c .before .before in
+    let start = at-there .before .before .before in
+    wrong-header (start .args .capture .now) (right-length (at-there)) (not-true _ (sym (c .before .bad-header .ensures) ∙ c .if2 .taken))
 
 setting-words-requires : tie.Need-setting-words-requires
 setting-words-requires c κs = long c
@@ -71,7 +73,7 @@ event-count-requires c κs = omega (arith, long (c .before .before .before .befo
 cast-n : tie.Need-cast-n
 cast-n c = search needs
 
-event-bytes-requires : tie.Need-event-part-requires
+event-bytes-requires : tie.Need-event-bytes-requires
 event-bytes-requires c κs = long (c .before .before .before .before .before .before)
 
 lowest-bad-event-requires : tie.Need-lowest-bad-event-requires

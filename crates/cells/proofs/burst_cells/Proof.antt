@@ -36,7 +36,7 @@ setting-words-requires c κs = holds-settings c
 event-count-requires : tie.Need-event-count-requires
 event-count-requires c κs = omega (arith, holds-settings (c .before))
 
-event-bytes-requires : tie.Need-event-part-requires
+event-bytes-requires : tie.Need-event-bytes-requires
 event-bytes-requires c κs = holds-settings (c .before .before)
 
 list-requires : tie.Need-list-requires

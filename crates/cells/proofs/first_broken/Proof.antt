@@ -19,10 +19,17 @@ enum-known-verdict : tie.Need-enum-known-verdict
 enum-known-verdict c = search needs
 
 returns : tie.Need-returns
-returns c = nothing-broken (c .before .before .before .before .before .before .before .before .args .s .now) (c .before .before .before .before .before .before .before .before .args .bytes .now) (c .before .before .before .before .before .before .before .before .args .n) (c .before .walk .ensures .0) (c .match .keys2)
+returns c =
+    let start = c .before .before .before .before .before .before .before .before in
+    let a = start .args in
+    nothing-broken (a .s .now) (a .bytes .now) (a .n) (c .before .walk .ensures .0) (c .match .keys2)
 
 returns-2 : tie.Need-returns-2
-returns-2 c = broken-first (c .before .before .before .before .before .before .before .before .before .before .args .s .now) (c .before .before .before .before .before .before .before .before .before .before .args .bytes .now) (c .before .before .before .before .before .before .before .before .before .before .args .n) (c .before .before .before .walk .ensures .0) (c .before .verdict .given .1)
+returns-2 c =
+    let at-walk = c .before .before .before in
+    let start = at-walk .before .before .before .before .before .before .before in
+    let a = start .args in
+    broken-first (a .s .now) (a .bytes .now) (a .n) (at-walk .walk .ensures .0) (c .before .verdict .given .1)
 
 pub first-broken-spec : {M : Type 1} → statement M
 first-broken-spec =

@@ -12,7 +12,10 @@ cast-if1 : tie.Need-cast-if1
 cast-if1 c = search needs
 
 returns : tie.Need-returns
-returns c = enough (c .before .before .args .s .now) (c .before .before .args .bytes .now) (c .before .before .args .n) (c .before .before .pre .0) (c .before .before .pre .1) (omega (arith, c .if1 .taken))
+returns c =
+    let start = c .before .before in
+    let a = start .args in
+    enough (a .s .now) (a .bytes .now) (a .n) (start .pre .0) (start .pre .1) (omega (arith, c .if1 .taken))
 
 needed-requires : tie.Need-needed-requires
 needed-requires c κs = search needs

@@ -22,13 +22,36 @@ events-holds : tie.Need-events-holds Inv-events μ-events
 events-holds c = begins (c .before .before .args .s .now) (c .before .before .args .bytes .now) (c .before .before .args .n) (c .before .before .pre)
 
 kept-requires : tie.Need-kept-requires Inv-events μ-events
-kept-requires c κs = (fitting (c .before .before .before .before .args .s .now) (c .before .before .before .before .args .bytes .now) (c .before .before .before .before .args .n) (c .before .before .before .before .pre), c .events-test .taken)
+kept-requires c κs =
+    let start = c .before .before .before .before in
+    let a = start .args in
+    (fitting (a .s .now) (a .bytes .now) (a .n) (start .pre), c .events-test .taken)
 
 mul-cells : tie.Need-mul-cells Inv-events μ-events
-mul-cells c = omega (arith, c .kept .ensures, kept-le (c .before .before .events .mode) (eventAt (c .before .before .before .before .before .args .bytes .now) (c .before .before .events .i)) (eventsFrom (c .before .before .before .before .before .args .bytes .now) (c .before .before .before .before .before .args .n) (c .before .before .events .i + 1)))
+mul-cells c =
+    let at-events = c .before .before in
+    let start = at-events .before .before .before in
+    let a = start .args in
+    omega (
+      arith,
+      c .kept .ensures,
+      kept-le (at-events .events .mode) (eventAt (a .bytes .now) (at-events .events .i))
+          (eventsFrom (a .bytes .now) (a .n) (at-events .events .i + 1)),
+    )
 
 add-cells : tie.Need-add-cells Inv-events μ-events
-add-cells c = omega (arith, c .kept .ensures, kept-le (c .before .before .events .mode) (eventAt (c .before .before .before .before .before .args .bytes .now) (c .before .before .events .i)) (eventsFrom (c .before .before .before .before .before .args .bytes .now) (c .before .before .before .before .before .args .n) (c .before .before .events .i + 1)), c .before .before .events .inv .small, c .before .before .before .before .before .pre .fit .few)
+add-cells c =
+    let at-events = c .before .before in
+    let start = at-events .before .before .before in
+    let a = start .args in
+    omega (
+      arith,
+      c .kept .ensures,
+      kept-le (at-events .events .mode) (eventAt (a .bytes .now) (at-events .events .i))
+          (eventsFrom (a .bytes .now) (a .n) (at-events .events .i + 1)),
+      at-events .events .inv .small,
+      start .pre .fit .few,
+    )
 
 cast-pins-at : tie.Need-cast-pins-at Inv-events μ-events
 cast-pins-at c = omega arith
@@ -46,10 +69,20 @@ events-less : tie.Need-events-less Inv-events μ-events
 events-less c = omega arith
 
 events-again : tie.Need-events-again Inv-events μ-events
-events-again c = goes-on (c .before .before .before .before .before .before .before .args .s .now) (c .before .before .before .before .before .before .before .args .bytes .now) (c .before .before .before .before .before .before .before .args .n) (c .before .before .before .before .events .inv) (c .before .before .before .events-test .taken) (c .before .before .kept .ensures) (c .before .pins-at .ensures) (c .mode-after .ensures)
+events-again c =
+    let at-kept = c .before .before in
+    let at-events-test = at-kept .before in
+    let at-events = at-events-test .before in
+    let start = at-events .before .before .before in
+    let a = start .args in
+    goes-on (a .s .now) (a .bytes .now) (a .n) (at-events .events .inv) (at-events-test .events-test .taken) (at-kept .kept .ensures)
+    (c .before .pins-at .ensures) (c .mode-after .ensures)
 
 returns : tie.Need-returns Inv-events μ-events
-returns c = ends (c .before .before .before .before .args .s .now) (c .before .before .before .before .args .bytes .now) (c .before .before .before .before .args .n) (c .before .events .inv) (omega arith)
+returns c =
+    let start = c .before .before .before .before in
+    let a = start .args in
+    ends (a .s .now) (a .bytes .now) (a .n) (c .before .events .inv) (omega arith)
 
 pub needed-spec : {M : Type 1} → statement M
 needed-spec =

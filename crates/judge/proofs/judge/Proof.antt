@@ -43,7 +43,7 @@ array-read-pace c = search needs
 pace-requires : tie.Need-pace-requires
 pace-requires c κs = search needs
 
-event-bytes-requires : tie.Need-event-part-requires
+event-bytes-requires : tie.Need-event-bytes-requires
 event-bytes-requires c κs = holds-settings (c .before .before .before .before .before)
 
 walk-requires : tie.Need-walk-requires

@@ -14,7 +14,14 @@ enum-known-scheduled : tie.Need-enum-known-scheduled
 enum-known-scheduled c = search needs
 
 pack-requires : tie.Need-pack-requires
-pack-requires c κs = (count-fits means (c .before .before .before .before .before .schedule .ensures .0) (c .before .scheduled .given .1) (schedule-fits (c .before .before .before .before .before .before .before .before .before .before .args .settings .now) (c .before .before .before .before .before .before .before .before .before .before .args .requests .now) (c .before .before .before .before .before .before .before .before .before .before .args .out .now)) .0 .1, omega arith)
+pack-requires c κs =
+    let at-schedule = c .before .before .before .before .before in
+    let start = at-schedule .before .before .before .before .before in
+    let a = start .args in (
+      count-fits means (at-schedule .schedule .ensures .0) (c .before .scheduled .given .1)
+          (schedule-fits (a .settings .now) (a .requests .now) (a .out .now)) .0 .1,
+      omega arith,
+    )
 
 enum-known-scheduled-2 : tie.Need-enum-known-scheduled-2
 enum-known-scheduled-2 c = search needs
@@ -26,13 +33,21 @@ same-length : tie.Need-same-length
 same-length c = search needs
 
 returns : tie.Need-returns
-returns c = (c .pack .ensures ∙ count-packed means (c .before .before .before .before .before .before .schedule .ensures .0) (c .before .before .scheduled .given .1), c .before .before .before .before .before .before .schedule .ensures .1)
+returns c =
+    let at-scheduled = c .before .before in
+    let at-schedule = at-scheduled .before .before .before .before in
+    (c .pack .ensures ∙ count-packed means (at-schedule .schedule .ensures .0) (at-scheduled .scheduled .given .1), at-schedule .schedule .ensures .1)
 
 same-length-2 : tie.Need-same-length-2
 same-length-2 c = search needs
 
 returns-2 : tie.Need-returns-2
-returns-2 c = (c .pack2 .ensures ∙ count-packed means (c .before .before .before .before .before .before .schedule .ensures .0) (c .before .before .scheduled2 .given .1), c .before .before .before .before .before .before .schedule .ensures .1)
+returns-2 c =
+    let at-scheduled2 = c .before .before in
+    let at-schedule = at-scheduled2 .before .before .before .before in (
+      c .pack2 .ensures ∙ count-packed means (at-schedule .schedule .ensures .0) (at-scheduled2 .scheduled2 .given .1),
+      at-schedule .schedule .ensures .1,
+    )
 
 pub morgazell-schedule-spec : {M : Type 1} → statement M
 morgazell-schedule-spec =

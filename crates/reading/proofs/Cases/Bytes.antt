@@ -6,7 +6,7 @@ use mathlib.Core.Path.{_≡_, refl}
 use lib.ListN.{set, replicate}
 use Rattle.reading.specs.Words.{wordAt, wordBytes, bytesOf}
 use Rattle.reading.specs.Verdict.{clean, broken}
-use Rattle.reading.specs.Schedule.{captureOf, requestFits, badRequest, passes, earliest, freeFrom, placed, send, sendRequest, refreshInTime, served, scheduleFrom, scheduleOf}
+use Rattle.reading.specs.Schedule.{captureOf, requestFits, badRequest, passes, earliest, freeFrom, lastFrom, placed, send, sendAll, sendRequest, sendRefresh, refreshInTime, served, scheduleFrom, scheduleBy}
 use Rattle.reading.specs.Answers.{answered, judgeAnswer, scheduleOutcome}
 use Rattle.reading.proofs.Cases.{ACTIVE, READ, NOP, at, usual, touches, breaks, said, Case, bytes, Hold}
 
@@ -70,7 +70,7 @@ schedule-bytes :
           ∷ 0x03 ∷ 0 ∷ 0 ∷ 0 ∷ 0x25 ∷ 0x44 ∷ 0x02 ∷ 0
           ∷ 9 ∷ 9 ∷ []);
     }
-unfolding said scheduleOutcome scheduleOf scheduleFrom served refreshInTime sendRequest send placed freeFrom earliest passes badRequest requestFits
+unfolding said scheduleOutcome scheduleBy scheduleFrom served refreshInTime lastFrom sendRefresh sendRequest sendAll send placed freeFrom earliest passes badRequest requestFits
 schedule-bytes = refl
 
 -- ---- the numbers that the report program prints, as document 01 has them for case b

@@ -7,7 +7,7 @@ use mathlib.Core.Path.{_≡_, refl}
 use lib.ListN.{length, set, take}
 use Rattle.reading.specs.Words.{bytesOf}
 use Rattle.reading.specs.Settings.{settingFits, badSetting}
-use Rattle.reading.specs.Capture.{headerWord, eventCount, settingWords, eventBytes, badLength, headerFits, pinBits, badEvent}
+use Rattle.reading.specs.Capture.{headerWord, eventCount, settingWords, eventBytes, lengthFits, headerFits, pinBits, badEvent}
 use Rattle.reading.specs.Answers.{Answer, refused, unless, accepted}
 use Rattle.reading.proofs.Cases.{NOP, at, usual, refuses, touches, said, Case, case, bytes, Hold}
 
@@ -87,7 +87,7 @@ each-shape = refl
 module _ {A : Type 0} (capture : List ℕ) (rest : Answer A) where
   -- no header saves a longer one
   too-long : length capture ≡ 64081 → accepted capture rest ≡ refused 1 0
-  unfolding accepted badLength
+  unfolding accepted lengthFits
   too-long l = rw l
 
   -- of such a one that its header states, only settings and events are left to ask
@@ -100,5 +100,5 @@ module _ {A : Type 0} (capture : List ℕ) (rest : Answer A) where
       headerWord capture 4 ≡ 80 →
       headerWord capture 5 ≡ 0 →
       accepted capture rest ≡ unless 3 (badSetting (settingWords capture)) (unless 4 (badEvent (pinBits capture) (eventBytes capture) 8000) rest)
-  unfolding accepted badLength headerFits
+  unfolding accepted lengthFits headerFits
   longest l total settings from events onwards zeros = rw (l, total, settings, from, events, onwards, zeros)

@@ -1,11 +1,13 @@
 -- Case m of document 01, schedules that are refused, and lent buffers.
 use Prim.Native.Nat.{ℕ, _+_}
+use mathlib.Core.Bool.{true, false}
 use mathlib.Core.List.{List, [], _∷_, _++_, map}
 use mathlib.Core.Path.{_≡_, refl}
 use lib.ListN.{set, take, replicate}
 use Rattle.reading.specs.Settings.{settingsOf}
 use Rattle.reading.specs.Capture.{Event}
-use Rattle.reading.specs.Schedule.{captureOf, activePins, burstPins, refreshPins, requestFits, badRequest, passes, earliest, freeFrom, placed, send, sendRequest, refreshInTime, served, scheduleFrom, scheduleOf}
+use Rattle.reading.specs.Schedule.{captureOf, activePins, burstPins, refreshPins, requestCommands, refreshCommands, requestFits, badRequest, passes, earliest, freeFrom, lastFrom, placed, send, sendAll, sendRequest, sendRefresh, refreshInTime, served, planned, scheduleFrom, scheduleBy}
+use Rattle.reading.specs.Part.{start}
 use Rattle.reading.specs.Answers.{Outcome, refused, answered, cellsOutcome, scheduleOutcome}
 use Rattle.reading.proofs.Cases.{ACTIVE, READ, WRITE, REFRESH, A10, A11, bank, at, usual, said}
 
@@ -90,16 +92,17 @@ cases =
     ∷ []
 
 schedules : map (λ x. scheduleOutcome (x .settings) (x .requests) (x .buffer)) cases ≡ map (λ x. x .leaves) cases
-unfolding cases requestsM said scheduleOutcome scheduleOf scheduleFrom served refreshInTime sendRequest send placed freeFrom earliest passes badRequest requestFits
+unfolding cases requestsM said scheduleOutcome scheduleBy scheduleFrom served refreshInTime lastFrom sendRefresh sendRequest sendAll send placed freeFrom earliest passes badRequest requestFits
 schedules = refl
 
 -- the pins by themselves: with other pins a row could lie beyond the part or a bank stay open, and no cycle be found at all
 request-pins :
     activePins (settingsOf usual) 5
     ∷ activePins (settingsOf usual) (8388608 + 1024)
-    ∷ burstPins (settingsOf usual) 5
-    ∷ burstPins (settingsOf usual) (0x80000000 + 8388608)
-    ∷ burstPins (settingsOf (set usual 2 11)) 0x7ff
+    ∷ burstPins true (settingsOf usual) 5
+    ∷ burstPins true (settingsOf usual) (0x80000000 + 8388608)
+    ∷ burstPins true (settingsOf (set usual 2 11)) 0x7ff
+    ∷ burstPins false (settingsOf (set usual 2 11)) 0x7ff
     ∷ refreshPins
     ∷ [] ≡
     ACTIVE
@@ -107,9 +110,23 @@ request-pins :
     ∷ (READ + A10 + 5)
     ∷ (WRITE + A10 + bank 1)
     ∷ (READ + A10 + A11 + 0x3ff)
+    ∷ (READ + A11 + 0x3ff)
     ∷ REFRESH
     ∷ []
 request-pins = refl
+
+-- the commands of a request and of a refresh, in their order
+request-commands : requestCommands (settingsOf usual) (start (settingsOf usual)) 5 ≡ ACTIVE ∷ (READ + A10 + 5) ∷ []
+request-commands = refl
+
+refresh-commands : refreshCommands (start (settingsOf usual)) ≡ REFRESH ∷ []
+refresh-commands = refl
+
+-- placed by fewer rules: without rule 8 the READ need not wait for tRCD
+fewer-rules :
+    scheduleBy (3 ∷ 5 ∷ []) (settingsOf usual) (5 ∷ []) ≡ planned (at 0 ACTIVE ∷ at 1 (READ + A10 + 5) ∷ [])
+unfolding scheduleBy scheduleFrom served refreshInTime lastFrom sendRefresh sendRequest sendAll send placed freeFrom earliest passes
+fewer-rules = refl
 
 -- ---- burst cells: 8 before 7, and what lies behind them stays
 

@@ -12,13 +12,19 @@ bank-requires : tie.Need-bank-requires
 bank-requires c κs = search needs
 
 mul-result : tie.Need-mul-result
-mul-result c = omega (arith, c .bank .ensures, c .before .row .ensures .1, bank-low (settingsOf (c .before .before .args .s .now)) (c .before .before .args .q) (c .before .before .pre))
+mul-result c =
+    let start = c .before .before in
+    omega (arith, c .bank .ensures, c .before .row .ensures .1, bank-low (settingsOf (start .args .s .now)) (start .args .q) (start .pre))
 
 add-result : tie.Need-add-result
-add-result c = omega (arith, c .bank .ensures, c .before .row .ensures .1, bank-low (settingsOf (c .before .before .args .s .now)) (c .before .before .args .q) (c .before .before .pre))
+add-result c =
+    let start = c .before .before in
+    omega (arith, c .bank .ensures, c .before .row .ensures .1, bank-low (settingsOf (start .args .s .now)) (start .args .q) (start .pre))
 
 add-result-2 : tie.Need-add-result-2
-add-result-2 c = omega (arith, c .bank .ensures, c .before .row .ensures .1, bank-low (settingsOf (c .before .before .args .s .now)) (c .before .before .args .q) (c .before .before .pre))
+add-result-2 c =
+    let start = c .before .before in
+    omega (arith, c .bank .ensures, c .before .row .ensures .1, bank-low (settingsOf (start .args .s .now)) (start .args .q) (start .pre))
 
 returns : tie.Need-returns
 returns c = search needs

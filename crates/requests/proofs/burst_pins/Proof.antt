@@ -21,16 +21,53 @@ bank-requires : tie.Need-bank-requires
 bank-requires c κs = search needs
 
 mul-result : tie.Need-mul-result
-mul-result c = omega (arith, c .bank .ensures, c .before .column-pins .ensures .1, c .before .before .before .burst-code .ensures .1, bank-low (settingsOf (c .before .before .before .before .before .args .s .now)) (c .before .before .before .before .before .args .q) (c .before .before .before .before .before .pre))
+mul-result c =
+    let at-burst-code = c .before .before .before in
+    let start = at-burst-code .before .before in
+    omega (
+      arith,
+      c .bank .ensures,
+      c .before .column-pins .ensures .1,
+      at-burst-code .burst-code .ensures .1,
+      bank-low (settingsOf (start .args .s .now)) (start .args .q) (start .pre),
+    )
 
 add-result : tie.Need-add-result
-add-result c = omega (arith, c .bank .ensures, c .before .column-pins .ensures .1, c .before .before .before .burst-code .ensures .1, bank-low (settingsOf (c .before .before .before .before .before .args .s .now)) (c .before .before .before .before .before .args .q) (c .before .before .before .before .before .pre))
+add-result c =
+    let at-burst-code = c .before .before .before in
+    let start = at-burst-code .before .before in
+    omega (
+      arith,
+      c .bank .ensures,
+      c .before .column-pins .ensures .1,
+      at-burst-code .burst-code .ensures .1,
+      bank-low (settingsOf (start .args .s .now)) (start .args .q) (start .pre),
+    )
 
 add-result-2 : tie.Need-add-result-2
-add-result-2 c = omega (arith, c .bank .ensures, c .before .column-pins .ensures .1, c .before .before .before .burst-code .ensures .1, bank-low (settingsOf (c .before .before .before .before .before .args .s .now)) (c .before .before .before .before .before .args .q) (c .before .before .before .before .before .pre))
+add-result-2 c =
+    let at-burst-code = c .before .before .before in
+    let start = at-burst-code .before .before in
+    omega (
+      arith,
+      c .bank .ensures,
+      c .before .column-pins .ensures .1,
+      at-burst-code .burst-code .ensures .1,
+      bank-low (settingsOf (start .args .s .now)) (start .args .q) (start .pre),
+    )
 
 returns : tie.Need-returns
-returns c = rw (c .bank .ensures, c .before .column-pins .ensures .0, c .before .before .column .ensures .0, c .before .before .before .burst-code .ensures .0, c .before .before .before .before .asks-write .ensures) (omega arith)
+returns c =
+    let at-column = c .before .before in
+    let at-burst-code = at-column .before in
+    let at-asks-write = at-burst-code .before in
+    rw (
+      c .bank .ensures,
+      c .before .column-pins .ensures .0,
+      at-column .column .ensures .0,
+      at-burst-code .burst-code .ensures .0,
+      at-asks-write .asks-write .ensures,
+    ) (omega arith)
 
 pub burst-pins-spec : {M : Type 1} → statement M
 burst-pins-spec =

@@ -23,10 +23,18 @@ all-fit-requires : tie.Need-all-fit-requires Inv-requests μ-requests
 all-fit-requires c κs = tt
 
 returns-2 : tie.Need-returns-2 Inv-requests μ-requests
-returns-2 c = all-asked (settingsOf (c .before .before .before .before .before .args .s .now)) (c .before .before .before .before .before .args .requests .now) (c .before .before .before .before .before .pre) (c .before .before .before .if1 .left) (c .before .before .cells .ensures) (c .before .all-fit .ensures (c .if2 .taken))
+returns-2 c =
+    let at-cells = c .before .before in
+    let at-if1 = at-cells .before in
+    let start = at-if1 .before .before in
+    all-asked (settingsOf (start .args .s .now)) (start .args .requests .now) (start .pre) (at-if1 .if1 .left) (at-cells .cells .ensures)
+    (c .before .all-fit .ensures (c .if2 .taken))
 
 requests-holds : tie.Need-requests-holds Inv-requests μ-requests
-requests-holds c = begins (settingsOf (c .before .before .before .before .before .args .s .now)) (c .before .before .before .before .before .args .requests .now) (c .before .before .before .if1 .left)
+requests-holds c =
+    let at-if1 = c .before .before .before in
+    let start = at-if1 .before .before in
+    begins (settingsOf (start .args .s .now)) (start .args .requests .now) (at-if1 .if1 .left)
 
 mul-fits : tie.Need-mul-fits Inv-requests μ-requests
 mul-fits c = omega arith
@@ -44,13 +52,21 @@ requests-less : tie.Need-requests-less Inv-requests μ-requests
 requests-less c = omega arith
 
 requests-again : tie.Need-requests-again Inv-requests μ-requests
-requests-again c = goes-on (c .before .before .before .before .requests .inv) (omega arith) (c .before .before .before .before .before .before .before .before .before .before .pre) (c .before .before .before .before .before .before .before .cells .ensures) (sym (c .before .fits2 .ensures) ∙ c .if3 .taken)
+requests-again c =
+    let at-requests = c .before .before .before .before in
+    let at-cells = at-requests .before .before .before in
+    let start = at-cells .before .before .before in
+    goes-on (at-requests .requests .inv) (omega arith) (start .pre) (at-cells .cells .ensures) (sym (c .before .fits2 .ensures) ∙ c .if3 .taken)
 
 cast-t12 : tie.Need-cast-t12 Inv-requests μ-requests
 cast-t12 c = omega arith
 
 returns-3 : tie.Need-returns-3 Inv-requests μ-requests
-returns-3 c = stops (c .before .before .before .before .requests .inv) (omega arith) (c .before .before .before .before .before .before .before .before .before .before .pre) (c .before .before .before .before .before .before .before .cells .ensures) (sym (c .before .fits2 .ensures) ∙ c .if3 .left)
+returns-3 c =
+    let at-requests = c .before .before .before .before in
+    let at-cells = at-requests .before .before .before in
+    let start = at-cells .before .before .before in
+    stops (at-requests .requests .inv) (omega arith) (start .pre) (at-cells .cells .ensures) (sym (c .before .fits2 .ensures) ∙ c .if3 .left)
 
 returns-4 : tie.Need-returns-4 Inv-requests μ-requests
 returns-4 c = ends (c .before .requests .inv) (omega arith)

@@ -24,7 +24,12 @@ rem-result : tie.Need-rem-result
 rem-result c = search needs
 
 returns : tie.Need-returns
-returns c = (rw (c .numbers2 .ensures .0, c .before .before .numbers .ensures .0), omega (arith, mod-lt (c .before .before .before .before .args .q % 134217728 / c .before .before .numbers .result) (c .numbers2 .ensures .1 .0), c .numbers2 .ensures .1 .1))
+returns c =
+    let at-numbers = c .before .before in
+    let start = at-numbers .before .before in (
+      rw (c .numbers2 .ensures .0, at-numbers .numbers .ensures .0),
+      omega (arith, mod-lt (start .args .q % 134217728 / at-numbers .numbers .result) (c .numbers2 .ensures .1 .0), c .numbers2 .ensures .1 .1),
+    )
 
 pub row-spec : {M : Type 1} → statement M
 row-spec =

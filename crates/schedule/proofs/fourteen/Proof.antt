@@ -1,5 +1,6 @@
 use native.Mathlib.Omega.{arith}
 use Prim.Native.Nat.{_-_}
+use Rattle.reading.specs.Settings.{settingsCount}
 use Rattle.schedule.proofs.Filling.{Loading, begins, goes-on, ends}
 use Rattle.schedule.proofs.fourteen.Statement.{statement}
 use Rattle.schedule.proofs.fourteen.Tie as tie
@@ -8,7 +9,7 @@ abbrev Inv-settings : tie.InvT-settings
 Inv-settings settings s₀ i₀ s i = Loading settings s i
 
 abbrev μ-settings : tie.MeasureT-settings
-μ-settings settings s₀ i₀ s i = 14 - i
+μ-settings settings s₀ i₀ s i = settingsCount - i
 
 settings-holds : tie.Need-settings-holds Inv-settings μ-settings
 settings-holds c = begins (c .args .settings .now) (c .pre)

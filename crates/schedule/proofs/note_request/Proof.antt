@@ -23,7 +23,15 @@ same-length : tie.Need-same-length
 same-length c = search needs
 
 returns : tie.Need-returns
-returns c = noted-two (settingsOf (c .before .before .before .before .before .before .before .before .before .before .before .args .s .now)) (c .before .before .before .before .before .before .before .before .before .before .before .args .q) (c .before .before .before .before .before .before .before .before .before .before .before .args .n) (c .before .before .before .before .before .before .before .before .before .before .before .args .active) (c .before .before .before .before .before .before .before .before .before .before .before .args .burst) (c .before .before .before .before .before .before .before .before .before .before .before .args .words .now) (c .before .before .before .before .before .before .before .before .active-pins .ensures) (c .before .before .before .burst-pins .ensures) (c .before .before .before .before .before .before .before .put-event .ensures) (c .before .before .put-event2 .ensures)
+returns c =
+    let at-put-event2 = c .before .before in
+    let at-burst-pins = at-put-event2 .before in
+    let at-put-event = at-burst-pins .before .before .before .before in
+    let at-active-pins = at-put-event .before in
+    let start = at-active-pins .before .before .before in
+    let a = start .args in
+    noted-two (settingsOf (a .s .now)) (a .q) (a .n) (a .active) (a .burst) (a .words .now) (at-active-pins .active-pins .ensures)
+    (at-burst-pins .burst-pins .ensures) (at-put-event .put-event .ensures) (at-put-event2 .put-event2 .ensures)
 
 pub note-request-spec : {M : Type 1} → statement M
 note-request-spec =

@@ -35,7 +35,11 @@ words-less : tie.Need-words-less Inv-words μ-words
 words-less c = omega arith
 
 words-again : tie.Need-words-again Inv-words μ-words
-words-again c = stores-on (c .before .before .before .before .before .before .words .inv) (omega arith) (c .before .before .before .before .before .before .before .before .before .pre .1) (c .before .before .put-word .ensures)
+words-again c =
+    let at-put-word = c .before .before in
+    let at-words = at-put-word .before .before .before .before in
+    let start = at-words .before .before .before in
+    stores-on (at-words .words .inv) (omega arith) (start .pre .1) (at-put-word .put-word .ensures)
 
 same-length : tie.Need-same-length Inv-words μ-words
 same-length c = stored-length (c .before .words .inv)

@@ -13,7 +13,10 @@ cast-if1 : tie.Need-cast-if1
 cast-if1 c = search needs
 
 returns : tie.Need-returns
-returns c = too-short (c .before .before .before .before .args .settings .now) (c .before .before .before .before .args .list .now) (c .before .before .before .before .args .n) (c .before .before .before .before .args .out .now) (c .if1 .taken)
+returns c =
+    let start = c .before .before .before .before in
+    let a = start .args in
+    too-short (a .settings .now) (a .list .now) (a .n) (a .out .now) (c .if1 .taken)
 
 slice-aggregate-put-words : tie.Need-slice-aggregate-put-words
 slice-aggregate-put-words c = search needs
@@ -34,7 +37,15 @@ same-length : tie.Need-same-length
 same-length c = search needs
 
 returns-2 : tie.Need-returns-2
-returns-2 c = wrote (c .before .before .before .before .before .before .before .before .before .before .before .before .before .before .before .before .before .args .settings .now) (c .before .before .before .before .before .before .before .before .before .before .before .before .before .before .before .before .before .args .list .now) (c .before .before .before .before .before .before .before .before .before .before .before .before .before .before .before .before .before .args .n) (c .before .before .before .before .before .before .before .before .before .before .before .before .before .before .before .before .before .args .out .now) (c .before .before .before .before .before .before .before .before .before .before .before .before .before .if1 .left) (c .before .before .before .before .before .before .before .before .before .before .before .before .before .before .before .before .before .pre .fourteen) (c .before .before .before .before .before .before .before .before .before .before .put-words .ensures) (c .before .before .before .before .before .before .put-words2 .ensures) (c .before .before .put-words3 .ensures)
+returns-2 c =
+    let at-put-words3 = c .before .before in
+    let at-put-words2 = at-put-words3 .before .before .before .before in
+    let at-put-words = at-put-words2 .before .before .before .before in
+    let at-if1 = at-put-words .before .before .before in
+    let start = at-if1 .before .before .before .before in
+    let a = start .args in
+    wrote (a .settings .now) (a .list .now) (a .n) (a .out .now) (at-if1 .if1 .left) (start .pre .fourteen) (at-put-words .put-words .ensures)
+    (at-put-words2 .put-words2 .ensures) (at-put-words3 .put-words3 .ensures)
 
 pub write-spec : {M : Type 1} → statement M
 write-spec =
