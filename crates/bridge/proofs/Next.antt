@@ -12,15 +12,17 @@ use borrow.Author.Tests.{leb-true, leb-false, le-leb, lt-leb, lt-ltb, eqb-false,
 use Rattle.reading.specs.Search.{ever, find, lesser, later, orZero}
 use Rattle.reading.specs.Mode.{h, CL}
 use Rattle.reading.specs.Settings.{Settings}
-use Rattle.reading.specs.RefreshClock.{clockAfterRefresh}
 use Rattle.reading.specs.Commands.{ACTIVE, READ, WRITE, BURST-TERMINATE, PRECHARGE, AUTO-REFRESH, MODE-REGISTER-SET, NOP, DESELECT, Command, is}
 use Rattle.reading.specs.Bursts.{Burst, reads, dataEnd, cuts, cutBy}
 use Rattle.reading.specs.Part.{Part, Bank, openOn, idleFrom, burstGiven, partAfter, bankWrite, lastBankWrite}
 use Rattle.reading.proofs.Cuts.{All, nil, cons, auto-uncut}
-use Rattle.deadlines.specs.Deadlines.{WRITES, READER, at, paceOf, activeAfter, readAfter, writeAfter, cutRead, closeAfter, closeAllAfter, restAll, restAfter, refreshAfter, modeSetAfter, cutWrite, newWrite, autoAfter, dueAfterRefresh}
+use Rattle.deadlines.specs.Deadlines.{WRITES, READER, at, paceOf, dueAfterRefresh, cutWrite, newWrite, autoAfter, restAfter, restAll}
+use Rattle.deadlines.specs.Deadlines.{activeAfter, readAfter, writeAfter, cutRead, closeAfter, closeAllAfter, refreshAfter, modeSetAfter}
 use Rattle.bridge.specs.Summary.{BankHeld, Held, laid, summary, bankHeld, writeHeld, from, ended, cleared, readerOf, writerOf}
-use Rattle.bridge.proofs.Laid.{same, same-read, same-write, banked, readGiven, writeGiven, timed, onBank, activated, shut, writtenTill, autoShut, closed, writtenBy, active-laid, auto-laid, cut-laid, new-laid, rest-laid}
-use Rattle.bridge.proofs.Bursts.{blind, uncut, find-same, find-map, held-cut, Given, Late, nothing, read, write, Over, held-over, find-all, find-holds, lesser-low, lesser-add, later-low, later-high, later-add}
+use Rattle.bridge.proofs.Laid.{same, same-read, same-write, banked, readGiven, writeGiven, timed}
+use Rattle.bridge.proofs.Laid.{onBank, activated, shut, writtenTill, autoShut, closed, writtenBy, active-laid, auto-laid, cut-laid, new-laid, rest-laid}
+use Rattle.bridge.proofs.Bursts.{blind, uncut, find-same, find-map, held-cut, Given, Late, nothing, read, write, Over, held-over}
+use Rattle.bridge.proofs.Bursts.{find-all, find-holds, lesser-low, lesser-add, later-low, later-high, later-add}
 use Rattle.bridge.proofs.Tests.{first-of}
 use Rattle.bridge.proofs.Cut.{cut-until, Latency, same-latency, same-reader}
 use Rattle.bridge.proofs.Rules.{does}
@@ -66,22 +68,27 @@ module _ (s : Settings) (p : Part) (from₀ t : ℕ) (l : from₀ ≤ t) (g : So
   none-cut true = refl
   none-cut false = refl
 
+  -- the summary but for the bursts
+  abbrev withBursts : List Burst → Held
+  withBursts zs =
+      summary s (record { banks = p .banks; mode = p .mode; lastRefresh = p .lastRefresh; lastModeSet = p .lastModeSet; clock = p .clock; bursts = zs })
+
+  unchanged : (c : Command) → ((x : Burst) → cuts c x ≡ false) → withBursts (map (cutBy t c) xs) ≡ X
+  unchanged c e = ap withBursts (whole c e)
+
   pub quiet-next : (b a : ℕ) (ten : Bool) → laid (after (does NOP b a ten)) ≡ laid X
-  quiet-next b a ten =
-      ap (λ (zs : List Burst). laid (summary s (record { banks = p .banks; mode = p .mode; lastRefresh = p .lastRefresh; lastModeSet = p .lastModeSet; clock = p .clock; bursts = zs })))
-      (whole (does NOP b a ten) (λ x. none-cut (x .writes)))
+  quiet-next b a ten = ap laid (unchanged (does NOP b a ten) (λ x. none-cut (x .writes)))
 
   pub deselect-next : (b a : ℕ) (ten : Bool) → laid (after (does DESELECT b a ten)) ≡ laid X
-  deselect-next b a ten =
-      ap (λ (zs : List Burst). laid (summary s (record { banks = p .banks; mode = p .mode; lastRefresh = p .lastRefresh; lastModeSet = p .lastModeSet; clock = p .clock; bursts = zs })))
-      (whole (does DESELECT b a ten) (λ x. none-cut (x .writes)))
+  deselect-next b a ten = ap laid (unchanged (does DESELECT b a ten) (λ x. none-cut (x .writes)))
 
   pub refresh-next : (b a : ℕ) (ten : Bool) → X .busy ≤ t → laid (after (does AUTO-REFRESH b a ten)) ≡ refreshAfter s (laid X) t
   unfolding refreshAfter
   refresh-next b a ten busy =
-      ap (λ (zs : List Burst). laid (summary s (record { banks = p .banks; mode = p .mode; lastRefresh = some t; lastModeSet = p .lastModeSet; clock = clockAfterRefresh s t (p .clock); bursts = zs })))
-      (whole (does AUTO-REFRESH b a ten) (λ x. none-cut (x .writes)))
-      ∙ ap (λ (v : ℕ). laid (timed v (dueAfterRefresh s t) X)) (later-high (t + s .tRFC) (from (p .lastModeSet) (s .tMRD)) (omega (arith, busy, later-least)))
+      let set = from (p .lastModeSet) (s .tMRD) in
+      ap (λ (y : Held). laid (timed (later (t + s .tRFC) set) (dueAfterRefresh s t) y))
+      (unchanged (does AUTO-REFRESH b a ten) (λ x. none-cut (x .writes)))
+      ∙ ap (λ (v : ℕ). laid (timed v (dueAfterRefresh s t) X)) (later-high (t + s .tRFC) set (omega (arith, busy, later-least)))
     where
       later-least : from (p .lastModeSet) (s .tMRD) ≤ X .busy
       later-least = go (leb (from (p .lastRefresh) (s .tRFC)) (from (p .lastModeSet) (s .tMRD))) refl
@@ -94,9 +101,10 @@ module _ (s : Settings) (p : Part) (from₀ t : ℕ) (l : from₀ ≤ t) (g : So
   pub mode-next : (b a : ℕ) (ten : Bool) → X .busy ≤ t → laid (after (does MODE-REGISTER-SET b a ten)) ≡ modeSetAfter s (laid X) t
   unfolding modeSetAfter
   mode-next b a ten busy =
-      ap (λ (zs : List Burst). laid (summary s (record { banks = p .banks; mode = cond (eqb b 0) a (p .mode); lastRefresh = p .lastRefresh; lastModeSet = some t; clock = p .clock; bursts = zs })))
-      (whole (does MODE-REGISTER-SET b a ten) (λ x. none-cut (x .writes)))
-      ∙ ap (λ (v : ℕ). laid (timed v (X .due) X)) (later-low (from (p .lastRefresh) (s .tRFC)) (t + s .tMRD) (omega (arith, busy, later-least)))
+      let refreshed = from (p .lastRefresh) (s .tRFC) in
+      ap (λ (y : Held). laid (timed (later refreshed (t + s .tMRD)) (X .due) y))
+      (unchanged (does MODE-REGISTER-SET b a ten) (λ x. none-cut (x .writes)))
+      ∙ ap (λ (v : ℕ). laid (timed v (X .due) X)) (later-low refreshed (t + s .tMRD) (omega (arith, busy, later-least)))
     where
       later-least : from (p .lastRefresh) (s .tRFC) ≤ X .busy
       later-least = go (leb (from (p .lastRefresh) (s .tRFC)) (from (p .lastModeSet) (s .tMRD))) refl
@@ -138,7 +146,8 @@ module _ (s : Settings) (p : Part) (from₀ t : ℕ) (l : from₀ ≤ t) (g : So
 
   writes-left : (c : Command) → is WRITE c ≡ false → writeHeld s (map (cutBy t c) xs) ≡ X .write
   writes-left c e =
-      same-write (held-cut (λ x. x .writes) (λ n x. refl) t c xs) (ap (λ (v : Option Burst). ended v (s .tWTR)) (writes-stay c e)) (ap writerOf (writes-stay c e))
+      let stays = writes-stay c e in
+      same-write (held-cut (λ x. x .writes) (λ n x. refl) t c xs) (ap (λ (v : Option Burst). ended v (s .tWTR)) stays) (ap writerOf stays)
 
   -- a bank that becomes idle, or not, keeps its ACTIVE and its last write
   abbrev idled : ℕ → Bank → Bool → Bank
@@ -320,7 +329,8 @@ module _ (s : Settings) (p : Part) (from₀ t : ℕ) (l : from₀ ≤ t) (g : So
           (find (λ x. x .writes && (eqb i (x .bank) && ever u (λ r. leb r (x .k)))) (map (cutBy t c) xs))
 
       written : (i : ℕ) (u : Option ℕ) → u ≡ p .banks i .lastActive → (v : Bool) →
-          ended (last i u v) (s .tWR) ≡ cond v new (cond (eqb i (X .write .writer % 4)) (lesser (X .banks i .written) (t + 1 + 0 + s .tWR)) (X .banks i .written))
+          ended (last i u v) (s .tWR) ≡
+          cond v new (cond (eqb i (X .write .writer % 4)) (lesser (X .banks i .written) (t + 1 + 0 + s .tWR)) (X .banks i .written))
       written i u e true = rw (e, open-by i (p .banks i .lastActive) (g .banks i))
       written i u e false =
           ap (λ (r : Option ℕ). ended (find (λ x. x .writes && (eqb i (x .bank) && ever r (λ n. leb n (x .k)))) (map (cutBy t c) xs)) (s .tWR)) e
@@ -448,7 +458,9 @@ module _ (s : Settings) (p : Part) (from₀ t : ℕ) (l : from₀ ≤ t) (g : So
       bus : ℕ
       bus = cond (eqb (X .read .reader) b) (lesser (X .read .bus) (t + CL (p .mode))) (X .read .bus)
 
-      entries : after c ≡ readGiven (record { bus = bus; reads = X .read .reads; reader = X .read .reader }) (banked (onBank (closed (t + s .tRP)) b (X .banks)) X)
+      entries : after c ≡
+          readGiven (record { bus = bus; reads = X .read .reads; reader = X .read .reader })
+          (banked (onBank (closed (t + s .tRP)) b (X .banks)) X)
       entries =
           same (λ i. closed-is b a false i (eqb i b))
           (same-read (bus-closes b a false (λ i. eqb i b) (ne-eqb 4 b (omega arith)) (λ x f. refl)) (held-cut reads (λ n x. refl) t c xs) (same-reads c))

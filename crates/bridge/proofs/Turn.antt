@@ -1,5 +1,5 @@
 -- One event: the step answers by the summary what the reading answers by the part, and leaves the next summary.
-use Prim.Native.Nat.{ℕ, zero, suc, _%_, _≤_, _<_}
+use Prim.Native.Nat.{ℕ, zero, suc, _*_, _%_, _≤_, _<_}
 use mathlib.Core.Bool.{Bool, true, false, cond, not, _&&_}
 use mathlib.Core.List.{List, _∷_, List·Memᴰ}
 use mathlib.Core.Option.{none}
@@ -194,23 +194,28 @@ module _ (s : Settings) (wide : s .rowBits < 32) (p : Part) (from₀ t : ℕ) (l
       c : Command
       c = does DESELECT b a ten
 
-  -- none of the seven commands: by omega, once the number is known
-  silent : (q : ℕ) → (q ≡ 12 → ⊥) → (q ≡ 10 → ⊥) → (q ≡ 2 → ⊥) → (q ≡ 4 → ⊥) → (q ≡ 6 → ⊥) → (q ≡ 8 → ⊥) → (q ≡ 0 → ⊥) →
-      codes.Quiet s (laid X) (paceOf (p .mode)) t w q
-  silent q f₁ f₂ f₃ f₄ f₅ f₆ f₇ =
-      record { no-active = f₁; no-read = f₂; no-write = f₃; no-close = f₄; no-terminate = f₅; no-refresh = f₆; no-mode-set = f₇ }
+  -- the seven commands have the even codes below 14
+  silent : (q : ℕ) → ((n : ℕ) → n < 7 → q ≡ 2 * n → ⊥) → codes.Quiet s (laid X) (paceOf (p .mode)) t w q
+  silent q f =
+      record {
+        no-active = f 6 (omega arith);
+        no-read = f 5 (omega arith);
+        no-write = f 1 (omega arith);
+        no-close = f 2 (omega arith);
+        no-terminate = f 3 (omega arith);
+        no-refresh = f 4 (omega arith);
+        no-mode-set = f 0 (omega arith);
+      }
 
   -- an odd code has CS# high
   pub turned-event : Turned (commandOf w)
   turned-event = go (codeOf w) refl (omega arith)
     where
       high : (q : ℕ) → codeOf w ≡ q → (q % 2 ≡ 1) → opOf (turned q) ≡ DESELECT → Turned (commandOf w)
-      high q e n o =
-          turn-deselect q e (silent q (λ f. omega arith) (λ f. omega arith) (λ f. omega arith) (λ f. omega arith) (λ f. omega arith) (λ f. omega arith) (λ f. omega arith)) o
+      high q e n o = turn-deselect q e (silent q (λ m k f. omega arith)) o
 
       quiet-14 : codeOf w ≡ 14 → Turned (commandOf w)
-      quiet-14 e =
-          turn-quiet 14 e (silent 14 (λ f. omega arith) (λ f. omega arith) (λ f. omega arith) (λ f. omega arith) (λ f. omega arith) (λ f. omega arith) (λ f. omega arith)) refl
+      quiet-14 e = turn-quiet 14 e (silent 14 (λ m k f. omega arith)) refl
 
       go : (q : ℕ) → codeOf w ≡ q → q < 16 → Turned (commandOf w)
       go zero e m = turn-mode e

@@ -22,7 +22,9 @@ pub enum Answer {
 fn active(s: &Settings, d: &mut Deadlines, t: u32, b: usize, row: u32) -> Answer
     requires { ⌜ b < 4 ⌝ }
     ensures { λ r. ⌜ means r ≡ ruleOf (is.activeBreaks (settingsOf (now (s .entry))) (now (d .entry)) t b row) ⌝ }
-    ensures { λ r. ⌜ now (d .exit) ≡ leftBy (is.activeBreaks (settingsOf (now (s .entry))) (now (d .entry)) t b row) (is.activeAfter (settingsOf (now (s .entry))) (now (d .entry)) t b) (now (d .entry)) ⌝ }
+    ensures { λ r.
+        ⌜ now (d .exit) ≡ leftBy (is.activeBreaks (settingsOf (now (s .entry))) (now (d .entry)) t b row)
+        (is.activeAfter (settingsOf (now (s .entry))) (now (d .entry)) t b) (now (d .entry)) ⌝ }
 {
     let rule = rules::active_breaks(s, &*d, t, b, row);
     if rule != 0 {
@@ -35,7 +37,9 @@ fn active(s: &Settings, d: &mut Deadlines, t: u32, b: usize, row: u32) -> Answer
 fn read(s: &Settings, d: &mut Deadlines, pace: &Pace, t: u32, b: usize, auto: bool) -> Answer
     requires { ⌜ b < 4 ⌝ }
     ensures { λ r. ⌜ means r ≡ ruleOf (is.readBreaks (now (d .entry)) t b) ⌝ }
-    ensures { λ r. ⌜ now (d .exit) ≡ leftBy (is.readBreaks (now (d .entry)) t b) (is.readAfter (settingsOf (now (s .entry))) (now (d .entry)) (now (pace .entry)) t b auto) (now (d .entry)) ⌝ }
+    ensures { λ r.
+        ⌜ now (d .exit) ≡ leftBy (is.readBreaks (now (d .entry)) t b)
+        (is.readAfter (settingsOf (now (s .entry))) (now (d .entry)) (now (pace .entry)) t b auto) (now (d .entry)) ⌝ }
 {
     let rule = rules::read_breaks(&*d, t, b);
     if rule != 0 {
@@ -48,7 +52,9 @@ fn read(s: &Settings, d: &mut Deadlines, pace: &Pace, t: u32, b: usize, auto: bo
 fn write(s: &Settings, d: &mut Deadlines, pace: &Pace, t: u32, b: usize, auto: bool) -> Answer
     requires { ⌜ b < 4 ⌝ }
     ensures { λ r. ⌜ means r ≡ ruleOf (is.writeBreaks (now (d .entry)) t b) ⌝ }
-    ensures { λ r. ⌜ now (d .exit) ≡ leftBy (is.writeBreaks (now (d .entry)) t b) (is.writeAfter (settingsOf (now (s .entry))) (now (d .entry)) (now (pace .entry)) t b auto) (now (d .entry)) ⌝ }
+    ensures { λ r.
+        ⌜ now (d .exit) ≡ leftBy (is.writeBreaks (now (d .entry)) t b)
+        (is.writeAfter (settingsOf (now (s .entry))) (now (d .entry)) (now (pace .entry)) t b auto) (now (d .entry)) ⌝ }
 {
     let rule = rules::write_breaks(&*d, t, b);
     if rule != 0 {
@@ -60,7 +66,9 @@ fn write(s: &Settings, d: &mut Deadlines, pace: &Pace, t: u32, b: usize, auto: b
 
 fn close_all(s: &Settings, d: &mut Deadlines, pace: &Pace, t: u32) -> Answer
     ensures { λ r. ⌜ means r ≡ ruleOf (is.closeAllBreaks (now (d .entry)) t) ⌝ }
-    ensures { λ r. ⌜ now (d .exit) ≡ leftBy (is.closeAllBreaks (now (d .entry)) t) (is.closeAllAfter (settingsOf (now (s .entry))) (now (d .entry)) (now (pace .entry)) t) (now (d .entry)) ⌝ }
+    ensures { λ r.
+        ⌜ now (d .exit) ≡ leftBy (is.closeAllBreaks (now (d .entry)) t)
+        (is.closeAllAfter (settingsOf (now (s .entry))) (now (d .entry)) (now (pace .entry)) t) (now (d .entry)) ⌝ }
 {
     let rule = rules::close_all_breaks(&*d, t);
     if rule != 0 {
@@ -73,7 +81,9 @@ fn close_all(s: &Settings, d: &mut Deadlines, pace: &Pace, t: u32) -> Answer
 fn close(s: &Settings, d: &mut Deadlines, pace: &Pace, t: u32, b: usize) -> Answer
     requires { ⌜ b < 4 ⌝ }
     ensures { λ r. ⌜ means r ≡ ruleOf (is.closeBreaks (now (d .entry)) t b) ⌝ }
-    ensures { λ r. ⌜ now (d .exit) ≡ leftBy (is.closeBreaks (now (d .entry)) t b) (is.closeAfter (settingsOf (now (s .entry))) (now (d .entry)) (now (pace .entry)) t b) (now (d .entry)) ⌝ }
+    ensures { λ r.
+        ⌜ now (d .exit) ≡ leftBy (is.closeBreaks (now (d .entry)) t b)
+        (is.closeAfter (settingsOf (now (s .entry))) (now (d .entry)) (now (pace .entry)) t b) (now (d .entry)) ⌝ }
 {
     let rule = rules::close_breaks(&*d, t, b);
     if rule != 0 {
@@ -85,7 +95,9 @@ fn close(s: &Settings, d: &mut Deadlines, pace: &Pace, t: u32, b: usize) -> Answ
 
 fn terminate(s: &Settings, d: &mut Deadlines, pace: &Pace, t: u32) -> Answer
     ensures { λ r. ⌜ means r ≡ ruleOf (is.terminateBreaks (settingsOf (now (s .entry))) (now (d .entry)) t) ⌝ }
-    ensures { λ r. ⌜ now (d .exit) ≡ leftBy (is.terminateBreaks (settingsOf (now (s .entry))) (now (d .entry)) t) (is.cutRead (now (d .entry)) (now (pace .entry)) t true) (now (d .entry)) ⌝ }
+    ensures { λ r.
+        ⌜ now (d .exit) ≡ leftBy (is.terminateBreaks (settingsOf (now (s .entry))) (now (d .entry)) t)
+        (is.cutRead (now (d .entry)) (now (pace .entry)) t true) (now (d .entry)) ⌝ }
 {
     let rule = rules::terminate_breaks(s, &*d, t);
     if rule != 0 {
@@ -97,7 +109,9 @@ fn terminate(s: &Settings, d: &mut Deadlines, pace: &Pace, t: u32) -> Answer
 
 fn refresh(s: &Settings, d: &mut Deadlines, t: u32) -> Answer
     ensures { λ r. ⌜ means r ≡ ruleOf (is.refreshBreaks (now (d .entry)) t) ⌝ }
-    ensures { λ r. ⌜ now (d .exit) ≡ leftBy (is.refreshBreaks (now (d .entry)) t) (is.refreshAfter (settingsOf (now (s .entry))) (now (d .entry)) t) (now (d .entry)) ⌝ }
+    ensures { λ r.
+        ⌜ now (d .exit) ≡ leftBy (is.refreshBreaks (now (d .entry)) t)
+        (is.refreshAfter (settingsOf (now (s .entry))) (now (d .entry)) t) (now (d .entry)) ⌝ }
 {
     let rule = rules::refresh_breaks(&*d, t);
     if rule != 0 {
@@ -117,8 +131,12 @@ fn set_register(pace: &mut Pace, b: usize, word: u32)
 
 fn mode_set(s: &Settings, d: &mut Deadlines, pace: &mut Pace, t: u32, b: usize, word: u32) -> Answer
     ensures { λ r. ⌜ means r ≡ ruleOf (is.modeBreaks (now (d .entry)) t b word) ⌝ }
-    ensures { λ r. ⌜ now (d .exit) ≡ leftBy (is.modeBreaks (now (d .entry)) t b word) (is.modeSetAfter (settingsOf (now (s .entry))) (now (d .entry)) t) (now (d .entry)) ⌝ }
-    ensures { λ r. ⌜ now (pace .exit) ≡ leftBy (is.modeBreaks (now (d .entry)) t b word) (cond (eqb b 0) (is.paceOf word) (now (pace .entry))) (now (pace .entry)) ⌝ }
+    ensures { λ r.
+        ⌜ now (d .exit) ≡ leftBy (is.modeBreaks (now (d .entry)) t b word)
+        (is.modeSetAfter (settingsOf (now (s .entry))) (now (d .entry)) t) (now (d .entry)) ⌝ }
+    ensures { λ r.
+        ⌜ now (pace .exit) ≡ leftBy (is.modeBreaks (now (d .entry)) t b word)
+        (cond (eqb b 0) (is.paceOf word) (now (pace .entry))) (now (pace .entry)) ⌝ }
 {
     let rule = rules::mode_breaks(&*d, t, b, word);
     if rule != 0 {
@@ -143,8 +161,12 @@ fn quiet(d: &Deadlines, t: u32) -> Answer
 // breaks a rule leaves them as they were.
 pub fn step(s: &Settings, d: &mut Deadlines, pace: &mut Pace, t: u32, w: u32) -> Answer
     ensures { λ r. ⌜ means r ≡ ruleOf (stepBreaks (settingsOf (now (s .entry))) (now (d .entry)) t w) ⌝ }
-    ensures { λ r. ⌜ now (d .exit) ≡ leftBy (stepBreaks (settingsOf (now (s .entry))) (now (d .entry)) t w) (stepAfter (settingsOf (now (s .entry))) (now (d .entry)) (now (pace .entry)) t w) (now (d .entry)) ⌝ }
-    ensures { λ r. ⌜ now (pace .exit) ≡ leftBy (stepBreaks (settingsOf (now (s .entry))) (now (d .entry)) t w) (paceAfter (now (pace .entry)) w) (now (pace .entry)) ⌝ }
+    ensures { λ r.
+        ⌜ now (d .exit) ≡ leftBy (stepBreaks (settingsOf (now (s .entry))) (now (d .entry)) t w)
+        (stepAfter (settingsOf (now (s .entry))) (now (d .entry)) (now (pace .entry)) t w) (now (d .entry)) ⌝ }
+    ensures { λ r.
+        ⌜ now (pace .exit) ≡ leftBy (stepBreaks (settingsOf (now (s .entry))) (now (d .entry)) t w)
+        (paceAfter (now (pace .entry)) w) (now (pace .entry)) ⌝ }
 {
     let code = pins::code(w);
     match code {

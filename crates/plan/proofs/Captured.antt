@@ -33,7 +33,10 @@ counted f x k zero [] l e = refl
 counted f x k zero (y ∷ xs) l e = absurd (omega arith)
 counted f x k (suc n) [] l e = absurd (omega arith)
 counted f x k (suc n) (y ∷ xs) l e =
-    rw (sym (ap f (add-zero k)) ∙ e 0 (omega arith), counted f x (suc k) n xs (omega arith) (λ i j. ap f (suc-add k i ∙ sym (add-suc k i)) ∙ e (suc i) (omega arith)))
+    rw (
+      sym (ap f (add-zero k)) ∙ e 0 (omega arith),
+      counted f x (suc k) n xs (omega arith) (λ i j. ap f (suc-add k i ∙ sym (add-suc k i)) ∙ e (suc i) (omega arith)),
+    )
 
 nowhere : (f : ℕ → Bool) (k n : ℕ) → ((i : ℕ) → i < n → f (k + i) ≡ false) → find f (count k n) ≡ none
 nowhere f k zero e = refl
@@ -138,7 +141,8 @@ module _ (ws : List ℕ) (es : List Event) (fourteen : length ws ≡ 14) (good :
   -- settings
   small : (i : ℕ) → i < 14 → getD ws i 0 < 2 ^ 32
   small i l =
-      omega (arith, at-most i (getD ws i 0) (settings-fit ws fourteen good i l), leb-true (rowAt i .most) 1000000 (every-at (λ (r : Limits). leb (r .most) 1000000) _ refl limits refl i))
+      let most = every-at (λ (r : Limits). leb (r .most) 1000000) _ refl limits refl i in
+      omega (arith, at-most i (getD ws i 0) (settings-fit ws fourteen good i l), leb-true (rowAt i .most) 1000000 most)
 
   setting-word : (i : ℕ) → i < 14 → wordAt C (24 + 4 * i) ≡ getD ws i 0
   setting-word i l =
@@ -171,7 +175,9 @@ module _ (ws : List ℕ) (es : List Event) (fourteen : length ws ≡ 14) (good :
   pub events-back : eventsOf C ≡ es
   unfolding eventsOf
   events-back =
-      rw counts (counted (eventAt (eventBytes C)) (record { cycle = 0; pins = 0 }) 0 (length es) es refl (λ i l. rw (zero-add i) (λ u. record { cycle = cycle-back i l u; pins = pins-back i l u })))
+      rw counts
+      (counted (eventAt (eventBytes C)) (record { cycle = 0; pins = 0 }) 0 (length es) es refl
+      (λ i l. rw (zero-add i) (λ u. record { cycle = cycle-back i l u; pins = pins-back i l u })))
 
   event-fits : (i : ℕ) → i < length es → eventFits 20 (eventBytes C) i ≡ true
   unfolding eventFits

@@ -51,7 +51,8 @@ module _ (s : Settings) (p : Part) (t : ℕ) where
   write-passed b a ten l o =
       rw (leb-soonest t, busy-is, o, stands X b l .column) (simp (after-is, cleared-is, held-is, and-assoc, and-true))
 
-  pub active-passed : (b a : ℕ) (ten : Bool) → b < 4 → a < 2 ^ s .rowBits → p .banks b .opened ≡ false → passed (does ACTIVE b a ten) ≡ leb (activeSoonest (laid X) b) t
+  pub active-passed : (b a : ℕ) (ten : Bool) → b < 4 → a < 2 ^ s .rowBits → p .banks b .opened ≡ false →
+      passed (does ACTIVE b a ten) ≡ leb (activeSoonest (laid X) b) t
   unfolding activeSoonest
   active-passed b a ten l r o =
       rw (leb-soonest t, busy-is, lt-ltb a (2 ^ s .rowBits) r, o, stands X b l .rest, stands X b l .again)

@@ -66,7 +66,8 @@ module _ (s : Settings) (p : Part) (b a : ℕ) (lb : b < 4) (own : p .banks b .o
   burst-passed u false = read-passed s p u b a true lb own
 
   module _ (from t : ℕ) (l : from ≤ t) (g : Sound from p) where
-    burst-leaves : (write : Bool) → burstSoonest write (laid X) b ≤ t → laid (summary s (partAfter s p t (bursts write))) ≡ burstAfter write s (laid X) (p .mode) t b
+    burst-leaves : (write : Bool) → burstSoonest write (laid X) b ≤ t →
+        laid (summary s (partAfter s p t (bursts write))) ≡ burstAfter write s (laid X) (p .mode) t b
     unfolding readSoonest writeSoonest
     burst-leaves true k = write-next s p from t l g b a true lb (le-trans (waited (writeWaits (laid X) b) 3) k)
     burst-leaves false k = read-next s p from t l g b a true lb (le-trans (waited (readWaits (laid X) b) 3) k)

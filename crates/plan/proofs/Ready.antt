@@ -14,7 +14,8 @@ use Rattle.reading.specs.RefreshClock.{clockAtStart}
 use Rattle.reading.specs.Capture.{Event, lastCycle}
 use Rattle.reading.specs.Verdict.{clean, verdictOf, judgeBy, verdictBy}
 use Rattle.reading.specs.Rules.{placing}
-use Rattle.reading.specs.Schedule.{asksWrite, requestFits, badRequest, firstCell, cellBank, activePins, burstPins, refreshPins, freeFrom, placed, send, sendAll, sendRequest, sendRefresh, refreshInTime, served, planned, whenServed, scheduleFrom, scheduleBy, scheduleOf}
+use Rattle.reading.specs.Schedule.{asksWrite, requestFits, badRequest, firstCell, cellBank, activePins, burstPins, refreshPins}
+use Rattle.reading.specs.Schedule.{freeFrom, placed, send, sendAll, sendRequest, sendRefresh, refreshInTime, served, planned, whenServed, scheduleFrom, scheduleBy, scheduleOf}
 use Rattle.memory.specs.Serving.{EachFits}
 use Rattle.words.proofs.Search.{none-below}
 use Rattle.deadlines.specs.Deadlines.{DUE, at, soonest, activeAfter, refreshAfter}

@@ -7,7 +7,8 @@ use mathlib.Core.Path.{_≡_, refl}
 use lib.Dec.{eqb}
 use borrow.Author.Tests.{ne-eqb}
 use Rattle.reading.specs.Settings.{Settings}
-use Rattle.deadlines.specs.Deadlines.{paceOf, dueBreaks, activeBreaks, readBreaks, writeBreaks, terminateBreaks, closeBreaks, closeAllBreaks, refreshBreaks, modeBreaks, activeAfter, readAfter, writeAfter, cutRead, closeAfter, closeAllAfter, refreshAfter, modeSetAfter}
+use Rattle.deadlines.specs.Deadlines.{dueBreaks, activeBreaks, readBreaks, writeBreaks, terminateBreaks, closeBreaks, closeAllBreaks, refreshBreaks, modeBreaks}
+use Rattle.deadlines.specs.Deadlines.{paceOf, activeAfter, readAfter, writeAfter, cutRead, closeAfter, closeAllAfter, refreshAfter, modeSetAfter}
 use Rattle.pins.specs.Pins.{codeOf, bankOf, addressOf, tenOf}
 use Rattle.steps.specs.Steps.{ruleOf, leftBy, stepBreaks, stepAfter, paceAfter}
 
@@ -83,21 +84,22 @@ module _ (s : Settings) (d m : List ℕ) (t w : ℕ) where
       (told ≡ ruleOf (stepBreaks s d t w))
       × ((d′ ≡ leftBy (stepBreaks s d t w) (stepAfter s d m t w) d) × (m′ ≡ leftBy (stepBreaks s d t w) (paceAfter m w) m))
 
-  pub met : {rule : ℕ} {after pace : List ℕ} → Does rule after pace → {told : Option ℕ} {d′ m′ : List ℕ} →
-      told ≡ ruleOf rule → d′ ≡ leftBy rule after d → m′ ≡ leftBy rule pace m → Meets told d′ m′
+untouched : (rule : ℕ) (x : List ℕ) → x ≡ leftBy rule x x
+untouched rule x = go (eqb rule 0)
+  where
+    go : (v : Bool) → x ≡ cond v x x
+    go true = refl
+    go false = refl
+
+module _ {s : Settings} {d m : List ℕ} {t w : ℕ} where
+  pub met : {rule : ℕ} {after pace : List ℕ} → Does s d m t w rule after pace → {told : Option ℕ} {d′ m′ : List ℕ} →
+      told ≡ ruleOf rule → d′ ≡ leftBy rule after d → m′ ≡ leftBy rule pace m → Meets s d m t w told d′ m′
   met k a b e = rw (k .breaks, k .leaves, k .sets) (a, (b, e))
 
-  untouched : (rule : ℕ) (x : List ℕ) → x ≡ leftBy rule x x
-  untouched rule x = go (eqb rule 0)
-    where
-      go : (v : Bool) → x ≡ cond v x x
-      go true = refl
-      go false = refl
-
   -- where h and CL, and where the deadlines too, are left alone
-  pub met-paced : {rule : ℕ} {after : List ℕ} → Does rule after m → {told : Option ℕ} {d′ : List ℕ} →
-      told ≡ ruleOf rule → d′ ≡ leftBy rule after d → Meets told d′ m
+  pub met-paced : {rule : ℕ} {after : List ℕ} → Does s d m t w rule after m → {told : Option ℕ} {d′ : List ℕ} →
+      told ≡ ruleOf rule → d′ ≡ leftBy rule after d → Meets s d m t w told d′ m
   met-paced {rule} k a b = met k a b (untouched rule m)
 
-  pub met-quiet : {rule : ℕ} → Does rule d m → {told : Option ℕ} → told ≡ ruleOf rule → Meets told d m
+  pub met-quiet : {rule : ℕ} → Does s d m t w rule d m → {told : Option ℕ} → told ≡ ruleOf rule → Meets s d m t w told d m
   met-quiet {rule} k a = met-paced k a (untouched rule d)

@@ -6,7 +6,8 @@ use mathlib.Core.Option.{Option, none, some}
 use lib.Dec.{eqb}
 use Rattle.reading.specs.Settings.{Settings}
 use Rattle.pins.specs.Pins.{codeOf, bankOf, addressOf, tenOf, byCode}
-use Rattle.deadlines.specs.Deadlines.{paceOf, dueBreaks, activeBreaks, readBreaks, writeBreaks, terminateBreaks, closeBreaks, closeAllBreaks, refreshBreaks, modeBreaks, activeAfter, readAfter, writeAfter, cutRead, closeAfter, closeAllAfter, refreshAfter, modeSetAfter}
+use Rattle.deadlines.specs.Deadlines.{dueBreaks, activeBreaks, readBreaks, writeBreaks, terminateBreaks, closeBreaks, closeAllBreaks, refreshBreaks, modeBreaks}
+use Rattle.deadlines.specs.Deadlines.{paceOf, activeAfter, readAfter, writeAfter, cutRead, closeAfter, closeAllAfter, refreshAfter, modeSetAfter}
 
 -- the rule that a number stands for, 0 for none
 abbrev pub ruleOf : ℕ → Option ℕ

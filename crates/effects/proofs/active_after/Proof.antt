@@ -101,7 +101,12 @@ element-write-d-7 c = search needs
 
 returns : tie.Need-returns
 unfolding activeAfter
-returns c = rw (c .after22 .ensures, c .before .before .before .after4 .ensures, c .before .before .before .before .before .after3 .ensures, c .before .before .before .before .before .before .before .after2 .ensures, c .before .before .before .before .before .before .before .before .before .after .ensures)
+returns c =
+    let closes = c .before .before .before in
+    let columned = closes .before .before in
+    let apart = columned .before .before in
+    let again = apart .before .before in
+    rw (c .after22 .ensures, closes .after4 .ensures, columned .after3 .ensures, apart .after2 .ensures, again .after .ensures)
 
 pub active-after-spec : {M : Type 1} → statement M
 active-after-spec =

@@ -35,7 +35,10 @@ auto-after-requires c κs = search needs
 
 returns : tie.Need-returns
 unfolding readAfter
-returns c = rw (c .auto-after .ensures, c .before .after22 .ensures, c .before .before .before .before .after .ensures, c .before .before .before .before .before .if1 .taken, c .before .before .before .before .before .before .after2 .ensures)
+returns c =
+    let held = c .before .before .before .before in
+    let asked = held .before in
+    rw (c .auto-after .ensures, c .before .after22 .ensures, held .after .ensures, asked .if1 .taken, asked .before .after2 .ensures)
 
 element-write-d-4 : tie.Need-element-write-d-4
 element-write-d-4 c = search needs

@@ -17,7 +17,11 @@ rest-after-requires-4 c κs = search needs
 
 returns : tie.Need-returns
 unfolding restAll
-returns c = rw (c .rest-after4 .ensures, c .before .before .rest-after3 .ensures, c .before .before .before .before .rest-after2 .ensures, c .before .before .before .before .before .before .rest-after .ensures)
+returns c =
+    let third = c .before .before in
+    let second = third .before .before in
+    let first = second .before .before in
+    rw (c .rest-after4 .ensures, third .rest-after3 .ensures, second .rest-after2 .ensures, first .rest-after .ensures)
 
 pub rest-all-spec : {M : Type 1} → statement M
 rest-all-spec =

@@ -32,7 +32,18 @@ auto-after-requires c κs = search needs
 
 returns : tie.Need-returns
 unfolding writeAfter
-returns c = rw (c .auto-after .ensures, c .before .data-after2 .ensures, c .before .before .before .before .before .after .ensures, c .before .before .before .before .before .before .if1 .taken, c .before .before .before .before .before .before .before .new-write .ensures, c .before .before .before .before .before .before .before .before .before .cut-write .ensures)
+returns c =
+    let held = c .before .before .before .before .before in
+    let asked = held .before in
+    let new = asked .before in
+    rw (
+      c .auto-after .ensures,
+      c .before .data-after2 .ensures,
+      held .after .ensures,
+      asked .if1 .taken,
+      new .new-write .ensures,
+      new .before .before .cut-write .ensures,
+    )
 
 returns-2 : tie.Need-returns-2
 unfolding writeAfter

@@ -7,13 +7,20 @@ active-breaks-requires : tie.Need-active-breaks-requires
 active-breaks-requires c κs = search needs
 
 returns : tie.Need-returns
-returns c = (rw (← c .before .active-breaks .ensures, ne-eqb _ _ (c .if1 .taken)), rw (← c .before .active-breaks .ensures, ne-eqb _ _ (c .if1 .taken)))
+returns c =
+    let told = c .before .active-breaks .ensures in
+    let broke = ne-eqb _ _ (c .if1 .taken) in
+    (rw (← told, broke), rw (← told, broke))
 
 active-after-requires : tie.Need-active-after-requires
 active-after-requires c κs = search needs
 
 returns-2 : tie.Need-returns-2
-returns-2 c = (rw (← c .before .before .before .active-breaks .ensures, eq-eqb _ _ (c .before .before .if1 .left)), rw (← c .before .before .before .active-breaks .ensures, eq-eqb _ _ (c .before .before .if1 .left)) (c .active-after .ensures))
+returns-2 c =
+    let asked = c .before .before in
+    let told = asked .before .active-breaks .ensures in
+    let kept = eq-eqb _ _ (asked .if1 .left) in
+    (rw (← told, kept), rw (← told, kept) (c .active-after .ensures))
 
 pub active-spec : {M : Type 1} → statement M
 active-spec = tie.close (tie.spec active-breaks-requires returns active-after-requires returns-2)

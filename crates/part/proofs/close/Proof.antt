@@ -7,13 +7,20 @@ close-breaks-requires : tie.Need-close-breaks-requires
 close-breaks-requires c κs = search needs
 
 returns : tie.Need-returns
-returns c = (rw (← c .before .close-breaks .ensures, ne-eqb _ _ (c .if1 .taken)), rw (← c .before .close-breaks .ensures, ne-eqb _ _ (c .if1 .taken)))
+returns c =
+    let told = c .before .close-breaks .ensures in
+    let broke = ne-eqb _ _ (c .if1 .taken) in
+    (rw (← told, broke), rw (← told, broke))
 
 close-after-requires : tie.Need-close-after-requires
 close-after-requires c κs = search needs
 
 returns-2 : tie.Need-returns-2
-returns-2 c = (rw (← c .before .before .before .close-breaks .ensures, eq-eqb _ _ (c .before .before .if1 .left)), rw (← c .before .before .before .close-breaks .ensures, eq-eqb _ _ (c .before .before .if1 .left)) (c .close-after .ensures))
+returns-2 c =
+    let asked = c .before .before in
+    let told = asked .before .close-breaks .ensures in
+    let kept = eq-eqb _ _ (asked .if1 .left) in
+    (rw (← told, kept), rw (← told, kept) (c .close-after .ensures))
 
 pub close-spec : {M : Type 1} → statement M
 close-spec = tie.close (tie.spec close-breaks-requires returns close-after-requires returns-2)

@@ -7,13 +7,20 @@ close-all-breaks-requires : tie.Need-close-all-breaks-requires
 close-all-breaks-requires c κs = search needs
 
 returns : tie.Need-returns
-returns c = (rw (← c .before .close-all-breaks .ensures, ne-eqb _ _ (c .if1 .taken)), rw (← c .before .close-all-breaks .ensures, ne-eqb _ _ (c .if1 .taken)))
+returns c =
+    let told = c .before .close-all-breaks .ensures in
+    let broke = ne-eqb _ _ (c .if1 .taken) in
+    (rw (← told, broke), rw (← told, broke))
 
 close-all-after-requires : tie.Need-close-all-after-requires
 close-all-after-requires c κs = search needs
 
 returns-2 : tie.Need-returns-2
-returns-2 c = (rw (← c .before .before .before .close-all-breaks .ensures, eq-eqb _ _ (c .before .before .if1 .left)), rw (← c .before .before .before .close-all-breaks .ensures, eq-eqb _ _ (c .before .before .if1 .left)) (c .close-all-after .ensures))
+returns-2 c =
+    let asked = c .before .before in
+    let told = asked .before .close-all-breaks .ensures in
+    let kept = eq-eqb _ _ (asked .if1 .left) in
+    (rw (← told, kept), rw (← told, kept) (c .close-all-after .ensures))
 
 pub close-all-spec : {M : Type 1} → statement M
 close-all-spec =

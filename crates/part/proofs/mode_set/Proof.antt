@@ -7,7 +7,10 @@ mode-breaks-requires : tie.Need-mode-breaks-requires
 mode-breaks-requires c κs = search needs
 
 returns : tie.Need-returns
-returns c = (rw (← c .before .mode-breaks .ensures, ne-eqb _ _ (c .if1 .taken)), (rw (← c .before .mode-breaks .ensures, ne-eqb _ _ (c .if1 .taken)), rw (← c .before .mode-breaks .ensures, ne-eqb _ _ (c .if1 .taken))))
+returns c =
+    let told = c .before .mode-breaks .ensures in
+    let broke = ne-eqb _ _ (c .if1 .taken) in
+    (rw (← told, broke), (rw (← told, broke), rw (← told, broke)))
 
 mode-set-after-requires : tie.Need-mode-set-after-requires
 mode-set-after-requires c κs = search needs
@@ -16,7 +19,12 @@ set-register-requires : tie.Need-set-register-requires
 set-register-requires c κs = search needs
 
 returns-2 : tie.Need-returns-2
-returns-2 c = (rw (← c .before .before .before .before .before .mode-breaks .ensures, eq-eqb _ _ (c .before .before .before .before .if1 .left)), (rw (← c .before .before .before .before .before .mode-breaks .ensures, eq-eqb _ _ (c .before .before .before .before .if1 .left)) (c .before .before .mode-set-after .ensures), rw (← c .before .before .before .before .before .mode-breaks .ensures, eq-eqb _ _ (c .before .before .before .before .if1 .left)) (c .set-register .ensures)))
+returns-2 c =
+    let timed = c .before .before in
+    let asked = timed .before .before in
+    let told = asked .before .mode-breaks .ensures in
+    let kept = eq-eqb _ _ (asked .if1 .left) in
+    (rw (← told, kept), (rw (← told, kept) (timed .mode-set-after .ensures), rw (← told, kept) (c .set-register .ensures)))
 
 pub mode-set-spec : {M : Type 1} → statement M
 mode-set-spec =

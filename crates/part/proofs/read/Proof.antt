@@ -7,13 +7,20 @@ read-breaks-requires : tie.Need-read-breaks-requires
 read-breaks-requires c κs = search needs
 
 returns : tie.Need-returns
-returns c = (rw (← c .before .read-breaks .ensures, ne-eqb _ _ (c .if1 .taken)), rw (← c .before .read-breaks .ensures, ne-eqb _ _ (c .if1 .taken)))
+returns c =
+    let told = c .before .read-breaks .ensures in
+    let broke = ne-eqb _ _ (c .if1 .taken) in
+    (rw (← told, broke), rw (← told, broke))
 
 read-after-requires : tie.Need-read-after-requires
 read-after-requires c κs = search needs
 
 returns-2 : tie.Need-returns-2
-returns-2 c = (rw (← c .before .before .before .read-breaks .ensures, eq-eqb _ _ (c .before .before .if1 .left)), rw (← c .before .before .before .read-breaks .ensures, eq-eqb _ _ (c .before .before .if1 .left)) (c .read-after .ensures))
+returns-2 c =
+    let asked = c .before .before in
+    let told = asked .before .read-breaks .ensures in
+    let kept = eq-eqb _ _ (asked .if1 .left) in
+    (rw (← told, kept), rw (← told, kept) (c .read-after .ensures))
 
 pub read-spec : {M : Type 1} → statement M
 read-spec = tie.close (tie.spec read-breaks-requires returns read-after-requires returns-2)

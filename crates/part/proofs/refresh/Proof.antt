@@ -7,13 +7,20 @@ refresh-breaks-requires : tie.Need-refresh-breaks-requires
 refresh-breaks-requires c κs = search needs
 
 returns : tie.Need-returns
-returns c = (rw (← c .before .refresh-breaks .ensures, ne-eqb _ _ (c .if1 .taken)), rw (← c .before .refresh-breaks .ensures, ne-eqb _ _ (c .if1 .taken)))
+returns c =
+    let told = c .before .refresh-breaks .ensures in
+    let broke = ne-eqb _ _ (c .if1 .taken) in
+    (rw (← told, broke), rw (← told, broke))
 
 refresh-after-requires : tie.Need-refresh-after-requires
 refresh-after-requires c κs = search needs
 
 returns-2 : tie.Need-returns-2
-returns-2 c = (rw (← c .before .before .before .refresh-breaks .ensures, eq-eqb _ _ (c .before .before .if1 .left)), rw (← c .before .before .before .refresh-breaks .ensures, eq-eqb _ _ (c .before .before .if1 .left)) (c .refresh-after .ensures))
+returns-2 c =
+    let asked = c .before .before in
+    let told = asked .before .refresh-breaks .ensures in
+    let kept = eq-eqb _ _ (asked .if1 .left) in
+    (rw (← told, kept), rw (← told, kept) (c .refresh-after .ensures))
 
 pub refresh-spec : {M : Type 1} → statement M
 refresh-spec =

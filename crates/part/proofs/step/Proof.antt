@@ -44,11 +44,13 @@ close-all-requires c κs = search needs
 
 returns : tie.Need-returns
 returns c =
-    let coded = c .before .before .before .before .before .before in
+    let asked = c .before .before .before in
+    let matched = asked .before .before in
+    let coded = matched .before in
     let a = coded .before .args in
-    met-paced (settingsOf (a .s .now)) (a .d .now) (a .pace .now) (a .t) (a .w)
-    (codes.close-all (settingsOf (a .s .now)) (a .d .now) (a .pace .now) (a .t) (a .w) (sym (coded .code .ensures) ∙ c .before .before .before .before .before .match .keys4)
-    (sym (c .before .before .before .before .ten3 .ensures) ∙ c .before .before .before .if1 .taken))
+    let is = sym (coded .code .ensures) ∙ matched .match .keys4 in
+    let all = sym (asked .before .ten3 .ensures) ∙ asked .if1 .taken in
+    met-paced (codes.close-all (settingsOf (a .s .now)) (a .d .now) (a .pace .now) (a .t) (a .w) is all)
     (c .close-all .ensures .0) (c .close-all .ensures .1)
 
 bank-requires-4 : tie.Need-bank-requires-4
@@ -77,59 +79,71 @@ quiet-requires c κs = search needs
 
 returns-2 : tie.Need-returns-2
 returns-2 c =
-    let coded = c .before .before .before .before .before in
+    let banked = c .before .before in
+    let matched = banked .before .before in
+    let coded = matched .before in
     let a = coded .before .args in
-    met-paced (settingsOf (a .s .now)) (a .d .now) (a .pace .now) (a .t) (a .w)
-    (codes.active (settingsOf (a .s .now)) (a .d .now) (a .pace .now) (a .t) (a .w) (c .before .before .bank .ensures .0) (c .before .address .ensures .0) (sym (coded .code .ensures) ∙ c .before .before .before .before .match .keys1))
+    let is = sym (coded .code .ensures) ∙ matched .match .keys1 in
+    met-paced (codes.active (settingsOf (a .s .now)) (a .d .now) (a .pace .now) (a .t) (a .w) (banked .bank .ensures .0) (c .before .address .ensures .0) is)
     (c .active .ensures .0) (c .active .ensures .1)
 
 returns-3 : tie.Need-returns-3
 returns-3 c =
-    let coded = c .before .before .before .before .before .before in
+    let banked = c .before .before in
+    let matched = banked .before .before .before in
+    let coded = matched .before in
     let a = coded .before .args in
-    met-paced (settingsOf (a .s .now)) (a .d .now) (a .pace .now) (a .t) (a .w)
-    (codes.read (settingsOf (a .s .now)) (a .d .now) (a .pace .now) (a .t) (a .w) (c .before .before .bank2 .ensures .0) (c .before .ten .ensures) (sym (coded .code .ensures) ∙ c .before .before .before .before .before .match .keys2))
+    let is = sym (coded .code .ensures) ∙ matched .match .keys2 in
+    met-paced (codes.read (settingsOf (a .s .now)) (a .d .now) (a .pace .now) (a .t) (a .w) (banked .bank2 .ensures .0) (c .before .ten .ensures) is)
     (c .read .ensures .0) (c .read .ensures .1)
 
 returns-4 : tie.Need-returns-4
 returns-4 c =
-    let coded = c .before .before .before .before .before .before in
+    let banked = c .before .before in
+    let matched = banked .before .before .before in
+    let coded = matched .before in
     let a = coded .before .args in
-    met-paced (settingsOf (a .s .now)) (a .d .now) (a .pace .now) (a .t) (a .w)
-    (codes.write (settingsOf (a .s .now)) (a .d .now) (a .pace .now) (a .t) (a .w) (c .before .before .bank3 .ensures .0) (c .before .ten2 .ensures) (sym (coded .code .ensures) ∙ c .before .before .before .before .before .match .keys3))
+    let is = sym (coded .code .ensures) ∙ matched .match .keys3 in
+    met-paced (codes.write (settingsOf (a .s .now)) (a .d .now) (a .pace .now) (a .t) (a .w) (banked .bank3 .ensures .0) (c .before .ten2 .ensures) is)
     (c .write .ensures .0) (c .write .ensures .1)
 
 returns-5 : tie.Need-returns-5
 returns-5 c =
-    let coded = c .before .before .before .before .before .before .before in
+    let asked = c .before .before .before .before in
+    let matched = asked .before .before in
+    let coded = matched .before in
     let a = coded .before .args in
-    met-paced (settingsOf (a .s .now)) (a .d .now) (a .pace .now) (a .t) (a .w)
-    (codes.close (settingsOf (a .s .now)) (a .d .now) (a .pace .now) (a .t) (a .w) (c .before .bank4 .ensures .0) (sym (coded .code .ensures) ∙ c .before .before .before .before .before .before .match .keys4)
-    (sym (c .before .before .before .before .before .ten3 .ensures) ∙ c .before .before .before .before .if1 .left))
+    let is = sym (coded .code .ensures) ∙ matched .match .keys4 in
+    let one = sym (asked .before .ten3 .ensures) ∙ asked .if1 .left in
+    met-paced (codes.close (settingsOf (a .s .now)) (a .d .now) (a .pace .now) (a .t) (a .w) (c .before .bank4 .ensures .0) is one)
     (c .close .ensures .0) (c .close .ensures .1)
 
 returns-6 : tie.Need-returns-6
 returns-6 c =
-    let coded = c .before .before .before .before in
+    let matched = c .before .before .before in
+    let coded = matched .before in
     let a = coded .before .args in
-    met-paced (settingsOf (a .s .now)) (a .d .now) (a .pace .now) (a .t) (a .w)
-    (codes.terminate (settingsOf (a .s .now)) (a .d .now) (a .pace .now) (a .t) (a .w) (sym (coded .code .ensures) ∙ c .before .before .before .match .keys5))
+    let is = sym (coded .code .ensures) ∙ matched .match .keys5 in
+    met-paced (codes.terminate (settingsOf (a .s .now)) (a .d .now) (a .pace .now) (a .t) (a .w) is)
     (c .terminate .ensures .0) (c .terminate .ensures .1)
 
 returns-7 : tie.Need-returns-7
 returns-7 c =
-    let coded = c .before .before .before in
+    let matched = c .before .before in
+    let coded = matched .before in
     let a = coded .before .args in
-    met-paced (settingsOf (a .s .now)) (a .d .now) (a .pace .now) (a .t) (a .w)
-    (codes.refresh (settingsOf (a .s .now)) (a .d .now) (a .pace .now) (a .t) (a .w) (sym (coded .code .ensures) ∙ c .before .before .match .keys6))
+    let is = sym (coded .code .ensures) ∙ matched .match .keys6 in
+    met-paced (codes.refresh (settingsOf (a .s .now)) (a .d .now) (a .pace .now) (a .t) (a .w) is)
     (c .refresh .ensures .0) (c .refresh .ensures .1)
 
 returns-8 : tie.Need-returns-8
 returns-8 c =
-    let coded = c .before .before .before .before .before .before in
+    let banked = c .before .before in
+    let matched = banked .before .before .before in
+    let coded = matched .before in
     let a = coded .before .args in
-    met (settingsOf (a .s .now)) (a .d .now) (a .pace .now) (a .t) (a .w)
-    (codes.mode-set (settingsOf (a .s .now)) (a .d .now) (a .pace .now) (a .t) (a .w) (c .before .before .bank5 .ensures .0) (c .before .address2 .ensures .0) (sym (coded .code .ensures) ∙ c .before .before .before .before .before .match .keys7))
+    let is = sym (coded .code .ensures) ∙ matched .match .keys7 in
+    met (codes.mode-set (settingsOf (a .s .now)) (a .d .now) (a .pace .now) (a .t) (a .w) (banked .bank5 .ensures .0) (c .before .address2 .ensures .0) is)
     (c .mode-set .ensures .0) (c .mode-set .ensures .1 .0) (c .mode-set .ensures .1 .1)
 
 returns-9 : tie.Need-returns-9
@@ -137,7 +151,7 @@ returns-9 c =
     let coded = c .before .before .before in
     let a = coded .before .args in
     let no = c .before .before .match .rest in
-    met-quiet (settingsOf (a .s .now)) (a .d .now) (a .pace .now) (a .t) (a .w)
+    met-quiet
     (codes.quiet (settingsOf (a .s .now)) (a .d .now) (a .pace .now) (a .t) (a .w) (coded .code .ensures)
     (record {
       no-active = no .0 .0 .0 .0 .0 .0 .1;

@@ -59,7 +59,11 @@ banks-again-2 : tie.Need-banks-again-2 Inv-banks μ-banks
 banks-again-2 c = more (c .before .before .before .before .before .before .banks .inv) (rw (eq-eqb _ _ (c .if2 .taken), or-true _))
 
 returns : tie.Need-returns Inv-banks μ-banks
-returns c = left (c .before .before .before .before .before .before .banks .inv) (omega arith) (rw (sym (c .before .before .before .past .ensures) ∙ c .before .before .if1 .left, ne-eqb _ _ (c .if2 .left))) _ _
+returns c =
+    let asked = c .before .before in
+    let told = asked .before in
+    left (told .before .before .before .banks .inv) (omega arith)
+    (rw (sym (told .past .ensures) ∙ asked .if1 .left, ne-eqb _ _ (c .if2 .left))) _ _
 
 returns-2 : tie.Need-returns-2 Inv-banks μ-banks
 returns-2 c = passed (c .before .banks .inv) (omega arith) _ _

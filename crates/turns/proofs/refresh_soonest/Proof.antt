@@ -50,7 +50,9 @@ latest-requires-4 c κs = search needs
 
 returns : tie.Need-returns
 unfolding refreshSoonest
-returns c = rw (c .latest4 .ensures, c .before .latest3 .ensures, c .before .before .before .before .latest2 .ensures, c .before .before .before .before .before .latest .ensures)
+returns c =
+    let second = c .before .before .before .before in
+    rw (c .latest4 .ensures, c .before .latest3 .ensures, second .latest2 .ensures, second .before .latest .ensures)
 
 pub refresh-soonest-spec : {M : Type 1} → statement M
 refresh-soonest-spec =

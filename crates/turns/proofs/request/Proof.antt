@@ -35,7 +35,21 @@ element-copy-out-kept c = search needs
 
 returns : tie.Need-returns
 unfolding activeAt burstAt rested kept
-returns c = rw (c .before .latest .ensures, c .before .before .bus-after .ensures, c .before .before .before .rest-after .ensures, c .before .before .before .before .cycle-for2 .ensures, c .before .before .before .before .before .burst-soonest .ensures, c .before .before .before .before .before .before .after .ensures, c .before .before .before .before .before .before .before .before .cycle-for .ensures, c .before .before .before .before .before .before .before .before .before .active-soonest .ensures)
+returns c =
+    let rested = c .before .before .before in
+    let burst = rested .before in
+    let columned = burst .before .before in
+    let active = columned .before .before in
+    rw (
+      c .before .latest .ensures,
+      c .before .before .bus-after .ensures,
+      rested .rest-after .ensures,
+      burst .cycle-for2 .ensures,
+      burst .before .burst-soonest .ensures,
+      columned .after .ensures,
+      active .cycle-for .ensures,
+      active .before .active-soonest .ensures,
+    )
 
 pub request-spec : {M : Type 1} → statement M
 request-spec =

@@ -27,7 +27,9 @@ latest-requires : tie.Need-latest-requires
 latest-requires c κs = search needs
 
 returns : tie.Need-returns
-returns c = rw (c .latest .ensures, c .before .data-after2 .ensures, c .before .before .before .before .before .if1 .taken, c .before .before .before .before .before .before .after2 .ensures)
+returns c =
+    let asked = c .before .before .before .before .before in
+    rw (c .latest .ensures, c .before .data-after2 .ensures, asked .if1 .taken, asked .before .after2 .ensures)
 
 element-copy-out-after2-3 : tie.Need-element-copy-out-after2-3
 element-copy-out-after2-3 c = search needs
@@ -42,7 +44,9 @@ latest-requires-2 : tie.Need-latest-requires-2
 latest-requires-2 c κs = search needs
 
 returns-2 : tie.Need-returns-2
-returns-2 c = rw (c .latest2 .ensures, c .before .after22 .ensures, c .before .before .before .before .if1 .left, c .before .before .before .before .before .after2 .ensures)
+returns-2 c =
+    let asked = c .before .before .before .before in
+    rw (c .latest2 .ensures, c .before .after22 .ensures, asked .if1 .left, asked .before .after2 .ensures)
 
 pub rest-after-spec : {M : Type 1} → statement M
 rest-after-spec =

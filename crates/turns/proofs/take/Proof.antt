@@ -41,7 +41,10 @@ burst-after-requires c κs = search needs
 
 returns : tie.Need-returns
 unfolding taking
-returns c = rw (c .burst-after .ensures, c .before .before .apart-after .ensures, c .before .before .before .after2 .ensures, c .before .before .before .before .before .before .after .ensures)
+returns c =
+    let apart = c .before .before in
+    let again = apart .before .before .before .before in
+    rw (c .burst-after .ensures, apart .apart-after .ensures, apart .before .after2 .ensures, again .after .ensures)
 
 pub take-spec : {M : Type 1} → statement M
 take-spec =
