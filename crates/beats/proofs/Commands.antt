@@ -4,11 +4,12 @@ use mathlib.Core.Bool.{Bool, true, false, cond, _&&_, _||_}
 use mathlib.Core.List.{[], _∷_}
 use mathlib.Core.Path.{_≡_, refl, _∙_}
 use lib.Dec.{eqb}
-use Rattle.reading.specs.Commands.{Command, ACTIVE, READ, WRITE, PRECHARGE, commandOf, is, among, names}
+use Rattle.reading.specs.Commands.{Command, ACTIVE, READ, WRITE, commandOf, is, among}
 use Rattle.reading.specs.Settings.{Settings}
 use Rattle.reading.specs.Capture.{Event}
-use Rattle.reading.specs.Bursts.{Burst, cuts}
-use Rattle.reading.specs.Part.{Part, Bank, openOn, idleFrom, autoPrecharge, step}
+use Rattle.reading.specs.Bursts.{Burst}
+use Rattle.reading.specs.Part.{Part, Bank, openOn, idleFrom, autoPrecharge, closes, cuts, step}
+use Rattle.reading.proofs.Cuts.{allOpen}
 use Rattle.pins.specs.Pins.{codeOf, bankOf, addressOf, modeAfter}
 use Rattle.pins.proofs.Commands.{active-is, read-is, write-is, terminate-is, precharge-is, mode-set-is}
 use Rattle.beats.specs.Kept.{gives, cutsBurst}
@@ -24,9 +25,9 @@ module _ (w : ℕ) where
   pub gives-is : among (READ ∷ WRITE ∷ []) (commandOf w) ≡ gives w
   gives-is = rw (read-is, write-is) (either-none (eqb (codeOf w) 10) (eqb (codeOf w) 2))
 
-  -- the pins b gave the burst x
-  pub cuts-is : (b : ℕ) (x : Burst) → x .writes ≡ eqb (codeOf b) 2 → x .bank ≡ bankOf b → cuts (commandOf w) x ≡ cutsBurst b w
-  cuts-is b x e f = rw (e, f, read-is, write-is, terminate-is, precharge-is) (go (eqb (codeOf b) 2) (eqb (codeOf w) 10) (eqb (codeOf w) 6) _ _)
+  -- whichever banks are open; the pins b gave the burst x
+  pub cuts-is : (p : Part) (b : ℕ) (x : Burst) → x .writes ≡ eqb (codeOf b) 2 → x .bank ≡ bankOf b → cuts (allOpen p) (commandOf w) x ≡ cutsBurst b w
+  cuts-is p b x e f = rw (e, f, read-is, write-is, terminate-is, precharge-is) (go (eqb (codeOf b) 2) (eqb (codeOf w) 10) (eqb (codeOf w) 6) _ _)
     where
       go : (v p q y z : Bool) → cond v y ((p || (q || false)) || z) ≡ cond v y (p || (q || z))
       go true p q y z = refl
@@ -46,7 +47,7 @@ module _ (s : Settings) (p : Part) (e : Event) where
 
   pub row-is : (b : ℕ) → step s p e .banks b .row ≡ cond (eqb (codeOf (e .pins)) 12 && eqb b (bankOf (e .pins))) (addressOf (e .pins)) (p .banks b .row)
   row-is b =
-      go (is ACTIVE c && eqb b (c .bank)) (among (READ ∷ WRITE ∷ []) c && (eqb b (c .bank) && c .A10)) (is PRECHARGE c && (p .banks b .opened && names c b))
+      go (is ACTIVE c && eqb b (c .bank)) (among (READ ∷ WRITE ∷ []) c && (eqb b (c .bank) && c .A10)) (closes c b (p .banks b))
       (c .address) (e .cycle) (autoPrecharge s (p .mode) (e .cycle) c (p .banks b)) (e .cycle) (p .banks b)
       ∙ rw (active-is (e .pins))
     where

@@ -2,6 +2,7 @@
 use Prim.Native.Nat.{ℕ, _+_, _≤_, _<_}
 use mathlib.Core.Bool.{Bool, true, false, cond, not, _&&_, and-true}
 use mathlib.Core.List.{List, [], _∷_, map}
+use mathlib.Core.Logic.{_⊎_, inl, inr}
 use mathlib.Core.Option.{Option, some, Option·map}
 use mathlib.Core.Path.{_≡_, refl, sym, ap, _∙_, subst}
 use native.Mathlib.Omega.{arith}
@@ -9,24 +10,19 @@ use lib.Dec.{leb, leb·zero}
 use borrow.Author.Tests.{leb-true, leb-false, le-leb, lt-leb}
 use Rattle.reading.specs.Search.{implies, every, find, lesser, later}
 use Rattle.reading.specs.Mode.{h}
+use Rattle.reading.specs.Settings.{Settings}
 use Rattle.reading.specs.Commands.{Command}
-use Rattle.reading.specs.Bursts.{Burst, reads, dataEnd, withPairs, cuts, cutTo, isCut, cutBy}
+use Rattle.reading.specs.Bursts.{Burst, reads, dataEnd, withPairs}
+use Rattle.reading.specs.Part.{Part, Bank, cuts, cutBy}
 use Rattle.reading.specs.Rules.{autoOver, untouchable}
-use Rattle.reading.proofs.Cuts.{All, nil, cons}
+use Rattle.reading.proofs.Cuts.{All, nil, cons, Spent}
 use Rattle.bridge.specs.Summary.{ended, heldBy}
 use Rattle.bridge.proofs.Tests.{ltb-is, held-is}
 
 -- ---- what a cut leaves alone
 
-pub blind : {A : Type 0} (q : Burst → A) → ((n : ℕ) (x : Burst) → q (withPairs n x) ≡ q x) → (t : ℕ) (c : Command) (x : Burst) → q (cutBy t c x) ≡ q x
-blind q e t c x = go (isCut t c x)
-  where
-    go : (b : Bool) → q (cond b (withPairs (cutTo t x) x) x) ≡ q x
-    go true = e (cutTo t x) x
-    go false = refl
-
-pub uncut : (t : ℕ) (c : Command) (x : Burst) → cuts c x ≡ false → cutBy t c x ≡ x
-uncut t c x e = rw e
+pub uncut : (s : Settings) (p : Part) (t : ℕ) (c : Command) (x : Burst) → cuts p c x ≡ false → cutBy s p t c x ≡ x
+uncut s p t c x e = rw e
 
 pub find-same : (q : Burst → Bool) (f : Burst → Burst) → ((x : Burst) → q (f x) ≡ q x) → ((x : Burst) → q x ≡ true → f x ≡ x) →
     (xs : List Burst) → find q (map f xs) ≡ find q xs
@@ -49,12 +45,10 @@ pub find-like : (q r : Burst → Bool) → ((x : Burst) → q x ≡ r x) → (xs
 find-like q r e [] = refl
 find-like q r e (x ∷ xs) = rw (e x, find-like q r e xs)
 
-pub held-cut : (kind : Burst → Bool) → ((n : ℕ) (x : Burst) → kind (withPairs n x) ≡ kind x) → (t : ℕ) (c : Command) (xs : List Burst) →
-    heldBy kind (map (cutBy t c) xs) ≡ heldBy kind xs
-held-cut kind e t c [] = refl
-held-cut kind e t c (x ∷ xs) =
-    rw (held-cut kind e t c xs)
-    (ap (λ (v : ℕ). later v (heldBy kind xs)) (blind (λ y. cond (kind y && y .auto) (y .k + h (y .mode)) 0) (λ n y. rw (e n y)) t c x))
+pub held-cut : (kind : Burst → Bool) → ((n : ℕ) (x : Burst) → kind (withPairs n x) ≡ kind x) →
+    (s : Settings) (p : Part) (t : ℕ) (c : Command) (xs : List Burst) → heldBy kind (map (cutBy s p t c) xs) ≡ heldBy kind xs
+held-cut kind e s p t c [] = refl
+held-cut kind e s p t c (x ∷ xs) = rw (held-cut kind e s p t c xs, e (cutBy s p t c x .n) x)
 
 -- ---- bursts given before a cycle
 
@@ -146,6 +140,20 @@ pub late-is : {from : ℕ} (w t : ℕ) → from ≤ t → {xs : List Burst} → 
 late-is w t l nothing = sym (leb·zero (t + w))
 late-is w t l (read e rest) = rw e (late-is w t l rest)
 late-is w t l (write {x = x} e rest) = rw (e, all-over t l rest) (and-true (leb (dataEnd x) t) ∙ sym (leb-add w (dataEnd x) t))
+
+-- ---- reads: one that can be cut is over, or it is the last of all and its bank is open
+
+pub record Running (from : ℕ) (banks : ℕ → Bank) (xs : List Burst) (x : Burst) : Type 0 where
+  pub by : x .writes ≡ false → x .auto ≡ false → (x .k + x .n ≤ from) ⊎ ((find reads xs ≡ some x) × (banks (x .bank) .opened ≡ true))
+
+pub all-spent : (p : Part) (from t : ℕ) → from ≤ t → {ys xs : List Burst} → All (Running from (p .banks) ys) xs → All (Spent t p) xs
+all-spent p from t l nil = nil
+all-spent p from t l (cons {x = x} z zs) = cons (record { by = λ w a i. go i (z .by w a) }) (all-spent p from t l zs)
+  where
+    go : {Last : Type 0} → p .banks (x .bank) .opened ≡ false →
+        (x .k + x .n ≤ from) ⊎ (Last × (p .banks (x .bank) .opened ≡ true)) → x .k + x .n ≤ t
+    go i (inl e) = omega arith
+    go i (inr (e, o)) = let k : _≡_ {A = ℕ} 0 1 = cc in absurd (omega arith)
 
 -- ---- BURST TERMINATE
 

@@ -9,10 +9,12 @@ use lib.Dec.{leb, ltb}
 use borrow.Author.Tests.{leb-true, leb-false, ltb-false}
 use Rattle.reading.specs.Search.{lesser}
 use Rattle.reading.specs.Mode.{h, CL}
+use Rattle.reading.specs.Settings.{Settings}
 use Rattle.reading.specs.Commands.{Command}
-use Rattle.reading.specs.Bursts.{Burst, withPairs, cuts, cutTo, cutBy}
+use Rattle.reading.specs.Bursts.{Burst}
+use Rattle.reading.specs.Part.{Part, cuts, atMost, cutBy}
 use Rattle.bridge.specs.Summary.{readerOf}
-use Rattle.bridge.proofs.Bursts.{blind, Given, lesser-low, lesser-high}
+use Rattle.bridge.proofs.Bursts.{Given, lesser-low, lesser-high}
 
 -- the last pair of a burst that c cuts, c more cycles counted: the lesser of what it was and t
 cut-pairs : (c : ℕ) (k n t : ℕ) → k ≤ t → k + c + lesser n (t - k) ≡ lesser (k + c + n) (t + c)
@@ -24,16 +26,17 @@ cut-pairs c k n t l = go (leb n (t - k)) refl
         let q : k + c + (t - k) ≡ t + c = omega arith in
         q ∙ sym (lesser-high (k + c + n) (t + c) (omega (arith, leb-false n (t - k) e)))
 
-module _ (from t : ℕ) (l : from ≤ t) (c : Command) (x : Burst) (g : Given from x) (over : x .auto ≡ true → x .k + h (x .mode) ≤ t) where
+module _ (s : Settings) (p : Part) (from t : ℕ) (l : from ≤ t) (c : Command) (x : Burst) (g : Given from x)
+    (over : x .auto ≡ true → x .k + h (x .mode) ≤ t) where
   -- a burst that c cuts, cycles counted to c after its last pair
-  pub cut-until : (w : ℕ) → cuts c x ≡ true → x .k + w + cutBy t c x .n ≡ lesser (x .k + w + x .n) (t + w)
+  pub cut-until : (w : ℕ) → cuts p c x ≡ true → x .k + w + cutBy s p t c x .n ≡ lesser (x .k + w + x .n) (t + w)
   cut-until w e = rw e (go (x .auto) refl (ltb t (x .k + h (x .mode))) refl)
     where
       go : (a : Bool) → x .auto ≡ a → (b : Bool) → ltb t (x .k + h (x .mode)) ≡ b →
-          x .k + w + (cond (not a && b) (withPairs (cutTo t x) x) x) .n ≡ lesser (x .k + w + x .n) (t + w)
-      go true p b q = sym (lesser-low (x .k + w + x .n) (t + w) (omega (arith, g .most, over p)))
-      go false p true q = cut-pairs w (x .k) (x .n) t (omega (arith, g .before))
-      go false p false q = sym (lesser-low (x .k + w + x .n) (t + w) (omega (arith, g .most, ltb-false t (x .k + h (x .mode)) q)))
+          x .k + w + atMost (cond (not a && b) (some (t - x .k)) none) (x .n) ≡ lesser (x .k + w + x .n) (t + w)
+      go true u b q = sym (lesser-low (x .k + w + x .n) (t + w) (omega (arith, g .most, over u)))
+      go false u true q = cut-pairs w (x .k) (x .n) t (omega (arith, g .before))
+      go false u false q = sym (lesser-low (x .k + w + x .n) (t + w) (omega (arith, g .most, ltb-false t (x .k + h (x .mode)) q)))
 
 -- the latency of the last read is that of now, or its data is over
 abbrev pub Latency : ℕ → ℕ → Option Burst → Type 0
@@ -48,6 +51,6 @@ same-latency from t m l x (inr e) =
     ∙ sym (lesser-low (x .k + CL (x .mode) + x .n) (t + CL m) (omega arith))
 
 -- the reader is the same after a cut
-pub same-reader : (t : ℕ) (c : Command) (o : Option Burst) → readerOf (Option·map (cutBy t c) o) ≡ readerOf o
-same-reader t c none = refl
-same-reader t c (some x) = blind (λ y. cond (y .auto) 4 (y .bank)) (λ n y. refl) t c x
+pub same-reader : (s : Settings) (p : Part) (t : ℕ) (c : Command) (o : Option Burst) → readerOf (Option·map (cutBy s p t c) o) ≡ readerOf o
+same-reader s p t c none = refl
+same-reader s p t c (some x) = refl

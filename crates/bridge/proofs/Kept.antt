@@ -1,55 +1,86 @@
 -- What holds of a sound part holds after an event that breaks no rule.
 use Prim.Native.Nat.{ℕ, suc, _+_, _≤_, _<_}
-use mathlib.Core.Bool.{Bool, true, false, cond, _&&_}
+use mathlib.Core.Bool.{Bool, true, false, cond, _&&_, or-true, and-false}
 use mathlib.Core.List.{List, [], _∷_, map}
-use mathlib.Core.Logic.{inl, inr}
+use mathlib.Core.Logic.{_⊎_, inl, inr}
 use mathlib.Core.Option.{Option, none, some, Option·map}
-use mathlib.Core.Path.{_≡_, refl, sym, _∙_, subst}
+use mathlib.Core.Path.{_≡_, refl, sym, ap, _∙_, subst}
 use native.Mathlib.Nat.{le-refl}
 use native.Mathlib.Omega.{arith}
 use lib.Dec.{eqb}
 use Rattle.reading.specs.Search.{find}
 use Rattle.reading.specs.Mode.{h}
 use Rattle.reading.specs.Settings.{Settings}
-use Rattle.reading.specs.Commands.{ACTIVE, READ, WRITE, PRECHARGE, MODE-REGISTER-SET, Command, is, among, names}
-use Rattle.reading.specs.Bursts.{Burst, reads, dataEnd, cutBy}
-use Rattle.reading.specs.Part.{Part, openOn, idleFrom, autoPrecharge, bankAfter, burstGiven, partAfter}
-use Rattle.reading.proofs.Cuts.{All, nil, cons, all-map, cut-lowers}
+use Rattle.reading.specs.Commands.{ACTIVE, READ, WRITE, BURST-TERMINATE, MODE-REGISTER-SET, Command, is, among}
+use Rattle.reading.specs.Bursts.{Burst, reads}
+use Rattle.reading.specs.Part.{Part, Bank, openOn, idleFrom, autoPrecharge, closes, bankAfter, cuts, cutBy, burstGiven, partAfter}
+use Rattle.reading.proofs.Cuts.{All, cons, all-map, all-map₂, cut-lowers, cutAlone, cuts-alone}
 use Rattle.bridge.specs.Summary.{cleared, heldBy}
-use Rattle.bridge.proofs.Bursts.{blind, uncut, find-map, Given, Ended, Late, nothing, read, write, Over, held-over, lesser-right}
+use Rattle.bridge.proofs.Bursts.{find-map, Given, Ended, Running, all-spent, Late, nothing, read, write, Over, held-over, lesser-right}
 use Rattle.bridge.proofs.Cut.{cut-until, Latency}
 use Rattle.bridge.proofs.Rules.{does}
 use Rattle.bridge.proofs.Next.{Before, Sound}
 
-module _ (from t : ℕ) (l : from ≤ t) (c : Command) where
-  given-cut : (x : Burst) → Given from x → Given (suc t) (cutBy t c x)
+module _ (s : Settings) (p : Part) (from t : ℕ) (l : from ≤ t) (c : Command) where
+  given-cut : (x : Burst) → Given from x → Given (suc t) (cutBy s p t c x)
   given-cut x g =
       record {
-        before = rw (blind (λ y. y .k) (λ n y. refl) t c x) (omega (arith, g .before));
-        most = rw (blind (λ y. y .mode) (λ n y. refl) t c x) (omega (arith, g .most, cut-lowers t c x));
-        bank = rw (blind (λ y. y .bank) (λ n y. refl) t c x) (g .bank);
+        before = omega (arith, g .before);
+        most = omega (arith, g .most, cut-lowers s p t c x);
+        bank = g .bank;
       }
 
-  ended-later : is WRITE c ≡ false → (x : Burst) → Ended from x → Ended (suc t) (cutBy t c x)
-  ended-later w x e = record { by = λ h. go (sym (blind (λ y. y .writes) (λ n y. refl) t c x) ∙ h) }
-    where
-      go : x .writes ≡ true → dataEnd (cutBy t c x) ≤ suc t
-      go f = rw (uncut t c x (rw (f, w))) (omega (arith, e .by f))
+  ended-later : (x : Burst) → Ended from x → Ended (suc t) (cutBy s p t c x)
+  ended-later x e = record { by = λ f. omega (arith, e .by f, cut-lowers s p t c x) }
 
-  late-later : is WRITE c ≡ false → {xs : List Burst} → Late from xs → Late (suc t) (map (cutBy t c) xs)
-  late-later w nothing = nothing
-  late-later w (read {x = x} e r) = read (blind (λ y. y .writes) (λ n y. refl) t c x ∙ e) (late-later w r)
-  late-later w (write {x = x} e r) = write (blind (λ y. y .writes) (λ n y. refl) t c x ∙ e) (all-map (cutBy t c) (ended-later w) r)
+  late-later : {xs : List Burst} → Late from xs → Late (suc t) (map (cutBy s p t c) xs)
+  late-later nothing = nothing
+  late-later (read e r) = read e (late-later r)
+  late-later (write e r) = write e (all-map (cutBy s p t c) ended-later r)
 
-  latency-later : (m : ℕ) (o : Option Burst) → Latency from m o → Latency (suc t) m (Option·map (cutBy t c) o)
+  latency-later : (m : ℕ) (o : Option Burst) → Latency from m o → Latency (suc t) m (Option·map (cutBy s p t c) o)
   latency-later m none y = y
-  latency-later m (some x) (inl e) = inl (blind (λ y. y .mode) (λ n y. refl) t c x ∙ e)
-  latency-later m (some x) (inr e) =
-      inr (rw (blind (λ y. y .k) (λ n y. refl) t c x, blind (λ y. y .mode) (λ n y. refl) t c x) (omega (arith, cut-lowers t c x)))
+  latency-later m (some x) (inl e) = inl e
+  latency-later m (some x) (inr e) = inr (omega (arith, cut-lowers s p t c x))
+
+  -- ---- reads
+
+  abbrev banks : ℕ → Bank
+  banks i = bankAfter s (p .mode) t c i (p .banks i)
+
+  -- one that is cut is over
+  cut-over : (x : Burst) → Given from x → x .auto ≡ false → cuts p c x ≡ true → x .k + cutBy s p t c x .n ≤ suc t
+  cut-over x gx a e =
+      omega (
+        arith,
+        cut-until s p from t l c x gx (λ b. absurd (let z : _≡_ {A = ℕ} 0 1 = cc in omega arith)) 0 e,
+        lesser-right (x .k + 0 + x .n) (t + 0),
+      )
+
+  module _ (e : among (READ ∷ WRITE ∷ []) c ≡ false) where
+    still-open : (i : ℕ) → closes c i (p .banks i) ≡ false → p .banks i .opened ≡ true → banks i .opened ≡ true
+    still-open i f o = rw (e, f) (go (is ACTIVE c && eqb i (c .bank)))
+      where
+        go : (v : Bool) → (cond v (openOn (c .address) t (p .banks i)) (p .banks i)) .opened ≡ true
+        go true = refl
+        go false = o
+
+    running-later : (xs : List Burst) (x : Burst) → Given from x → Running from (p .banks) xs x →
+        Running (suc t) banks (map (cutBy s p t c) xs) (cutBy s p t c x)
+    running-later xs x gx z = record { by = λ w a. go w a (z .by w a) (closes c (x .bank) (p .banks (x .bank))) refl }
+      where
+        go : x .writes ≡ false → x .auto ≡ false → (x .k + x .n ≤ from) ⊎ ((find reads xs ≡ some x) × (p .banks (x .bank) .opened ≡ true)) →
+            (v : Bool) → closes c (x .bank) (p .banks (x .bank)) ≡ v →
+            (x .k + cutBy s p t c x .n ≤ suc t)
+            ⊎ ((find reads (map (cutBy s p t c) xs) ≡ some (cutBy s p t c x)) × (banks (x .bank) .opened ≡ true))
+        go w a (inl k) v f = inl (omega (arith, cut-lowers s p t c x))
+        go w a (inr (k, o)) true f = inl (cut-over x gx a (rw (w, f) (or-true (among (READ ∷ BURST-TERMINATE ∷ []) c))))
+        go w a (inr (k, o)) false f =
+            inr (find-map reads (cutBy s p t c) (λ y. refl) xs ∙ ap (Option·map (cutBy s p t c)) k, still-open (x .bank) f o)
 
 module _ (s : Settings) (p : Part) (from t : ℕ) (l : from ≤ t) (g : Sound from p) where
-  cut-given : (c : Command) → All (Given (suc t)) (map (cutBy t c) (p .bursts))
-  cut-given c = all-map (cutBy t c) (given-cut from t l c) (g .bursts)
+  cut-given : (c : Command) → All (Given (suc t)) (map (cutBy s p t c) (p .bursts))
+  cut-given c = all-map (cutBy s p t c) (given-cut s p from t l c) (g .bursts)
 
   older : (o : Option ℕ) → Before from o → Before (suc t) o
   older none q = q
@@ -57,7 +88,7 @@ module _ (s : Settings) (p : Part) (from t : ℕ) (l : from ≤ t) (g : Sound fr
 
   kept-banks : (c : Command) (i : ℕ) → Before (suc t) (bankAfter s (p .mode) t c i (p .banks i) .lastActive)
   kept-banks c i =
-      go (is ACTIVE c && eqb i (c .bank)) (among (READ ∷ WRITE ∷ []) c && (eqb i (c .bank) && c .A10)) (is PRECHARGE c && (p .banks i .opened && names c i))
+      go (is ACTIVE c && eqb i (c .bank)) (among (READ ∷ WRITE ∷ []) c && (eqb i (c .bank) && c .A10)) (closes c i (p .banks i))
     where
       go : (u v w : Bool) →
           Before (suc t)
@@ -68,21 +99,26 @@ module _ (s : Settings) (p : Part) (from t : ℕ) (l : from ≤ t) (g : Sound fr
       go false false true = older (p .banks i .lastActive) (g .banks i)
       go false false false = older (p .banks i .lastActive) (g .banks i)
 
-  found : (c : Command) → find reads (map (cutBy t c) (p .bursts)) ≡ Option·map (cutBy t c) (find reads (p .bursts))
-  found c = find-map reads (cutBy t c) (blind reads (λ n x. refl) t c) (p .bursts)
+  found : (c : Command) → find reads (map (cutBy s p t c) (p .bursts)) ≡ Option·map (cutBy s p t c) (find reads (p .bursts))
+  found c = find-map reads (cutBy s p t c) (λ x. refl) (p .bursts)
 
-  cut-latency : (c : Command) → Latency (suc t) (p .mode) (find reads (map (cutBy t c) (p .bursts)))
+  cut-latency : (c : Command) → Latency (suc t) (p .mode) (find reads (map (cutBy s p t c) (p .bursts)))
   cut-latency c =
-      subst (λ (o : Option Burst). Latency (suc t) (p .mode) o) (sym (found c)) (latency-later from t l c (p .mode) (find reads (p .bursts)) (g .latency))
+      subst (λ (o : Option Burst). Latency (suc t) (p .mode) o) (sym (found c)) (latency-later s p from t l c (p .mode) (find reads (p .bursts)) (g .latency))
+
+  still-running : (c : Command) → among (READ ∷ WRITE ∷ []) c ≡ false →
+      All (Running (suc t) (banks s p from t l c) (map (cutBy s p t c) (p .bursts))) (map (cutBy s p t c) (p .bursts))
+  still-running c e = all-map₂ (cutBy s p t c) (running-later s p from t l c e (p .bursts)) (g .bursts) (g .running)
 
   -- a command that gives no burst and leaves the mode
-  pub kept-plain : (c : Command) → among (READ ∷ WRITE ∷ []) c ≡ false → is WRITE c ≡ false → is MODE-REGISTER-SET c ≡ false → Sound (suc t) (partAfter s p t c)
-  kept-plain c e w m =
+  pub kept-plain : (c : Command) → among (READ ∷ WRITE ∷ []) c ≡ false → is MODE-REGISTER-SET c ≡ false → Sound (suc t) (partAfter s p t c)
+  kept-plain c e m =
       record {
         bursts = rw e (cut-given c);
         banks = kept-banks c;
-        late = rw e (late-later from t l c w (g .late));
+        late = rw e (late-later s p from t l c (g .late));
         latency = rw (e, m) (cut-latency c);
+        running = subst (λ (ys : List Burst). All (Running (suc t) (banks s p from t l c) ys) ys) (sym (rw e)) (still-running c e);
       }
 
   -- a MODE REGISTER SET: the last read is over
@@ -91,50 +127,70 @@ module _ (s : Settings) (p : Part) (from t : ℕ) (l : from ≤ t) (g : Sound fr
       record {
         bursts = cut-given c;
         banks = kept-banks c;
-        late = late-later from t l c refl (g .late);
+        late = late-later s p from t l c (g .late);
         latency = subst (λ (o : Option Burst). Latency (suc t) (cond (eqb b 0) a (p .mode)) o) (sym (found c)) (over (find reads (p .bursts)) q);
+        running = still-running c refl;
       }
     where
       c : Command
       c = does MODE-REGISTER-SET b a ten
 
-      over : (o : Option Burst) → cleared o ≤ t → Latency (suc t) (cond (eqb b 0) a (p .mode)) (Option·map (cutBy t c) o)
+      over : (o : Option Burst) → cleared o ≤ t → Latency (suc t) (cond (eqb b 0) a (p .mode)) (Option·map (cutBy s p t c) o)
       over none r = tt
-      over (some x) r =
-          inr (rw (blind (λ y. y .k) (λ n y. refl) t c x, blind (λ y. y .mode) (λ n y. refl) t c x) (omega (arith, cut-lowers t c x)))
+      over (some x) r = inr (omega (arith, cut-lowers s p t c x))
 
-  pub kept-read : (b a : ℕ) (ten : Bool) → b < 4 → Sound (suc t) (partAfter s p t (does READ b a ten))
-  kept-read b a ten m =
+  -- a READ: every earlier read is over, and its own bank is open unless it has auto precharge
+  pub kept-read : (b a : ℕ) (ten : Bool) → b < 4 → p .banks b .opened ≡ true → Sound (suc t) (partAfter s p t (does READ b a ten))
+  kept-read b a ten m o =
       record {
         bursts = cons {x = burstGiven s p t c} (record { before = omega arith; most = le-refl (h (p .mode)); bank = m }) (cut-given c);
         banks = kept-banks c;
-        late = read refl (late-later from t l c refl (g .late));
+        late = read refl (late-later s p from t l c (g .late));
         latency = inl refl;
+        running = cons (record { by = λ w f. inr (refl, rw (f, and-false (eqb b b)) o) }) (all-map₂ (cutBy s p t c) cut (g .bursts) (g .running));
       }
     where
       c : Command
       c = does READ b a ten
 
-  pub kept-write : (b a : ℕ) (ten : Bool) → b < 4 → heldBy (λ x. x .writes) (p .bursts) ≤ t → Sound (suc t) (partAfter s p t (does WRITE b a ten))
-  kept-write b a ten m q =
+      cut : (x : Burst) → Given from x → Running from (p .banks) (p .bursts) x →
+          Running (suc t) (banks s p from t l c) (burstGiven s p t c ∷ map (cutBy s p t c) (p .bursts)) (cutBy s p t c x)
+      cut x gx z = record { by = λ w f. inl (cut-over s p from t l c x gx f (rw w)) }
+
+  -- a WRITE: the last read is over
+  pub kept-write : (b a : ℕ) (ten : Bool) → b < 4 → cleared (find reads (p .bursts)) ≤ t → heldBy (λ x. x .writes) (p .bursts) ≤ t →
+      Sound (suc t) (partAfter s p t (does WRITE b a ten))
+  kept-write b a ten m r q =
       record {
         bursts = cons {x = burstGiven s p t c} (record { before = omega arith; most = le-refl (h (p .mode)); bank = m }) (cut-given c);
         banks = kept-banks c;
-        late = write refl (ends (g .bursts) (held-over (λ x. x .writes) t (p .bursts) q));
+        late = write refl (all-map₂ (cutBy s p t c) one (g .bursts) (held-over (λ x. x .writes) t (p .bursts) q));
         latency = cut-latency c;
+        running = cons (record { by = λ w f. no-read w }) (all-map₂ (cutBy s p t c) over (g .bursts) (g .running));
       }
     where
       c : Command
       c = does WRITE b a ten
 
-      one : (x : Burst) → Given from x → Over t (λ y. y .writes) x → Ended (suc t) (cutBy t c x)
-      one x gx ox = record { by = λ f. go (sym (blind (λ y. y .writes) (λ n y. refl) t c x) ∙ f) }
-        where
-          go : x .writes ≡ true → dataEnd (cutBy t c x) ≤ suc t
-          go f =
-              rw (blind (λ y. y .k) (λ n y. refl) t c x)
-              (omega (arith, cut-until from t l c x gx (ox .by f) 1 (rw f), lesser-right (x .k + 1 + x .n) (t + 1)))
+      no-read : {A : Type 0} → true ≡ false → A
+      no-read w = absurd (let z : _≡_ {A = ℕ} 0 1 = cc in omega arith)
 
-      ends : {xs : List Burst} → All (Given from) xs → All (Over t (λ y. y .writes)) xs → All (Ended (suc t)) (map (cutBy t c) xs)
-      ends nil nil = nil
-      ends (cons {x = x} gx gs) (cons ox os) = cons (one x gx ox) (ends gs os)
+      one : (x : Burst) → Given from x → Over t (λ y. y .writes) x → Ended (suc t) (cutBy s p t c x)
+      one x gx ox =
+          record {
+            by = λ f. omega (arith, cut-until s p from t l c x gx (ox .by f) 1 (rw f), lesser-right (x .k + 1 + x .n) (t + 1));
+          }
+
+      over : (x : Burst) → Given from x → Running from (p .banks) (p .bursts) x →
+          Running (suc t) (banks s p from t l c) (burstGiven s p t c ∷ map (cutBy s p t c) (p .bursts)) (cutBy s p t c x)
+      over x gx z = record { by = λ w f. inl (go (z .by w f)) }
+        where
+          go : {Open : Type 0} → (x .k + x .n ≤ from) ⊎ ((find reads (p .bursts) ≡ some x) × Open) → x .k + cutBy s p t c x .n ≤ suc t
+          go (inl k) = omega (arith, cut-lowers s p t c x)
+          go (inr (k, o)) =
+              let ends : cleared (some x) ≤ t = subst (λ (u : Option Burst). cleared u ≤ t) k r in
+              omega (arith, cut-lowers s p t c x)
+
+  -- behind a sound part an event cuts what its command cuts by itself
+  pub same-cuts : (c : Command) → map (cutBy s p t c) (p .bursts) ≡ map (cutAlone s t c) (p .bursts)
+  same-cuts c = cuts-alone s p t c (all-spent p from t l (g .running))

@@ -13,15 +13,15 @@ use Rattle.reading.specs.Search.{ever, find, lesser, later, orZero}
 use Rattle.reading.specs.Mode.{h, CL}
 use Rattle.reading.specs.Settings.{Settings}
 use Rattle.reading.specs.Commands.{ACTIVE, READ, WRITE, BURST-TERMINATE, PRECHARGE, AUTO-REFRESH, MODE-REGISTER-SET, NOP, DESELECT, Command, is}
-use Rattle.reading.specs.Bursts.{Burst, reads, dataEnd, cuts, cutBy}
-use Rattle.reading.specs.Part.{Part, Bank, openOn, idleFrom, burstGiven, partAfter, bankWrite, lastBankWrite}
+use Rattle.reading.specs.Bursts.{Burst, reads, dataEnd}
+use Rattle.reading.specs.Part.{Part, Bank, openOn, idleFrom, cuts, cutBy, burstGiven, partAfter, bankWrite, lastBankWrite}
 use Rattle.reading.proofs.Cuts.{All, nil, cons, auto-uncut}
 use Rattle.deadlines.specs.Deadlines.{WRITES, READER, at, paceOf, dueAfterRefresh, cutWrite, newWrite, autoAfter, restAfter, restAll}
 use Rattle.deadlines.specs.Deadlines.{activeAfter, readAfter, writeAfter, cutRead, closeAfter, closeAllAfter, refreshAfter, modeSetAfter}
 use Rattle.bridge.specs.Summary.{BankHeld, Held, laid, summary, bankHeld, writeHeld, from, ended, cleared, readerOf, writerOf}
 use Rattle.bridge.proofs.Laid.{same, same-read, same-write, banked, readGiven, writeGiven, timed}
 use Rattle.bridge.proofs.Laid.{onBank, activated, shut, writtenTill, autoShut, closed, writtenBy, active-laid, auto-laid, cut-laid, new-laid, rest-laid}
-use Rattle.bridge.proofs.Bursts.{blind, uncut, find-same, find-map, held-cut, Given, Late, nothing, read, write, Over, held-over}
+use Rattle.bridge.proofs.Bursts.{uncut, find-same, find-map, held-cut, Given, Running, all-spent, Late, nothing, read, write, Over, held-over}
 use Rattle.bridge.proofs.Bursts.{find-all, find-holds, lesser-low, lesser-add, later-low, later-high, later-add}
 use Rattle.bridge.proofs.Tests.{first-of}
 use Rattle.bridge.proofs.Cut.{cut-until, Latency, same-latency, same-reader}
@@ -37,6 +37,7 @@ pub record Sound (from : ℕ) (p : Part) : Type 0 where
   pub banks : (b : ℕ) → Before from (p .banks b .lastActive)
   pub late : Late from (p .bursts)
   pub latency : Latency from (p .mode) (find reads (p .bursts))
+  pub running : All (Running from (p .banks) (p .bursts)) (p .bursts)
 
 map-same : (f : Burst → Burst) → ((x : Burst) → f x ≡ x) → (xs : List Burst) → map f xs ≡ xs
 map-same f e [] = refl
@@ -61,8 +62,8 @@ module _ (s : Settings) (p : Part) (from₀ t : ℕ) (l : from₀ ≤ t) (g : So
   after c = summary s (partAfter s p t c)
 
   -- a command that cuts nothing leaves the bursts alone
-  whole : (c : Command) → ((x : Burst) → cuts c x ≡ false) → map (cutBy t c) xs ≡ xs
-  whole c e = map-same (cutBy t c) (λ x. uncut t c x (e x)) xs
+  whole : (c : Command) → ((x : Burst) → cuts p c x ≡ false) → map (cutBy s p t c) xs ≡ xs
+  whole c e = map-same (cutBy s p t c) (λ x. uncut s p t c x (e x)) xs
 
   none-cut : (w : Bool) → cond w false false ≡ false
   none-cut true = refl
@@ -73,7 +74,7 @@ module _ (s : Settings) (p : Part) (from₀ t : ℕ) (l : from₀ ≤ t) (g : So
   withBursts zs =
       summary s (record { banks = p .banks; mode = p .mode; lastRefresh = p .lastRefresh; lastModeSet = p .lastModeSet; clock = p .clock; bursts = zs })
 
-  unchanged : (c : Command) → ((x : Burst) → cuts c x ≡ false) → withBursts (map (cutBy t c) xs) ≡ X
+  unchanged : (c : Command) → ((x : Burst) → cuts p c x ≡ false) → withBursts (map (cutBy s p t c) xs) ≡ X
   unchanged c e = ap withBursts (whole c e)
 
   pub quiet-next : (b a : ℕ) (ten : Bool) → laid (after (does NOP b a ten)) ≡ laid X
@@ -117,7 +118,7 @@ module _ (s : Settings) (p : Part) (from₀ t : ℕ) (l : from₀ ≤ t) (g : So
   pub active-next : (b a : ℕ) (ten : Bool) → b < 4 → laid (after (does ACTIVE b a ten)) ≡ activeAfter s (laid X) t b
   active-next b a ten m = ap laid entries ∙ sym (active-laid s X t b m)
     where
-      cut : map (cutBy t (does ACTIVE b a ten)) xs ≡ xs
+      cut : map (cutBy s p t (does ACTIVE b a ten)) xs ≡ xs
       cut = whole (does ACTIVE b a ten) (λ x. none-cut (x .writes))
 
       bank : (i : ℕ) (v : Bool) →
@@ -132,22 +133,22 @@ module _ (s : Settings) (p : Part) (from₀ t : ℕ) (l : from₀ ≤ t) (g : So
 
   -- ---- what a command that is no WRITE leaves of the writes
 
-  writes-stay : (c : Command) → is WRITE c ≡ false → find (λ x. x .writes) (map (cutBy t c) xs) ≡ find (λ x. x .writes) xs
+  writes-stay : (c : Command) → is WRITE c ≡ false → find (λ x. x .writes) (map (cutBy s p t c) xs) ≡ find (λ x. x .writes) xs
   writes-stay c e =
-      find-same (λ x. x .writes) (cutBy t c) (blind (λ x. x .writes) (λ n x. refl) t c) (λ x h. uncut t c x (rw (h, e))) xs
+      find-same (λ x. x .writes) (cutBy s p t c) (λ x. refl) (λ x h. uncut s p t c x (rw (h, e))) xs
 
   written-stays : (c : Command) → is WRITE c ≡ false → (i : ℕ) (o : Option ℕ) → o ≡ p .banks i .lastActive →
-      find (λ x. x .writes && (eqb i (x .bank) && ever o (λ a. leb a (x .k)))) (map (cutBy t c) xs) ≡ find (bankWrite p i) xs
+      find (λ x. x .writes && (eqb i (x .bank) && ever o (λ a. leb a (x .k)))) (map (cutBy s p t c) xs) ≡ find (bankWrite p i) xs
   written-stays c e i o q =
-      find-same (λ x. x .writes && (eqb i (x .bank) && ever o (λ a. leb a (x .k)))) (cutBy t c)
-      (blind (λ x. x .writes && (eqb i (x .bank) && ever o (λ a. leb a (x .k)))) (λ n x. refl) t c)
-      (λ x h. uncut t c x (rw (first-of (x .writes) _ h, e))) xs
+      find-same (λ x. x .writes && (eqb i (x .bank) && ever o (λ a. leb a (x .k)))) (cutBy s p t c)
+      (λ x. refl)
+      (λ x h. uncut s p t c x (rw (first-of (x .writes) _ h, e))) xs
       ∙ ap (λ (v : Option ℕ). find (λ x. x .writes && (eqb i (x .bank) && ever v (λ a. leb a (x .k)))) xs) q
 
-  writes-left : (c : Command) → is WRITE c ≡ false → writeHeld s (map (cutBy t c) xs) ≡ X .write
+  writes-left : (c : Command) → is WRITE c ≡ false → writeHeld s (map (cutBy s p t c) xs) ≡ X .write
   writes-left c e =
       let stays = writes-stay c e in
-      same-write (held-cut (λ x. x .writes) (λ n x. refl) t c xs) (ap (λ (v : Option Burst). ended v (s .tWTR)) stays) (ap writerOf stays)
+      same-write (held-cut (λ x. x .writes) (λ n x. refl) s p t c xs) (ap (λ (v : Option Burst). ended v (s .tWTR)) stays) (ap writerOf stays)
 
   -- a bank that becomes idle, or not, keeps its ACTIVE and its last write
   abbrev idled : ℕ → Bank → Bool → Bank
@@ -159,7 +160,7 @@ module _ (s : Settings) (p : Part) (from₀ t : ℕ) (l : from₀ ≤ t) (g : So
 
   bank-stays : (c : Command) → is WRITE c ≡ false → (e i : ℕ) (v : Bool) →
       let k = idled e (p .banks i) v in
-      bankHeld s k (find (λ x. x .writes && (eqb i (x .bank) && ever (k .lastActive) (λ a. leb a (x .k)))) (map (cutBy t c) xs)) ≡ bankHeld s k (lastBankWrite p i)
+      bankHeld s k (find (λ x. x .writes && (eqb i (x .bank) && ever (k .lastActive) (λ a. leb a (x .k)))) (map (cutBy s p t c) xs)) ≡ bankHeld s k (lastBankWrite p i)
   bank-stays c w e i v =
       let k = idled e (p .banks i) v in
       ap (bankHeld s k) (written-stays c w i (k .lastActive) (keeps-active e (p .banks i) v))
@@ -210,8 +211,8 @@ module _ (s : Settings) (p : Part) (from₀ t : ℕ) (l : from₀ ≤ t) (g : So
       entries : after c ≡ banked (autoBanks ten (over + s .tRP) b (X .banks)) (given ten)
       entries =
           same bank
-          (same-read refl (rw (held-cut reads (λ n x. refl) t c xs) (held-new ten over (X .read .reads) (omega (arith, q)))) refl)
-          (same-write (rw (held-cut (λ x. x .writes) (λ n x. refl) t c xs, leb·zero (X .write .writes))) (rw (writes-stay c refl)) (rw (writes-stay c refl)))
+          (same-read refl (rw (held-cut reads (λ n x. refl) s p t c xs) (held-new ten over (X .read .reads) (omega (arith, q)))) refl)
+          (same-write (rw (held-cut (λ x. x .writes) (λ n x. refl) s p t c xs, leb·zero (X .write .writes))) (rw (writes-stay c refl)) (rw (writes-stay c refl)))
           refl refl
 
   -- ---- WRITE: every write's data now ends by t + 1; only the last one's could end later
@@ -219,14 +220,13 @@ module _ (s : Settings) (p : Part) (from₀ t : ℕ) (l : from₀ ≤ t) (g : So
   abbrev isWrite : Burst → Bool
   isWrite x = x .writes
 
-  reads-stay : (c : Command) → ((x : Burst) → x .writes ≡ false → cuts c x ≡ false) → find reads (map (cutBy t c) xs) ≡ find reads xs
-  reads-stay c e = find-same reads (cutBy t c) (blind reads (λ n x. refl) t c) (λ x h. uncut t c x (e x (not-true (x .writes) h))) xs
+  reads-stay : (c : Command) → ((x : Burst) → x .writes ≡ false → cuts p c x ≡ false) → find reads (map (cutBy s p t c) xs) ≡ find reads xs
+  reads-stay c e = find-same reads (cutBy s p t c) (λ x. refl) (λ x h. uncut s p t c x (e x (not-true (x .writes) h))) xs
 
   write-end : (b a : ℕ) (ten : Bool) (x : Burst) → Given from₀ x → Over t isWrite x → x .writes ≡ true →
-      dataEnd (cutBy t (does WRITE b a ten) x) ≡ lesser (dataEnd x) (t + 1)
+      dataEnd (cutBy s p t (does WRITE b a ten) x) ≡ lesser (dataEnd x) (t + 1)
   write-end b a ten x gx ox w =
-      rw (blind (λ y. y .k) (λ n y. refl) t (does WRITE b a ten) x)
-      (cut-until from₀ t l (does WRITE b a ten) x gx (ox .by w) 1 (rw w))
+      cut-until s p from₀ t l (does WRITE b a ten) x gx (ox .by w) 1 (rw w)
 
   -- a bank's last write that is not the last of all has ended
   ended-other : {ys : List Burst} → Late from₀ ys → (i : ℕ) (x : Burst) → find (bankWrite p i) ys ≡ some x →
@@ -257,20 +257,20 @@ module _ (s : Settings) (p : Part) (from₀ t : ℕ) (l : from₀ ≤ t) (g : So
 
   -- the entry of bank i that is not written now
   cut-written : (b a : ℕ) (ten : Bool) → X .write .writes ≤ t → (i : ℕ) (o : Option Burst) → find (bankWrite p i) xs ≡ o →
-      ended (Option·map (cutBy t (does WRITE b a ten)) o) (s .tWR) ≡
+      ended (Option·map (cutBy s p t (does WRITE b a ten)) o) (s .tWR) ≡
       cond (eqb i (X .write .writer % 4)) (lesser (X .banks i .written) (t + 1 + 0 + s .tWR)) (X .banks i .written)
   cut-written b a ten q i o e = rw writer-small (go (eqb i (X .write .writer)) refl o e)
     where
       c : Command
       c = does WRITE b a ten
 
-      is-written : (x : Burst) → find (bankWrite p i) xs ≡ some x → dataEnd (cutBy t c x) ≡ lesser (dataEnd x) (t + 1)
+      is-written : (x : Burst) → find (bankWrite p i) xs ≡ some x → dataEnd (cutBy s p t c x) ≡ lesser (dataEnd x) (t + 1)
       is-written x f =
           write-end b a ten x (find-all (bankWrite p i) (g .bursts) f) (find-all (bankWrite p i) (held-over isWrite t xs q) f)
           (first-of (x .writes) _ (find-holds (bankWrite p i) xs f))
 
       go : (v : Bool) → eqb i (X .write .writer) ≡ v → (o : Option Burst) → find (bankWrite p i) xs ≡ o →
-          ended (Option·map (cutBy t c) o) (s .tWR) ≡ cond v (lesser (X .banks i .written) (t + 1 + 0 + s .tWR)) (X .banks i .written)
+          ended (Option·map (cutBy s p t c) o) (s .tWR) ≡ cond v (lesser (X .banks i .written) (t + 1 + 0 + s .tWR)) (X .banks i .written)
       go true f none h =
           sym (ap (λ (u : Option Burst). lesser (ended u (s .tWR)) (t + 1 + 0 + s .tWR)) h ∙ lesser-low 0 (t + 1 + 0 + s .tWR) (omega arith))
       go true f (some x) h =
@@ -319,22 +319,22 @@ module _ (s : Settings) (p : Part) (from₀ t : ℕ) (l : from₀ ≤ t) (g : So
           ∙ auto-laid (given true) (new + s .tRP) b m)
       stored false = sym new-stored
 
-      reads-whole : find reads (map (cutBy t c) xs) ≡ find reads xs
+      reads-whole : find reads (map (cutBy s p t c) xs) ≡ find reads xs
       reads-whole = reads-stay c (λ x f. rw f)
 
       -- the last write to bank i since its ACTIVE, which is u
       last : ℕ → Option ℕ → Bool → Option Burst
       last i u v =
           cond (v && ever u (λ r. leb r t)) (some (burstGiven s p t c))
-          (find (λ x. x .writes && (eqb i (x .bank) && ever u (λ r. leb r (x .k)))) (map (cutBy t c) xs))
+          (find (λ x. x .writes && (eqb i (x .bank) && ever u (λ r. leb r (x .k)))) (map (cutBy s p t c) xs))
 
       written : (i : ℕ) (u : Option ℕ) → u ≡ p .banks i .lastActive → (v : Bool) →
           ended (last i u v) (s .tWR) ≡
           cond v new (cond (eqb i (X .write .writer % 4)) (lesser (X .banks i .written) (t + 1 + 0 + s .tWR)) (X .banks i .written))
       written i u e true = rw (e, open-by i (p .banks i .lastActive) (g .banks i))
       written i u e false =
-          ap (λ (r : Option ℕ). ended (find (λ x. x .writes && (eqb i (x .bank) && ever r (λ n. leb n (x .k)))) (map (cutBy t c) xs)) (s .tWR)) e
-          ∙ ap (λ (r : Option Burst). ended r (s .tWR)) (find-map (bankWrite p i) (cutBy t c) (blind (bankWrite p i) (λ n x. refl) t c) xs)
+          ap (λ (r : Option ℕ). ended (find (λ x. x .writes && (eqb i (x .bank) && ever r (λ n. leb n (x .k)))) (map (cutBy s p t c) xs)) (s .tWR)) e
+          ∙ ap (λ (r : Option Burst). ended r (s .tWR)) (find-map (bankWrite p i) (cutBy s p t c) (λ x. refl) xs)
           ∙ cut-written b a ten q i (find (bankWrite p i) xs) refl
 
       bank : (i : ℕ) → after c .banks i ≡ autoBanks ten (new + s .tRP) b W i
@@ -349,8 +349,8 @@ module _ (s : Settings) (p : Part) (from₀ t : ℕ) (l : from₀ ≤ t) (g : So
       entries : after c ≡ banked (autoBanks ten (new + s .tRP) b W) (given ten)
       entries =
           same bank
-          (same-read (rw reads-whole) (rw (held-cut reads (λ n x. refl) t c xs, leb·zero (X .read .reads))) (rw reads-whole))
-          (same-write (rw (held-cut isWrite (λ n x. refl) t c xs) (held-new ten (t + h (p .mode)) (X .write .writes) (omega (arith, q)))) refl refl)
+          (same-read (rw reads-whole) (rw (held-cut reads (λ n x. refl) s p t c xs, leb·zero (X .read .reads))) (rw reads-whole))
+          (same-write (rw (held-cut isWrite (λ n x. refl) s p t c xs) (held-new ten (t + h (p .mode)) (X .write .writes) (omega (arith, q)))) refl refl)
           refl refl
 
   -- ---- cuts of reads
@@ -359,29 +359,28 @@ module _ (s : Settings) (p : Part) (from₀ t : ℕ) (l : from₀ ≤ t) (g : So
   read-given x f = find-all reads (g .bursts) f
 
   -- the bus is free of a read that c cuts
-  cut-clear : (c : Command) (x : Burst) → find reads xs ≡ some x → Latency from₀ (p .mode) (some x) → cuts c x ≡ true →
+  cut-clear : (c : Command) (x : Burst) → find reads xs ≡ some x → Latency from₀ (p .mode) (some x) → cuts p c x ≡ true →
       (x .auto ≡ true → x .k + h (x .mode) ≤ t) →
-      cleared (some (cutBy t c x)) ≡ lesser (cleared (some x)) (t + CL (p .mode))
+      cleared (some (cutBy s p t c x)) ≡ lesser (cleared (some x)) (t + CL (p .mode))
   cut-clear c x f y u over =
-      rw (blind (λ z. z .k) (λ n z. refl) t c x, blind (λ z. z .mode) (λ n z. refl) t c x)
-      (cut-until from₀ t l c x (read-given x f) over (CL (x .mode)) u ∙ same-latency from₀ t (p .mode) l x y)
+      cut-until s p from₀ t l c x (read-given x f) over (CL (x .mode)) u ∙ same-latency from₀ t (p .mode) l x y
 
-  found-cut : (c : Command) → find reads (map (cutBy t c) xs) ≡ Option·map (cutBy t c) (find reads xs)
-  found-cut c = find-map reads (cutBy t c) (blind reads (λ n x. refl) t c) xs
+  found-cut : (c : Command) → find reads (map (cutBy s p t c) xs) ≡ Option·map (cutBy s p t c) (find reads xs)
+  found-cut c = find-map reads (cutBy s p t c) (λ x. refl) xs
 
-  same-reads : (c : Command) → readerOf (find reads (map (cutBy t c) xs)) ≡ X .read .reader
-  same-reads c = ap readerOf (found-cut c) ∙ same-reader t c (find reads xs)
+  same-reads : (c : Command) → readerOf (find reads (map (cutBy s p t c) xs)) ≡ X .read .reader
+  same-reads c = ap readerOf (found-cut c) ∙ same-reader s p t c (find reads xs)
 
   -- BURST TERMINATE cuts the last read, unless it has auto precharge and so is over
   bus-ends : (b a : ℕ) (ten : Bool) → X .read .reads ≤ t →
-      cleared (find reads (map (cutBy t (does BURST-TERMINATE b a ten)) xs)) ≡ lesser (X .read .bus) (t + CL (p .mode))
+      cleared (find reads (map (cutBy s p t (does BURST-TERMINATE b a ten)) xs)) ≡ lesser (X .read .bus) (t + CL (p .mode))
   bus-ends b a ten q = ap cleared (found-cut c) ∙ go (find reads xs) refl (g .latency)
     where
       c : Command
       c = does BURST-TERMINATE b a ten
 
       go : (o : Option Burst) → find reads xs ≡ o → Latency from₀ (p .mode) o →
-          cleared (Option·map (cutBy t c) o) ≡ lesser (cleared o) (t + CL (p .mode))
+          cleared (Option·map (cutBy s p t c) o) ≡ lesser (cleared o) (t + CL (p .mode))
       go none f y = sym (lesser-low 0 (t + CL (p .mode)) (omega arith))
       go (some x) f y =
           cut-clear c x f y (rw (not-true (x .writes) (find-holds reads xs f)))
@@ -398,35 +397,47 @@ module _ (s : Settings) (p : Part) (from₀ t : ℕ) (l : from₀ ≤ t) (g : So
       bank i = ap (bankHeld s (p .banks i)) (written-stays c refl i _ refl)
 
       entries : after c ≡ readGiven (record { bus = lesser (X .read .bus) (t + CL (p .mode)); reads = X .read .reads; reader = X .read .reader }) X
-      entries = same bank (same-read (bus-ends b a ten q) (held-cut reads (λ n x. refl) t c xs) (same-reads c)) (writes-left c refl) refl refl
+      entries = same bank (same-read (bus-ends b a ten q) (held-cut reads (λ n x. refl) s p t c xs) (same-reads c)) (writes-left c refl) refl refl
 
-  -- PRECHARGE cuts the last read if the reader, which is 4 for auto precharge, is a bank that it names
+  -- PRECHARGE cuts the last read if the reader, which is 4 for auto precharge, is a bank that it names; where that is idle
+  -- there is nothing left to cut
   bus-closes : (b a : ℕ) (ten : Bool) (named : ℕ → Bool) → named 4 ≡ false →
       ((x : Burst) → find reads xs ≡ some x → (ten || eqb (x .bank) b) ≡ named (x .bank)) →
-      cleared (find reads (map (cutBy t (does PRECHARGE b a ten)) xs)) ≡ cond (named (X .read .reader)) (lesser (X .read .bus) (t + CL (p .mode))) (X .read .bus)
+      cleared (find reads (map (cutBy s p t (does PRECHARGE b a ten)) xs)) ≡ cond (named (X .read .reader)) (lesser (X .read .bus) (t + CL (p .mode))) (X .read .bus)
   bus-closes b a ten named four e = ap cleared (found-cut c) ∙ go (find reads xs) refl (g .latency)
     where
       c : Command
       c = does PRECHARGE b a ten
 
-      cutting : (x : Burst) → find reads xs ≡ some x → cuts c x ≡ named (x .bank)
-      cutting x f = rw (not-true (x .writes) (find-holds reads xs f)) (e x f)
+      cutting : (x : Burst) → find reads xs ≡ some x → cuts p c x ≡ (p .banks (x .bank) .opened && named (x .bank))
+      cutting x f = rw (not-true (x .writes) (find-holds reads xs f)) (ap (λ (v : Bool). p .banks (x .bank) .opened && v) (e x f))
 
-      by : (x : Burst) → find reads xs ≡ some x → Latency from₀ (p .mode) (some x) → (w : Bool) → x .auto ≡ w → (v : Bool) → named (x .bank) ≡ v →
-          cleared (some (cutBy t c x)) ≡ cond (named (cond w 4 (x .bank))) (lesser (cleared (some x)) (t + CL (p .mode))) (cleared (some x))
-      by x f y true z v u = rw four (ap (λ (r : Burst). cleared (some r)) (auto-uncut t c x z))
-      by x f y false z true u =
-          rw u (cut-clear c x f y (cutting x f ∙ u) (λ r. absurd (let k : _≡_ {A = ℕ} 0 1 = cc in omega arith)))
-      by x f y false z false u = rw u (ap (λ (r : Burst). cleared (some r)) (uncut t c x (cutting x f ∙ u)))
+      -- where the bank is idle the read's last pair is past
+      idle : (x : Burst) → find reads xs ≡ some x → Latency from₀ (p .mode) (some x) → x .auto ≡ false → p .banks (x .bank) .opened ≡ false →
+          lesser (cleared (some x)) (t + CL (p .mode)) ≡ cleared (some x)
+      idle x f y z o =
+          let past = find-all reads (all-spent p from₀ t l (g .running)) f .by (not-true (x .writes) (find-holds reads xs f)) z o in
+          sym (same-latency from₀ t (p .mode) l x y) ∙ lesser-low (cleared (some x)) (t + CL (x .mode)) (omega (arith, past))
+
+      by : (x : Burst) → find reads xs ≡ some x → Latency from₀ (p .mode) (some x) → (w : Bool) → x .auto ≡ w →
+          (o : Bool) → p .banks (x .bank) .opened ≡ o → (v : Bool) → named (x .bank) ≡ v →
+          cleared (some (cutBy s p t c x)) ≡ cond (named (cond w 4 (x .bank))) (lesser (cleared (some x)) (t + CL (p .mode))) (cleared (some x))
+      by x f y true z o i v u = rw four (ap (λ (r : Burst). cleared (some r)) (auto-uncut s p t c x z))
+      by x f y false z true i true u =
+          rw u (cut-clear c x f y (cutting x f ∙ rw (i, u)) (λ r. absurd (let k : _≡_ {A = ℕ} 0 1 = cc in omega arith)))
+      by x f y false z false i true u =
+          rw u (ap (λ (r : Burst). cleared (some r)) (uncut s p t c x (cutting x f ∙ rw i)) ∙ sym (idle x f y z i))
+      by x f y false z o i false u =
+          rw u (ap (λ (r : Burst). cleared (some r)) (uncut s p t c x (cutting x f ∙ rw u (and-false (p .banks (x .bank) .opened)))))
 
       nothing-cut : (v : Bool) → 0 ≡ cond v (lesser 0 (t + CL (p .mode))) 0
       nothing-cut true = sym (lesser-low 0 (t + CL (p .mode)) (omega arith))
       nothing-cut false = refl
 
       go : (o : Option Burst) → find reads xs ≡ o → Latency from₀ (p .mode) o →
-          cleared (Option·map (cutBy t c) o) ≡ cond (named (readerOf o)) (lesser (cleared o) (t + CL (p .mode))) (cleared o)
+          cleared (Option·map (cutBy s p t c) o) ≡ cond (named (readerOf o)) (lesser (cleared o) (t + CL (p .mode))) (cleared o)
       go none f y = nothing-cut (named 4)
-      go (some x) f y = by x f y (x .auto) refl (named (x .bank)) refl
+      go (some x) f y = by x f y (x .auto) refl (p .banks (x .bank) .opened) refl (named (x .bank)) refl
 
   -- a bank that a PRECHARGE names, where it is open
   close-bank : (o : Bool) (row : ℕ) (active precharged : Option ℕ) (w : Option Burst) (v : Bool) →
@@ -439,7 +450,7 @@ module _ (s : Settings) (p : Part) (from₀ t : ℕ) (l : from₀ ≤ t) (g : So
 
   closed-is : (b a : ℕ) (ten : Bool) (i : ℕ) (v : Bool) →
       let k = idled t (p .banks i) (p .banks i .opened && v) in
-      let found = find (λ x. x .writes && (eqb i (x .bank) && ever (k .lastActive) (λ r. leb r (x .k)))) (map (cutBy t (does PRECHARGE b a ten)) xs) in
+      let found = find (λ x. x .writes && (eqb i (x .bank) && ever (k .lastActive) (λ r. leb r (x .k)))) (map (cutBy s p t (does PRECHARGE b a ten)) xs) in
       bankHeld s k found ≡ closed (t + s .tRP) v (X .banks i)
   closed-is b a ten i v =
       let k = p .banks i in
@@ -463,7 +474,7 @@ module _ (s : Settings) (p : Part) (from₀ t : ℕ) (l : from₀ ≤ t) (g : So
           (banked (onBank (closed (t + s .tRP)) b (X .banks)) X)
       entries =
           same (λ i. closed-is b a false i (eqb i b))
-          (same-read (bus-closes b a false (λ i. eqb i b) (ne-eqb 4 b (omega arith)) (λ x f. refl)) (held-cut reads (λ n x. refl) t c xs) (same-reads c))
+          (same-read (bus-closes b a false (λ i. eqb i b) (ne-eqb 4 b (omega arith)) (λ x f. refl)) (held-cut reads (λ n x. refl) s p t c xs) (same-reads c))
           (writes-left c refl) refl refl
 
   pub close-all-next : (b a : ℕ) → laid (after (does PRECHARGE b a true)) ≡ closeAllAfter s (laid X) (paceOf (p .mode)) t
@@ -483,5 +494,5 @@ module _ (s : Settings) (p : Part) (from₀ t : ℕ) (l : from₀ ≤ t) (g : So
           readGiven (record { bus = bus; reads = X .read .reads; reader = X .read .reader }) (banked (λ i. closed (t + s .tRP) true (X .banks i)) X)
       entries =
           same (λ i. closed-is b a true i true)
-          (same-read (bus-closes b a true (λ i. ltb i 4) refl small) (held-cut reads (λ n x. refl) t c xs) (same-reads c))
+          (same-read (bus-closes b a true (λ i. ltb i 4) refl small) (held-cut reads (λ n x. refl) s p t c xs) (same-reads c))
           (writes-left c refl) refl refl

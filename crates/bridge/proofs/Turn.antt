@@ -54,6 +54,9 @@ module _ (s : Settings) (wide : s .rowBits < 32) (p : Part) (from₀ t : ℕ) (l
   abbrev there : {r q : ℕ} {rs : List ℕ} → List·Memᴰ r rs → List·Memᴰ r (q ∷ rs)
   there m = List·Memᴰ.List·Memᴰ·tail m
 
+  third : List·Memᴰ 3 rules
+  third = there (there here)
+
   fourth : List·Memᴰ 4 rules
   fourth = there (there (there here))
 
@@ -101,14 +104,14 @@ module _ (s : Settings) (wide : s .rowBits < 32) (p : Part) (from₀ t : ℕ) (l
   unfolding b a ten
   turn-active e =
       turn 12 (does ACTIVE b a ten) (carries w 12 e) (codes.active s (laid X) (paceOf (p .mode)) t w refl refl e) (active-agrees s p t b a ten small wide)
-      (λ z. active-next s p from₀ t l g b a ten small) refl (λ z. kept-plain s p from₀ t l g (does ACTIVE b a ten) refl refl refl)
+      (λ z. active-next s p from₀ t l g b a ten small) refl (λ z. kept-plain s p from₀ t l g (does ACTIVE b a ten) refl refl)
 
   turn-read : codeOf w ≡ 10 → Turned (commandOf w)
   unfolding b a ten
   turn-read e =
       turn 10 c (carries w 10 e) (codes.read s (laid X) (paceOf (p .mode)) t w refl refl e) (read-agrees s p t b a ten small)
       (λ z. read-next s p from₀ t l g b a ten small (leb-true (X .read .reads) t (sym (held-is reads t (p .bursts)) ∙ kept c z 13 thirteenth)))
-      refl (λ z. kept-read s p from₀ t l g b a ten small)
+      refl (λ z. kept-read s p from₀ t l g b a ten small (kept c z 3 third))
     where
       c : Command
       c = does READ b a ten
@@ -117,10 +120,13 @@ module _ (s : Settings) (wide : s .rowBits < 32) (p : Part) (from₀ t : ℕ) (l
   unfolding b a ten
   turn-write e =
       turn 2 c (carries w 2 e) (codes.write s (laid X) (paceOf (p .mode)) t w refl refl e) (write-agrees s p t b a ten small)
-      (λ z. write-next s p from₀ t l g b a ten small (held z)) refl (λ z. kept-write s p from₀ t l g b a ten small (held z))
+      (λ z. write-next s p from₀ t l g b a ten small (held z)) refl (λ z. kept-write s p from₀ t l g b a ten small (free z) (held z))
     where
       c : Command
       c = does WRITE b a ten
+
+      free : lowestBroken rules s p t c ≡ none → X .read .bus ≤ t
+      free z = leb-true (X .read .bus) t (sym (cleared-is (find reads (p .bursts)) t) ∙ kept c z 12 twelfth)
 
       held : lowestBroken rules s p t c ≡ none → X .write .writes ≤ t
       held z = leb-true (X .write .writes) t (sym (held-is (λ x. x .writes) t (p .bursts)) ∙ kept c z 13 thirteenth)
@@ -133,17 +139,17 @@ module _ (s : Settings) (wide : s .rowBits < 32) (p : Part) (from₀ t : ℕ) (l
       go true f =
           turn 4 (does PRECHARGE b a true) (carries w 4 e ∙ ap (does PRECHARGE b a) f) (codes.close-all s (laid X) (paceOf (p .mode)) t w e f)
           (close-all-agrees s p t b a) (λ z. close-all-next s p from₀ t l g b a) refl
-          (λ z. kept-plain s p from₀ t l g (does PRECHARGE b a true) refl refl refl)
+          (λ z. kept-plain s p from₀ t l g (does PRECHARGE b a true) refl refl)
       go false f =
           turn 4 (does PRECHARGE b a false) (carries w 4 e ∙ ap (does PRECHARGE b a) f) (codes.close s (laid X) (paceOf (p .mode)) t w refl e f)
           (close-agrees s p t b a small) (λ z. close-next s p from₀ t l g b a small) refl
-          (λ z. kept-plain s p from₀ t l g (does PRECHARGE b a false) refl refl refl)
+          (λ z. kept-plain s p from₀ t l g (does PRECHARGE b a false) refl refl)
 
   turn-terminate : codeOf w ≡ 6 → Turned (commandOf w)
   unfolding b a ten
   turn-terminate e =
       turn 6 c (carries w 6 e) (codes.terminate s (laid X) (paceOf (p .mode)) t w e) (terminate-agrees s p t b a ten from₀ l (g .bursts) (g .late))
-      (λ z. terminate-next s p from₀ t l g b a ten (held z)) refl (λ z. kept-plain s p from₀ t l g c refl refl refl)
+      (λ z. terminate-next s p from₀ t l g b a ten (held z)) refl (λ z. kept-plain s p from₀ t l g c refl refl)
     where
       c : Command
       c = does BURST-TERMINATE b a ten
@@ -157,7 +163,7 @@ module _ (s : Settings) (wide : s .rowBits < 32) (p : Part) (from₀ t : ℕ) (l
   unfolding b a ten
   turn-refresh e =
       turn 8 c (carries w 8 e) (codes.refresh s (laid X) (paceOf (p .mode)) t w e) (refresh-agrees s p t b a ten)
-      (λ z. refresh-next s p from₀ t l g b a ten (both-after (kept c z 4 fourth))) refl (λ z. kept-plain s p from₀ t l g c refl refl refl)
+      (λ z. refresh-next s p from₀ t l g b a ten (both-after (kept c z 4 fourth))) refl (λ z. kept-plain s p from₀ t l g c refl refl)
     where
       c : Command
       c = does AUTO-REFRESH b a ten
@@ -180,7 +186,7 @@ module _ (s : Settings) (wide : s .rowBits < 32) (p : Part) (from₀ t : ℕ) (l
   unfolding b a ten
   turn-quiet q e n o =
       turn q c (carries w q e ∙ ap (λ (k : Op). does k b a ten) o) (codes.quiet s (laid X) (paceOf (p .mode)) t w (sym e) n) (quiet s p t b a ten)
-      (λ z. quiet-next s p from₀ t l g b a ten) refl (λ z. kept-plain s p from₀ t l g c refl refl refl)
+      (λ z. quiet-next s p from₀ t l g b a ten) refl (λ z. kept-plain s p from₀ t l g c refl refl)
     where
       c : Command
       c = does NOP b a ten
@@ -189,7 +195,7 @@ module _ (s : Settings) (wide : s .rowBits < 32) (p : Part) (from₀ t : ℕ) (l
   unfolding b a ten
   turn-deselect q e n o =
       turn q c (carries w q e ∙ ap (λ (k : Op). does k b a ten) o) (codes.quiet s (laid X) (paceOf (p .mode)) t w (sym e) n) (deselect s p t b a ten)
-      (λ z. deselect-next s p from₀ t l g b a ten) refl (λ z. kept-plain s p from₀ t l g c refl refl refl)
+      (λ z. deselect-next s p from₀ t l g b a ten) refl (λ z. kept-plain s p from₀ t l g c refl refl)
     where
       c : Command
       c = does DESELECT b a ten
@@ -242,4 +248,4 @@ unfolding startOf
 start-laid s = rw (add-zero (s .GAP), zero-add (s .GAP), zero-add (s .tRAS))
 
 pub start-sound : (s : Settings) → Sound 0 (start s)
-start-sound s = record { bursts = nil; banks = λ b. tt; late = nothing; latency = tt }
+start-sound s = record { bursts = nil; banks = λ b. tt; late = nothing; latency = tt; running = nil }

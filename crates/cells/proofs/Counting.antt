@@ -1,6 +1,7 @@
 -- Counting the cells: what is counted before event i, and the cells of the events from i on.
 use Prim.Native.Nat.{ℕ, _+_, _*_, _≤_, _<_}
 use mathlib.Core.List.{List, _++_, map}
+use mathlib.Core.Option.{none}
 use mathlib.Core.Path.{_≡_, refl, sym, ap, _∙_}
 use native.Mathlib.Nat.{sub-zero}
 use native.Mathlib.Omega.{arith}
@@ -10,15 +11,19 @@ use Rattle.reading.specs.Settings.{Settings, settingsOf}
 use Rattle.reading.specs.Capture.{Event, eventAt}
 use Rattle.reading.specs.Cells.{burstsOf, cellsOf}
 use Rattle.reading.specs.Part.{Part, start, step}
+use Rattle.reading.specs.Verdict.{verdictOf}
+use Rattle.reading.specs.Answers.{notClean}
+use Rattle.judge.specs.Meaning.{eventsIn}
 use Rattle.pins.specs.Pins.{modeAfter}
 use Rattle.beats.specs.Kept as kept
 use Rattle.beats.specs.Kept.{eventsFrom, keptOf}
-use Rattle.beats.proofs.Events.{next-event, no-event, events-rise}
+use Rattle.beats.proofs.Events.{Rises, next-event, no-event, events-rise}
 use Rattle.beats.proofs.Looking.{kept-le}
 use Rattle.beats.proofs.Commands.{mode-is}
 use Rattle.beats.proofs.Storing.{length-cells}
 use Rattle.beats.proofs.Ahead.{eventCells, cellsFrom, cells-ahead}
 use Rattle.cells.specs.Meaning.{Listable, cellsOn}
+use Rattle.cells.proofs.Alone.{all-clean, each-alone}
 
 module _ (settings bytes : List ℕ) (n : ℕ) where
   abbrev s : Settings
@@ -27,11 +32,18 @@ module _ (settings bytes : List ℕ) (n : ℕ) where
   pub fitting : Listable settings bytes n → kept.Fit bytes n
   fitting z = record { few = z .fit .few; long = z .fit .long; events = z .fit .events }
 
-  pub all-ahead : Listable settings bytes n → cellsOn s bytes n ≡ cellsFrom s (start s) (eventsFrom bytes n 0)
+  -- no event breaks a rule
+  abbrev pub Clean : Type 0
+  Clean = notClean (verdictOf s (eventsIn bytes n)) ≡ none
+
+  pub all-ahead : Listable settings bytes n → Clean → cellsOn s bytes n ≡ cellsFrom s (start s) (eventsFrom bytes n 0)
   unfolding cellsOn
-  all-ahead z =
+  all-ahead z k =
       ap (λ (k : ℕ). cellsOf s (burstsOf s (map (eventAt bytes) (count 0 k)))) (sym (sub-zero n))
-      ∙ cells-ahead s (eventsFrom bytes n 0) (events-rise bytes n (fitting z))
+      ∙ cells-ahead s (eventsFrom bytes n 0) rises (each-alone s (z .fit .rows) (eventsFrom bytes n 0) rises (all-clean s bytes n k))
+    where
+      rises : Rises 0 (eventsFrom bytes n 0)
+      rises = events-rise bytes n (fitting z)
 
   -- the cells of event i, and those behind it
   pub next-cells : (p : Part) (i : ℕ) → i < n → cellsFrom s p (eventsFrom bytes n i) ≡
@@ -45,14 +57,14 @@ module _ (settings bytes : List ℕ) (n : ℕ) where
     pub small : cells ≤ 128 * i
     pub counts : length (cellsOn s bytes n) ≡ cells + length (cellsFrom s reached (eventsFrom bytes n i))
 
-  pub begins : Listable settings bytes n → Counted (s .mode) 0 0
-  begins z =
+  pub begins : Listable settings bytes n → Clean → Counted (s .mode) 0 0
+  begins z k =
       record {
         reached = start s;
         moded = refl;
         within = omega arith;
         small = omega arith;
-        counts = ap length (all-ahead z) ∙ omega arith;
+        counts = ap length (all-ahead z k) ∙ omega arith;
       }
 
   pub goes-on : {mode cells i pairs pins next : ℕ} → Counted mode cells i → i < n → pairs ≡ keptOf mode (eventAt bytes i) (eventsFrom bytes n (i + 1)) →

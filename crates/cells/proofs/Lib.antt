@@ -1,5 +1,6 @@
 -- Laws of the burst list: its walks over the events, and the way from a capture's bytes to them.
 pub mod Clean
+pub mod Alone
 pub mod Counting
 pub mod Room
 pub mod Rows

@@ -2,10 +2,9 @@
 -- eight pairs.
 use Prim.Native.Nat.{ℕ, suc, _*_, _-_, _%_, _≤_}
 use mathlib.Core.Bool.{Bool, true, false, cond, _&&_, _||_}
-use mathlib.Core.List.{List, [], _∷_, List·Memᴰ, map}
-use mathlib.Core.Option.{Option, none, some}
+use mathlib.Core.List.{List, [], _∷_, List·Memᴰ}
+use mathlib.Core.Option.{none}
 use mathlib.Core.Path.{_≡_, refl, sym, ap, _∙_}
-use native.Mathlib.Nat.{sub-zero}
 use native.Mathlib.Omega.{arith}
 use borrow.Author.Tests.{leb-true, eqb-true, le-ltb}
 use lib.Dec.{leb, eqb}
@@ -18,16 +17,15 @@ use Rattle.reading.specs.Capture.{Event, eventAt}
 use Rattle.reading.specs.Commands.{MODE-REGISTER-SET, Command, commandOf, is}
 use Rattle.reading.specs.Part.{Part, start, step}
 use Rattle.reading.specs.Rules.{brokenBy}
-use Rattle.reading.specs.Verdict.{Verdict, clean, broken, brokenOr, judgeFrom, verdictOf, judgeBy, verdictBy}
-use Rattle.reading.specs.Answers.{notClean}
+use Rattle.reading.specs.Verdict.{clean, judgeFrom, judgeBy}
 use Rattle.reading.proofs.Meaning.{none-broken}
-use Rattle.judge.specs.Meaning.{eventsIn}
 use Rattle.beats.specs.Kept.{eventsFrom, keptOf}
 use Rattle.beats.proofs.Looking.{kept-half}
 use Rattle.beats.proofs.Storing.{length-count, length-cells}
 use Rattle.beats.proofs.Ahead.{eventCells, cellsFrom}
 use Rattle.cells.specs.Meaning.{Listable, cellsOn, lackingIn}
-use Rattle.cells.proofs.Counting.{all-ahead}
+use Rattle.cells.proofs.Alone.{clean-rest, all-clean}
+use Rattle.cells.proofs.Counting.{Clean, all-ahead}
 
 both : (a b : Bool) → (a && b) ≡ true → (a ≡ true) × (b ≡ true)
 both true b e = (refl, e)
@@ -65,10 +63,6 @@ module _ (s : Settings) (p : Part) (e : Event) (v : modeWord (p .mode) ≡ true)
 
 -- ---- a clean capture
 
-clean-rest : (o : Option ℕ) (i t : ℕ) (x : Verdict) → brokenOr o i t x ≡ clean → (o ≡ none) × (x ≡ clean)
-clean-rest none i t x e = (refl, e)
-clean-rest (some r) i t x e = let z : _≡_ {A = ℕ} 0 1 = cc in absurd (omega arith)
-
 module _ (s : Settings) where
   given-cells : (p : Part) (e : Event) (es : List Event) → length (eventCells s p e es) ≡ 2 * keptOf (p .mode) e es
   given-cells p e es = length-cells _ _ _ _
@@ -87,26 +81,17 @@ module _ (s : Settings) where
         few-cells (step s p e) (suc i) es (mode-valid s p e v (next .0)) (next .1),
       )
 
-is-clean : (x : Verdict) → notClean x ≡ none → x ≡ clean
-is-clean clean e = refl
-is-clean (broken r i t) e = let z : _≡_ {A = ℕ} 0 1 = cc in absurd (omega arith)
-
 module _ (settings bytes : List ℕ) (n : ℕ) (z : Listable settings bytes n) where
-  sixteen-each : notClean (verdictOf (settingsOf settings) (eventsIn bytes n)) ≡ none → length (cellsOn (settingsOf settings) bytes n) ≤ 16 * n
-  unfolding verdictBy
+  sixteen-each : Clean settings bytes n → length (cellsOn (settingsOf settings) bytes n) ≤ 16 * n
   sixteen-each k =
+      let s = settingsOf settings in
       omega (
         arith,
-        ap length (all-ahead settings bytes n z),
-        few-cells (settingsOf settings) (start (settingsOf settings)) 0 (eventsFrom bytes n 0) (z .moded) judged,
+        ap length (all-ahead settings bytes n z k),
+        few-cells s (start s) 0 (eventsFrom bytes n 0) (z .moded) (all-clean s bytes n k),
         length-map (count 0 (n - 0)) (eventAt bytes) ∙ length-count 0 (n - 0),
       )
-    where
-      judged : judgeFrom (settingsOf settings) (start (settingsOf settings)) 0 (eventsFrom bytes n 0) ≡ clean
-      judged =
-          ap (λ (m : ℕ). judgeFrom (settingsOf settings) (start (settingsOf settings)) 0 (map (eventAt bytes) (count 0 m))) (sub-zero n)
-          ∙ is-clean _ k
 
-  pub enough : {room : ℕ} → notClean (verdictOf (settingsOf settings) (eventsIn bytes n)) ≡ none → 16 * n ≤ room →
+  pub enough : {room : ℕ} → Clean settings bytes n → 16 * n ≤ room →
       none ≡ lackingIn room (length (cellsOn (settingsOf settings) bytes n))
   enough {room} k l = sym (rw (le-ltb room (length (cellsOn (settingsOf settings) bytes n)) (omega (arith, sixteen-each k))))

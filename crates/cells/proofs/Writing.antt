@@ -22,7 +22,7 @@ use Rattle.beats.proofs.Looking.{kept-le, kept-none}
 use Rattle.beats.proofs.Storing.{length-cells, no-cells}
 use Rattle.beats.proofs.Ahead.{eventCells, cellsFrom}
 use Rattle.cells.specs.Meaning.{Listable, cellsOn}
-use Rattle.cells.proofs.Counting.{all-ahead, next-cells}
+use Rattle.cells.proofs.Counting.{Clean, all-ahead, next-cells}
 use Rattle.cells.proofs.Rows.{firstsOf, first-at, none-opened, mode-stays, firsts-after, low-after}
 
 module _ (settings bytes : List ℕ) (n : ℕ) (old : List ℕ) where
@@ -41,8 +41,8 @@ module _ (settings bytes : List ℕ) (n : ℕ) (old : List ℕ) where
     pub holds : out ≡ sets old 0 done
     pub total : cellsOn s bytes n ≡ done ++ cellsFrom s reached (eventsFrom bytes n i)
 
-  pub begins : {firsts : List ℕ} → Listable settings bytes n → firsts ≡ firstCells s 0 0 0 0 → Written old firsts (s .mode) 0 0
-  begins z f =
+  pub begins : {firsts : List ℕ} → Listable settings bytes n → Clean settings bytes n → firsts ≡ firstCells s 0 0 0 0 → Written old firsts (s .mode) 0 0
+  begins z k f =
       record {
         reached = start s;
         moded = refl;
@@ -53,7 +53,7 @@ module _ (settings bytes : List ℕ) (n : ℕ) (old : List ℕ) where
         done = [];
         place = refl;
         holds = refl;
-        total = all-ahead settings bytes n z;
+        total = all-ahead settings bytes n z k;
       }
 
   pub size : {out firsts : List ℕ} {mode next i : ℕ} → Written out firsts mode next i → length out ≡ length old

@@ -46,6 +46,7 @@ fn first_broken(s: &Settings, bytes: &[u8], n: u32) -> Found
 // How many cells there are: two for each pair that a burst keeps.
 fn needed(s: &Settings, bytes: &[u8], n: u32) -> u32
     requires { ⌜ Listable (now s) (now bytes) n ⌝ }
+    requires { ⌜ notClean (verdictOf (settingsOf (now s)) (eventsIn (now bytes) n)) ≡ none ⌝ }
     ensures { λ r. ⌜ r ≡ length (cellsOn (settingsOf (now (s .entry))) (now (bytes .entry)) n) ⌝ }
 {
     let mut mode = s[MODE];
@@ -99,6 +100,7 @@ fn step(s: &Settings, bytes: &[u8], n: u32, i: u32, firsts: &[u32; 4], mode: u32
 // Writes the cells from out[0] on, and says how many.
 fn write(s: &Settings, bytes: &[u8], n: u32, out: &mut [u32]) -> u32
     requires { ⌜ Listable (now s) (now bytes) n ⌝ }
+    requires { ⌜ notClean (verdictOf (settingsOf (now s)) (eventsIn (now bytes) n)) ≡ none ⌝ }
     requires { ⌜ length (cellsOn (settingsOf (now s)) (now bytes) n) ≤ length (now out) ⌝ }
     ensures { λ r. ⌜ r ≡ length (cellsOn (settingsOf (now (s .entry))) (now (bytes .entry)) n) ⌝ }
     ensures { λ _. ⌜ now (out .exit) ≡ sets (now (out .entry)) 0 (cellsOn (settingsOf (now (s .entry))) (now (bytes .entry)) n) ⌝ }

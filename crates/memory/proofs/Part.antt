@@ -7,8 +7,8 @@ use lib.Dec.{eqb}
 use borrow.Author.Tests.{eq-eqb}
 use Rattle.reading.specs.Settings.{Settings}
 use Rattle.reading.specs.Commands.{Command, READ, WRITE, MODE-REGISTER-SET, is, among}
-use Rattle.reading.specs.Bursts.{Burst, columnOf, cutBy}
-use Rattle.reading.specs.Part.{Part, burstGiven, partAfter}
+use Rattle.reading.specs.Bursts.{Burst, columnOf}
+use Rattle.reading.specs.Part.{Part, cutBy, burstGiven, partAfter}
 use Rattle.reading.specs.Schedule.{asksWrite, firstCell, cellBank, cellRow, cellColumn}
 use Rattle.reading.proofs.Cuts.{All, nil, cons, auto-uncut}
 use Rattle.memory.specs.Serving.{Serves, Each, cons}
@@ -22,8 +22,8 @@ pub record Serving (s : Settings) (p : Part) (asked : List ℕ) : Type 0 where
   pub bursts : Each (Serves s) (p .bursts) asked
 
 -- a command at t cuts none of the bursts
-abbrev pub Uncut : ℕ → Command → Part → Type 0
-Uncut t c p = map (cutBy t c) (p .bursts) ≡ p .bursts
+abbrev pub Uncut : Settings → ℕ → Command → Part → Type 0
+Uncut s t c p = map (cutBy s p t c) (p .bursts) ≡ p .bursts
 
 -- what a request asks for stands open and on the pins
 pub record Ready (s : Settings) (p : Part) (q address : ℕ) : Type 0 where
@@ -49,12 +49,12 @@ module _ (s : Settings) (p : Part) (asked : List ℕ) (v : Serving s p asked) (t
   mode-stays c m = ap (λ (b : Bool). cond (b && eqb (c .bank) 0) (c .address) (p .mode)) m ∙ v .mode
 
   -- a command that gives no burst
-  pub serving-on : (c : Command) → Uncut t c p → among (READ ∷ WRITE ∷ []) c ≡ false → is MODE-REGISTER-SET c ≡ false →
+  pub serving-on : (c : Command) → Uncut s t c p → among (READ ∷ WRITE ∷ []) c ≡ false → is MODE-REGISTER-SET c ≡ false →
       Serving s (partAfter s p t c) asked
   serving-on c u b m = record { mode = mode-stays c m; bursts = rw (b, u) (v .bursts) }
 
   -- the command of one more request
-  pub serving-more : (q address : ℕ) (auto : Bool) → Uncut t (burstCommand s q address auto) p → Ready s p q address →
+  pub serving-more : (q address : ℕ) (auto : Bool) → Uncut s t (burstCommand s q address auto) p → Ready s p q address →
       Serving s (partAfter s p t (burstCommand s q address auto)) (q ∷ asked)
   serving-more q address auto u e =
       let c = burstCommand s q address auto in
@@ -74,9 +74,9 @@ active-row s p t q = rw (eq-eqb (cellBank s (firstCell q)) (cellBank s (firstCel
 pub record Auto (x : Burst) : Type 0 where
   pub auto : x .auto ≡ true
 
-autos-uncut : (t : ℕ) (c : Command) {xs : List Burst} → All Auto xs → map (cutBy t c) xs ≡ xs
-autos-uncut t c nil = refl
-autos-uncut t c (cons {x} a more) = ap₂ {C = List Burst} (λ y ys. y ∷ ys) (auto-uncut t c x (a .auto)) (autos-uncut t c more)
+autos-uncut : (s : Settings) (p : Part) (t : ℕ) (c : Command) {xs : List Burst} → All Auto xs → map (cutBy s p t c) xs ≡ xs
+autos-uncut s p t c nil = refl
+autos-uncut s p t c (cons {x} a more) = ap₂ {C = List Burst} (λ y ys. y ∷ ys) (auto-uncut s p t c x (a .auto)) (autos-uncut s p t c more)
 
 pub record Done (s : Settings) (p : Part) (asked : List ℕ) : Type 0 where
   pub serving : Serving s p asked
@@ -85,12 +85,12 @@ pub record Done (s : Settings) (p : Part) (asked : List ℕ) : Type 0 where
 module _ (s : Settings) (p : Part) (asked : List ℕ) (v : Done s p asked) (t : ℕ) where
   pub done-on : (c : Command) → among (READ ∷ WRITE ∷ []) c ≡ false → is MODE-REGISTER-SET c ≡ false → Done s (partAfter s p t c) asked
   done-on c b m =
-      let u : Uncut t c p = autos-uncut t c (v .autos) in
+      let u : Uncut s t c p = autos-uncut s p t c (v .autos) in
       record { serving = serving-on s p asked (v .serving) t c u b m; autos = rw (b, u) (v .autos) }
 
   pub done-more : (q address : ℕ) → Ready s p q address → Done s (partAfter s p t (burstCommand s q address true)) (q ∷ asked)
   done-more q address e =
-      let u : Uncut t (burstCommand s q address true) p = autos-uncut t (burstCommand s q address true) (v .autos) in
+      let u : Uncut s t (burstCommand s q address true) p = autos-uncut s p t (burstCommand s q address true) (v .autos) in
       record {
         serving = serving-more s p asked (v .serving) t q address true u e;
         autos = rw (asked-kind s q address true .burst, u) (cons (record { auto = refl }) (v .autos));

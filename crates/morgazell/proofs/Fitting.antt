@@ -14,8 +14,8 @@ use Rattle.reading.specs.Search as search
 use Rattle.reading.specs.Settings.{Settings, settingsOf, settingFits, badSetting}
 use Rattle.reading.specs.Capture.{Event, eventCount, settingWords, eventBytes, eventAt, eventsOf, lengthFits, headerFits, pinBits, eventFits, badEvent}
 use Rattle.reading.specs.Commands.{READ, WRITE, among, commandOf}
-use Rattle.reading.specs.Bursts.{Burst, beatCell, burstCells, cutBy}
-use Rattle.reading.specs.Part.{Part, start, step, run, burstGiven}
+use Rattle.reading.specs.Bursts.{Burst, beatCell, burstCells}
+use Rattle.reading.specs.Part.{Part, start, step, run, cutBy, burstGiven}
 use Rattle.reading.specs.Rules.{rules, placing}
 use Rattle.reading.specs.Verdict as is
 use Rattle.reading.specs.Cells.{burstsOf, cellsOf}
@@ -177,11 +177,11 @@ run-length s p [] = omega arith
 run-length s p (e ∷ es) = omega (arith, run-length s (step s p e) es, go (among (READ ∷ WRITE ∷ []) (commandOf (e .pins))))
   where
     kept : List Burst
-    kept = map (cutBy (e .cycle) (commandOf (e .pins))) (p .bursts)
+    kept = map (cutBy s p (e .cycle) (commandOf (e .pins))) (p .bursts)
 
     go : (b : Bool) → length (cond b (burstGiven s p (e .cycle) (commandOf (e .pins)) ∷ kept) kept) ≤ suc (length (p .bursts))
-    go true = omega (arith, length-map (p .bursts) (cutBy (e .cycle) (commandOf (e .pins))))
-    go false = omega (arith, length-map (p .bursts) (cutBy (e .cycle) (commandOf (e .pins))))
+    go true = omega (arith, length-map (p .bursts) (cutBy s p (e .cycle) (commandOf (e .pins))))
+    go false = omega (arith, length-map (p .bursts) (cutBy s p (e .cycle) (commandOf (e .pins))))
 
 bursts-length : (s : Settings) (es : List Event) → length (burstsOf s es) ≤ length es
 unfolding burstsOf

@@ -74,8 +74,9 @@ module _ (s : Settings) (p : Part) (b a : ℕ) (lb : b < 4) (own : p .banks b .o
 
     burst-sound : (write : Bool) → burstSoonest write (laid X) b ≤ t → Sound (suc t) (partAfter s p t (bursts write))
     unfolding readSoonest writeSoonest
-    burst-sound true k = kept-write s p from t l g b a true lb (le-trans (waited (writeWaits (laid X) b) 3) k)
-    burst-sound false k = kept-read s p from t l g b a true lb
+    burst-sound true k =
+        kept-write s p from t l g b a true lb (le-trans (waited (writeWaits (laid X) b) 2) k) (le-trans (waited (writeWaits (laid X) b) 3) k)
+    burst-sound false k = kept-read s p from t l g b a true lb own
 
     burst-near : Ranged s → Near from (laid X) → (write : Bool) → Near (suc t) (burstAfter write s (laid X) (p .mode) t b)
     burst-near r n true = near-write s r n t l b lb (p .mode)
@@ -121,7 +122,7 @@ module _ {s : Settings} (g : Ranged s) {es : List Event} (r : Reached s es) wher
         let t = placed placing s es refreshPins in
         let c = does AUTO-REFRESH 0 0 false in
         let l = goes-free refresh-goes in
-        sent r refreshPins c refresh-carried refresh-goes refresh-small refl (kept-plain s p free t l (r .sound) c refl refl refl)
+        sent r refreshPins c refresh-carried refresh-goes refresh-small refl (kept-plain s p free t l (r .sound) c refl refl)
         (refresh-next s p free t l (r .sound) 0 0 false (le-trans (waited (refreshWaits d) 0) (goes-soonest refresh-goes)))
         (near-refresh s g (r .near) t l)
 
@@ -156,7 +157,7 @@ module _ {s : Settings} (g : Ranged s) {es : List Event} (r : Reached s es) wher
           let t = placed placing s es (activePins s q) in
           let l = goes-free active-goes in
           sent r (activePins s q) (activeCommand s q) (active-carried s (g .sized) q fits) active-goes (active-small s g q fits) refl
-          (kept-plain s p free t l (r .sound) (activeCommand s q) refl refl refl)
+          (kept-plain s p free t l (r .sound) (activeCommand s q) refl refl)
           (active-next s p free t l (r .sound) bank row (eqb (bit 10 row) 1) lb)
           (near-active s g (r .near) t l bank lb)
 

@@ -1,19 +1,20 @@
 -- Kept pairs: a cut never raises them, and a burst with auto precharge keeps them all.
-use Prim.Native.Nat.{ℕ, _+_, _≤_}
-use mathlib.Core.Bool.{Bool, true, false, cond, not, _&&_, and-false}
+use Prim.Native.Nat.{ℕ, _+_, _-_, _≤_}
+use mathlib.Core.Bool.{Bool, true, false, cond, not, _&&_, _||_, and-false}
 use mathlib.Core.List.{List, [], _∷_, map, reverseAux}
+use mathlib.Core.Option.{Option, none, some}
 use mathlib.Core.Path.{_≡_, refl, sym, ap, _∙_}
 use native.Mathlib.Nat.{le-refl}
 use native.Mathlib.Omega.{arith}
 use lib.Dec.{leb, ltb}
-use borrow.Author.Tests.{leb-false}
+use borrow.Author.Tests.{leb-false, le-leb}
 use Rattle.reading.specs.Search.{lesser}
 use Rattle.reading.specs.Mode.{h}
 use Rattle.reading.specs.Settings.{Settings}
 use Rattle.reading.specs.Capture.{Event}
-use Rattle.reading.specs.Commands.{Command, READ, WRITE, among, commandOf}
-use Rattle.reading.specs.Bursts.{Burst, withPairs, cuts, cutTo, isCut, cutBy}
-use Rattle.reading.specs.Part.{Part, start, burstGiven, step, run}
+use Rattle.reading.specs.Commands.{Command, READ, WRITE, BURST-TERMINATE, PRECHARGE, is, among, names, commandOf}
+use Rattle.reading.specs.Bursts.{Burst, withPairs, wholeEnd}
+use Rattle.reading.specs.Part.{Part, start, openOn, cuts, cutPairs, atMost, cutBy, burstGiven, step, run}
 use Rattle.reading.specs.Cells.{burstsOf}
 
 -- ---- one burst, one event
@@ -25,19 +26,20 @@ lesser-le a b = go (leb a b) refl
     go true e = le-refl a
     go false e = omega (arith, leb-false a b e)
 
-pub cut-lowers : (t : ℕ) (c : Command) (x : Burst) → cutBy t c x .n ≤ x .n
-cut-lowers t c x = go (isCut t c x)
-  where
-    go : (b : Bool) → (cond b (withPairs (cutTo t x) x) x) .n ≤ x .n
-    go true = lesser-le _ _
-    go false = le-refl (x .n)
+module _ (s : Settings) (p : Part) (t : ℕ) (c : Command) (x : Burst) where
+  pub cut-lowers : cutBy s p t c x .n ≤ x .n
+  cut-lowers = go (cutPairs s p t c x)
+    where
+      go : (o : Option ℕ) → atMost o (x .n) ≤ x .n
+      go none = le-refl (x .n)
+      go (some most) = lesser-le (x .n) most
 
-pub auto-uncut : (t : ℕ) (c : Command) (x : Burst) → x .auto ≡ true → cutBy t c x ≡ x
-auto-uncut t c x a = ap (λ (b : Bool). cond b (withPairs (cutTo t x) x) x) (uncut (cuts c x) (x .auto) (ltb t (x .k + h (x .mode))) a)
-  where
-    uncut : (b a l : Bool) → a ≡ true → (b && (not a && l)) ≡ false
-    uncut b true l e = and-false b
-    uncut b false l e = absurd (let z : _≡_ {A = ℕ} 0 1 = cc in omega arith)
+  pub auto-uncut : x .auto ≡ true → cutBy s p t c x ≡ x
+  auto-uncut a = ap (λ (b : Bool). withPairs (atMost (cond b (some (t - x .k)) none) (x .n)) x) (never (cuts p c x) (x .auto) (ltb t (wholeEnd x)) a)
+    where
+      never : (b a l : Bool) → a ≡ true → (b && (not a && l)) ≡ false
+      never b true l e = and-false b
+      never b false l e = absurd (let z : _≡_ {A = ℕ} 0 1 = cc in omega arith)
 
 -- ---- all bursts of a list of events
 
@@ -50,6 +52,11 @@ pub all-map : {A B : Type 0} {P : A → Type 0} {Q : B → Type 0} (f : A → B)
 all-map f g nil = nil
 all-map f g (cons {x} p ps) = cons (g x p) (all-map f g ps)
 
+pub all-map₂ : {A B : Type 0} {P Q : A → Type 0} {R : B → Type 0} (f : A → B) → ((x : A) → P x → Q x → R (f x)) →
+    {xs : List A} → All P xs → All Q xs → All R (map f xs)
+all-map₂ f g nil nil = nil
+all-map₂ f g (cons {x} p ps) (cons q qs) = cons (g x p q) (all-map₂ f g ps qs)
+
 all-onto : {A : Type 0} {P : A → Type 0} {xs ys : List A} → All P xs → All P ys → All P (reverseAux xs ys)
 all-onto nil qs = qs
 all-onto (cons p ps) qs = all-onto ps (cons p qs)
@@ -59,33 +66,26 @@ pub record Whole (x : Burst) : Type 0 where
   pub most : x .n ≤ h (x .mode)
   pub auto : x .auto ≡ true → x .n ≡ h (x .mode)
 
-cut-mode : (t : ℕ) (c : Command) (x : Burst) → (cutBy t c x .mode ≡ x .mode) × (cutBy t c x .auto ≡ x .auto)
-cut-mode t c x = go (isCut t c x)
-  where
-    go : (b : Bool) → ((cond b (withPairs (cutTo t x) x) x) .mode ≡ x .mode) × ((cond b (withPairs (cutTo t x) x) x) .auto ≡ x .auto)
-    go true = (refl, refl)
-    go false = (refl, refl)
-
-cut-whole : (t : ℕ) (c : Command) (x : Burst) → Whole x → Whole (cutBy t c x)
-cut-whole t c x w =
+cut-whole : (s : Settings) (p : Part) (t : ℕ) (c : Command) (x : Burst) → Whole x → Whole (cutBy s p t c x)
+cut-whole s p t c x w =
     record {
-      most = rw (cut-mode t c x .0) (omega (arith, cut-lowers t c x, w .most));
-      auto = λ a.
-          let b : x .auto ≡ true = sym (cut-mode t c x .1) ∙ a in
-          ap (λ (y : Burst). y .n) (auto-uncut t c x b) ∙ w .auto b ∙ ap h (sym (cut-mode t c x .0));
+      most = omega (arith, cut-lowers s p t c x, w .most);
+      auto = λ a. ap (λ (y : Burst). y .n) (auto-uncut s p t c x a) ∙ w .auto a;
     }
 
 run-whole : (s : Settings) (p : Part) (es : List Event) → All Whole (p .bursts) → All Whole (run s p es .bursts)
 run-whole s p [] w = w
-run-whole s p (e ∷ es) w = run-whole s (step s p e) es (go (among (READ ∷ WRITE ∷ []) (commandOf (e .pins))))
+run-whole s p (e ∷ es) w = run-whole s (step s p e) es (go (among (READ ∷ WRITE ∷ []) c))
   where
-    cut : All Whole (map (cutBy (e .cycle) (commandOf (e .pins))) (p .bursts))
-    cut = all-map (cutBy (e .cycle) (commandOf (e .pins))) (cut-whole (e .cycle) (commandOf (e .pins))) w
+    c : Command
+    c = commandOf (e .pins)
+
+    cut : All Whole (map (cutBy s p (e .cycle) c) (p .bursts))
+    cut = all-map (cutBy s p (e .cycle) c) (cut-whole s p (e .cycle) c) w
 
     go : (b : Bool) →
         All Whole
-        (cond b (burstGiven s p (e .cycle) (commandOf (e .pins)) ∷ map (cutBy (e .cycle) (commandOf (e .pins))) (p .bursts))
-        (map (cutBy (e .cycle) (commandOf (e .pins))) (p .bursts)))
+        (cond b (burstGiven s p (e .cycle) c ∷ map (cutBy s p (e .cycle) c) (p .bursts)) (map (cutBy s p (e .cycle) c) (p .bursts)))
     go true = cons (record { most = le-refl (h (p .mode)); auto = λ a. refl }) cut
     go false = cut
 
@@ -93,3 +93,55 @@ run-whole s p (e ∷ es) w = run-whole s (step s p e) es (go (among (READ ∷ WR
 pub bursts-whole : (s : Settings) (es : List Event) → All Whole (burstsOf s es)
 unfolding burstsOf
 bursts-whole s es = all-onto (run-whole s (start s) es nil) nil
+
+-- ---- what a command cuts by itself
+
+-- a part with every bank open
+abbrev pub allOpen : Part → Part
+allOpen p =
+    record {
+      banks = λ b. openOn 0 0 (p .banks b);
+      mode = p .mode;
+      lastRefresh = p .lastRefresh;
+      lastModeSet = p .lastModeSet;
+      clock = p .clock;
+      bursts = p .bursts;
+    }
+
+-- whichever banks are open
+abbrev pub cutAlone : Settings → ℕ → Command → Burst → Burst
+cutAlone s = cutBy s (allOpen (start s))
+
+-- a read that can be cut has nothing left to lose at t if its bank is idle
+pub record Spent (t : ℕ) (p : Part) (x : Burst) : Type 0 where
+  pub by : x .writes ≡ false → x .auto ≡ false → p .banks (x .bank) .opened ≡ false → x .k + x .n ≤ t
+
+module _ (s : Settings) (p : Part) (t : ℕ) (c : Command) where
+  -- so it does not matter whether the bank that a PRECHARGE names is open
+  cut-alone : (x : Burst) → Spent t p x → cutBy s p t c x ≡ cutAlone s t c x
+  cut-alone x z = ap (λ (n : ℕ). withPairs n x) (go (x .writes) refl (x .auto) refl (p .banks (x .bank) .opened) refl)
+    where
+      asks : Bool → Bool → Bool
+      asks w o = cond w (is WRITE c) (among (READ ∷ BURST-TERMINATE ∷ []) c || (is PRECHARGE c && (o && names c (x .bank))))
+
+      done : Bool → Bool → Bool → Bool
+      done w a o = asks w o && (not a && ltb t (wholeEnd x))
+
+      left : Bool → ℕ
+      left b = atMost (cond b (some (t - x .k)) none) (x .n)
+
+      all-left : x .k + x .n ≤ t → (b : Bool) → left b ≡ x .n
+      all-left l true = rw (le-leb (x .n) (t - x .k) (omega arith))
+      all-left l false = refl
+
+      go : (w : Bool) → x .writes ≡ w → (a : Bool) → x .auto ≡ a → (o : Bool) → p .banks (x .bank) .opened ≡ o →
+          left (done w a o) ≡ left (done w a true)
+      go true e a f o g = refl
+      go false e true f o g = ap left (and-false (asks false o) ∙ sym (and-false (asks false true)))
+      go false e false f true g = refl
+      go false e false f false g =
+          let l = z .by e f g in all-left l (done false false false) ∙ sym (all-left l (done false false true))
+
+  pub cuts-alone : {xs : List Burst} → All (Spent t p) xs → map (cutBy s p t c) xs ≡ map (cutAlone s t c) xs
+  cuts-alone nil = refl
+  cuts-alone (cons {x} {xs} z zs) = rw (cut-alone x z, cuts-alone zs)

@@ -1,14 +1,13 @@
--- Bursts: their columns and cells, the pairs they keep, what cuts them.
-use Prim.Native.Nat.{ℕ, _+_, _-_, _*_, _/_, _%_, _^_}
-use mathlib.Core.Bool.{Bool, cond, not, _&&_, _||_}
-use mathlib.Core.List.{List, [], _∷_, map}
-use lib.Dec.{ltb, eqb}
+-- Bursts: their columns and cells, the pairs they keep, when they are over.
+use Prim.Native.Nat.{ℕ, _+_, _*_, _/_, _%_, _^_}
+use mathlib.Core.Bool.{Bool, cond, not}
+use mathlib.Core.List.{List, map}
+use lib.Dec.{eqb}
 use lib.Bits.{bitXor}
-use Rattle.reading.specs.Search.{lesser, count}
+use Rattle.reading.specs.Search.{count}
 use Rattle.reading.specs.Words.{bit}
 use Rattle.reading.specs.Mode.{BL, h, CL, interleaved}
 use Rattle.reading.specs.Settings.{Settings}
-use Rattle.reading.specs.Commands.{Command, READ, WRITE, BURST-TERMINATE, PRECHARGE, is, among, names}
 
 -- A0-A9, cut to the column bits; with 11 column bits, A11 is column bit 10
 abbrev pub columnOf : Settings → ℕ → ℕ
@@ -72,21 +71,3 @@ readEnd x = x .k + CL (x .mode) + x .n
 -- the data of a write have been taken
 abbrev pub dataEnd : Burst → ℕ
 dataEnd x = x .k + 1 + x .n
-
--- ---- what cuts a burst short
-
--- READ and BURST TERMINATE cut a read, so does PRECHARGE of its bank; WRITE cuts a write
-abbrev pub cuts : Command → Burst → Bool
-cuts c x =
-    cond (x .writes) (is WRITE c) (among (READ ∷ BURST-TERMINATE ∷ []) c || (is PRECHARGE c && names c (x .bank)))
-
--- to t - k pairs, or those already kept: the lesser counts
-abbrev pub cutTo : ℕ → Burst → ℕ
-cutTo t x = lesser (x .n) (t - x .k)
-
--- by an event at t < k + h, and never with auto precharge
-abbrev pub isCut : ℕ → Command → Burst → Bool
-isCut t c x = cuts c x && (not (x .auto) && ltb t (wholeEnd x))
-
-abbrev pub cutBy : ℕ → Command → Burst → Burst
-cutBy t c x = cond (isCut t c x) (withPairs (cutTo t x) x) x

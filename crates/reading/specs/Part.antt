@@ -1,16 +1,16 @@
 -- The part, and what each command does to it.
-use Prim.Native.Nat.{ℕ, _+_}
-use mathlib.Core.Bool.{Bool, true, false, cond, _&&_}
+use Prim.Native.Nat.{ℕ, _+_, _-_}
+use mathlib.Core.Bool.{Bool, true, false, cond, not, _&&_, _||_}
 use mathlib.Core.List.{List, [], _∷_, map}
 use mathlib.Core.Option.{Option, none, some}
-use lib.Dec.{leb, eqb}
-use Rattle.reading.specs.Search.{ever, orZero, find, later}
+use lib.Dec.{leb, ltb, eqb}
+use Rattle.reading.specs.Search.{ever, orZero, find, lesser, later}
 use Rattle.reading.specs.Mode.{h}
 use Rattle.reading.specs.Settings.{Settings}
 use Rattle.reading.specs.RefreshClock.{Clock, clockAtStart, clockAfterRefresh}
 use Rattle.reading.specs.Capture.{Event}
-use Rattle.reading.specs.Commands.{Command, ACTIVE, READ, WRITE, PRECHARGE, AUTO-REFRESH, MODE-REGISTER-SET, is, among, names, commandOf}
-use Rattle.reading.specs.Bursts.{Burst, reads, columnOf, cutBy}
+use Rattle.reading.specs.Commands.{Command, ACTIVE, READ, WRITE, BURST-TERMINATE, PRECHARGE, AUTO-REFRESH, MODE-REGISTER-SET, is, among, names, commandOf}
+use Rattle.reading.specs.Bursts.{Burst, reads, columnOf, withPairs, wholeEnd}
 
 -- open or idle, the row it was opened on, its last ACTIVE, its precharge cycle
 pub record Bank : Type 0 where
@@ -51,12 +51,37 @@ abbrev pub autoPrecharge : Settings → ℕ → ℕ → Command → Bank → ℕ
 autoPrecharge s m k c x =
     later (orZero (x .lastActive) + s .tRAS) (cond (is WRITE c) (k + 1 + h m + s .tWR) (k + h m))
 
--- ACTIVE opens its bank; auto precharge makes it idle at once; PRECHARGE makes idle each open bank that it names
+-- a PRECHARGE closes each open bank that it names
+abbrev pub closes : Command → ℕ → Bank → Bool
+closes c b x = is PRECHARGE c && (x .opened && names c b)
+
+-- ACTIVE opens its bank; auto precharge makes it idle at once, PRECHARGE each bank that it closes
 abbrev pub bankAfter : Settings → ℕ → ℕ → Command → ℕ → Bank → Bank
 bankAfter s m t c b x =
     cond (is ACTIVE c && eqb b (c .bank)) (openOn (c .address) t x)
     (cond (among (READ ∷ WRITE ∷ []) c && (eqb b (c .bank) && c .A10)) (idleFrom (autoPrecharge s m t c x) x)
-    (cond (is PRECHARGE c && (x .opened && names c b)) (idleFrom t x) x))
+    (cond (closes c b x) (idleFrom t x) x))
+
+-- ---- what cuts a burst short
+
+-- READ and BURST TERMINATE cut a read, so does a PRECHARGE that closes its bank; WRITE cuts a write
+abbrev pub cuts : Part → Command → Burst → Bool
+cuts p c x =
+    cond (x .writes) (is WRITE c) (among (READ ∷ BURST-TERMINATE ∷ []) c || closes c (x .bank) (p .banks (x .bank)))
+
+-- to how many pairs, if at all: to t - k by an event at t < k + h, and never with auto precharge
+abbrev pub cutPairs : Settings → Part → ℕ → Command → Burst → Option ℕ
+cutPairs s p t c x = cond (cuts p c x && (not (x .auto) && ltb t (wholeEnd x))) (some (t - x .k)) none
+
+-- n, or the most that there may be: the lesser counts
+abbrev pub atMost : Option ℕ → ℕ → ℕ
+atMost none n = n
+atMost (some most) n = lesser n most
+
+abbrev pub cutBy : Settings → Part → ℕ → Command → Burst → Burst
+cutBy s p t c x = withPairs (atMost (cutPairs s p t c x) (x .n)) x
+
+-- ---- the part after an event
 
 -- a burst starts with h pairs, in the mode of now
 abbrev pub burstGiven : Settings → Part → ℕ → Command → Burst
@@ -75,8 +100,8 @@ burstGiven s p t c =
 abbrev pub burstsAfter : Settings → Part → ℕ → Command → List Burst
 burstsAfter s p t c =
     cond (among (READ ∷ WRITE ∷ []) c)
-    (burstGiven s p t c ∷ map (cutBy t c) (p .bursts))
-    (map (cutBy t c) (p .bursts))
+    (burstGiven s p t c ∷ map (cutBy s p t c) (p .bursts))
+    (map (cutBy s p t c) (p .bursts))
 
 abbrev pub partAfter : Settings → Part → ℕ → Command → Part
 partAfter s p t c =

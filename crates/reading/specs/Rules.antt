@@ -9,9 +9,9 @@ use Rattle.reading.specs.Mode.{modeWord}
 use Rattle.reading.specs.Settings.{Settings}
 use Rattle.reading.specs.RefreshClock.{inTime}
 use Rattle.reading.specs.Capture.{Event}
-use Rattle.reading.specs.Commands.{Command, ACTIVE, READ, WRITE, BURST-TERMINATE, PRECHARGE, AUTO-REFRESH, MODE-REGISTER-SET, NOP, DESELECT, is, among, names, commandOf}
+use Rattle.reading.specs.Commands.{Command, ACTIVE, READ, WRITE, BURST-TERMINATE, AUTO-REFRESH, MODE-REGISTER-SET, NOP, DESELECT, is, among, commandOf}
 use Rattle.reading.specs.Bursts.{Burst, reads, wholeEnd, readEnd, dataEnd}
-use Rattle.reading.specs.Part.{Part, lastRead, lastWrite, lastBankWrite}
+use Rattle.reading.specs.Part.{Part, closes, lastRead, lastWrite, lastBankWrite}
 
 abbrev pub Rule : Type 0
 Rule = Settings → Part → ℕ → Command → Bool
@@ -66,9 +66,9 @@ rule7 s p t c = implies (is ACTIVE c) (everyBank (λ b. eqb b (c .bank) || after
 abbrev pub rule8 : Rule
 rule8 s p t c = implies (among (READ ∷ WRITE ∷ []) c) (after (s .tRCD) (p .banks (c .bank) .lastActive) t)
 
--- for each open bank that a PRECHARGE names
+-- for each bank that a PRECHARGE closes
 abbrev pub closing : Part → Command → (ℕ → Bool) → Bool
-closing p c f = implies (is PRECHARGE c) (everyBank (λ b. implies (p .banks b .opened && names c b) (f b)))
+closing p c f = everyBank (λ b. implies (closes c b (p .banks b)) (f b))
 
 -- 9: a row stays open so long
 abbrev pub rule9 : Rule

@@ -12,23 +12,22 @@ enum-known-broken c = search needs
 
 returns : tie.Need-returns
 returns c =
-    let at-first-broken = c .before .before .before in
-    let start = at-first-broken .before .before .before in
-    let a = start .args in
-    not-clean (settingsOf (a .s .now)) (a .bytes .now) (a .n) (a .out .now) (at-first-broken .first-broken .result)
-    (at-first-broken .first-broken .ensures) (c .before .broken .given .1)
+    let judged = c .before .before .before in
+    let a = judged .before .before .before .args in
+    not-clean (settingsOf (a .s .now)) (a .bytes .now) (a .n) (a .out .now) (judged .first-broken .result) (judged .first-broken .ensures)
+    (c .before .broken .given .1)
 
 enum-told : tie.Need-enum-told
 enum-told c = search needs
 
 lacking-requires : tie.Need-lacking-requires
 lacking-requires c κs =
-    let at-first-broken = c .before .before in
-    let start = at-first-broken .before .before .before in
+    let judged = c .before .before in
+    let start = judged .before .before .before in
     let a = start .args in (
       start .pre,
-      none-broken (settingsOf (a .s .now)) (a .bytes .now) (a .n) (a .out .now) (at-first-broken .first-broken .result)
-          (at-first-broken .first-broken .ensures) (c .enum-told .given .1),
+      none-broken (settingsOf (a .s .now)) (a .bytes .now) (a .n) (a .out .now) (judged .first-broken .result) (judged .first-broken .ensures)
+          (c .enum-told .given .1),
     )
 
 enum-known-short : tie.Need-enum-known-short
@@ -36,46 +35,43 @@ enum-known-short c = search needs
 
 returns-2 : tie.Need-returns-2
 returns-2 c =
-    let at-lacking = c .before .before .before in
-    let at-enum-told = at-lacking .before in
-    let at-first-broken = at-enum-told .before .before in
-    let start = at-first-broken .before .before .before in
-    let a = start .args in
-    too-short (settingsOf (a .s .now)) (a .bytes .now) (a .n) (a .out .now) (at-first-broken .first-broken .result)
-    (at-first-broken .first-broken .ensures) (at-enum-told .enum-told .given .1) (at-lacking .lacking .result) (at-lacking .lacking .ensures)
-    (c .before .short .given .1)
+    let asked = c .before .before .before in
+    let told = asked .before in
+    let judged = told .before .before in
+    let a = judged .before .before .before .args in
+    too-short (settingsOf (a .s .now)) (a .bytes .now) (a .n) (a .out .now) (judged .first-broken .result) (judged .first-broken .ensures)
+    (told .enum-told .given .1) (asked .lacking .result) (asked .lacking .ensures) (c .before .short .given .1)
 
 enum-told-2 : tie.Need-enum-told-2
 enum-told-2 c = search needs
 
 write-requires : tie.Need-write-requires
 write-requires c κs =
-    let at-lacking = c .before .before .before in
-    let at-enum-told = at-lacking .before in
-    let at-first-broken = at-enum-told .before .before in
-    let start = at-first-broken .before .before .before in
-    let a = start .args in (
-      start .pre,
-      fits (settingsOf (a .s .now)) (a .bytes .now) (a .n) (a .out .now) (at-first-broken .first-broken .result)
-          (at-first-broken .first-broken .ensures) (at-enum-told .enum-told .given .1) (at-lacking .lacking .result) (at-lacking .lacking .ensures)
-          (c .before .enum-told2 .given .1),
-    )
+    let asked = c .before .before .before in
+    let told = asked .before in
+    let judged = told .before .before in
+    let start = judged .before .before .before in
+    let a = start .args in
+    let s = settingsOf (a .s .now) in
+    let clean = none-broken s (a .bytes .now) (a .n) (a .out .now) (judged .first-broken .result) (judged .first-broken .ensures)
+    (told .enum-told .given .1) in
+    let room = fits s (a .bytes .now) (a .n) (a .out .now) (judged .first-broken .result) (judged .first-broken .ensures)
+    (told .enum-told .given .1) (asked .lacking .result) (asked .lacking .ensures) (c .before .enum-told2 .given .1) in
+    (start .pre, (clean, room))
 
 same-length : tie.Need-same-length
 same-length c = search needs
 
 returns-3 : tie.Need-returns-3
 returns-3 c =
-    let at-write = c .before .before in
-    let at-enum-told2 = at-write .before .before in
-    let at-lacking = at-enum-told2 .before .before in
-    let at-enum-told = at-lacking .before in
-    let at-first-broken = at-enum-told .before .before in
-    let start = at-first-broken .before .before .before in
-    let a = start .args in
-    listed (settingsOf (a .s .now)) (a .bytes .now) (a .n) (a .out .now) (at-first-broken .first-broken .result)
-    (at-first-broken .first-broken .ensures) (at-enum-told .enum-told .given .1) (at-lacking .lacking .result) (at-lacking .lacking .ensures)
-    (at-enum-told2 .enum-told2 .given .1) (at-write .write .ensures .0) (at-write .write .ensures .1)
+    let told-2 = c .before .before .before .before in
+    let asked = told-2 .before .before in
+    let told = asked .before in
+    let judged = told .before .before in
+    let a = judged .before .before .before .args in
+    listed (settingsOf (a .s .now)) (a .bytes .now) (a .n) (a .out .now) (judged .first-broken .result) (judged .first-broken .ensures)
+    (told .enum-told .given .1) (asked .lacking .result) (asked .lacking .ensures) (told-2 .enum-told2 .given .1)
+    (c .before .before .write .ensures .0) (c .before .before .write .ensures .1)
 
 pub list-spec : {M : Type 1} → statement M
 list-spec =

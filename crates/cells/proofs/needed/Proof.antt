@@ -19,45 +19,39 @@ element-copy-out-mode : tie.Need-element-copy-out-mode Inv-events μ-events
 element-copy-out-mode c = omega arith
 
 events-holds : tie.Need-events-holds Inv-events μ-events
-events-holds c = begins (c .before .before .args .s .now) (c .before .before .args .bytes .now) (c .before .before .args .n) (c .before .before .pre)
+events-holds c =
+    let start = c .before .before in
+    begins (start .args .s .now) (start .args .bytes .now) (start .args .n) (start .pre .0) (start .pre .1)
 
 kept-requires : tie.Need-kept-requires Inv-events μ-events
 kept-requires c κs =
     let start = c .before .before .before .before in
-    let a = start .args in
-    (fitting (a .s .now) (a .bytes .now) (a .n) (start .pre), c .events-test .taken)
+    (fitting (start .args .s .now) (start .args .bytes .now) (start .args .n) (start .pre .0), c .events-test .taken)
 
 mul-cells : tie.Need-mul-cells Inv-events μ-events
 mul-cells c =
-    let at-events = c .before .before in
-    let start = at-events .before .before .before in
-    let a = start .args in
-    omega (
-      arith,
-      c .kept .ensures,
-      kept-le (at-events .events .mode) (eventAt (a .bytes .now) (at-events .events .i))
-          (eventsFrom (a .bytes .now) (a .n) (at-events .events .i + 1)),
-    )
+    let a = c .before .before .before .before .before .args in
+    let x = c .before .before .events in
+    omega (arith, c .kept .ensures, kept-le (x .mode) (eventAt (a .bytes .now) (x .i)) (eventsFrom (a .bytes .now) (a .n) (x .i + 1)))
 
 add-cells : tie.Need-add-cells Inv-events μ-events
 add-cells c =
-    let at-events = c .before .before in
-    let start = at-events .before .before .before in
+    let start = c .before .before .before .before .before in
     let a = start .args in
+    let x = c .before .before .events in
     omega (
       arith,
       c .kept .ensures,
-      kept-le (at-events .events .mode) (eventAt (a .bytes .now) (at-events .events .i))
-          (eventsFrom (a .bytes .now) (a .n) (at-events .events .i + 1)),
-      at-events .events .inv .small,
-      start .pre .fit .few,
+      kept-le (x .mode) (eventAt (a .bytes .now) (x .i)) (eventsFrom (a .bytes .now) (a .n) (x .i + 1)),
+      x .inv .small,
+      start .pre .0 .fit .few,
     )
 
 cast-pins-at : tie.Need-cast-pins-at Inv-events μ-events
 cast-pins-at c = omega arith
 
 pins-at-requires : tie.Need-pins-at-requires Inv-events μ-events
-pins-at-requires c κs = omega (arith, c .before .before .before .before .before .pre .fit .long)
+pins-at-requires c κs = omega (arith, c .before .before .before .before .before .pre .0 .fit .long)
 
 mode-after-requires : tie.Need-mode-after-requires Inv-events μ-events
 mode-after-requires c κs = search needs
@@ -70,18 +64,14 @@ events-less c = omega arith
 
 events-again : tie.Need-events-again Inv-events μ-events
 events-again c =
-    let at-kept = c .before .before in
-    let at-events-test = at-kept .before in
-    let at-events = at-events-test .before in
-    let start = at-events .before .before .before in
-    let a = start .args in
-    goes-on (a .s .now) (a .bytes .now) (a .n) (at-events .events .inv) (at-events-test .events-test .taken) (at-kept .kept .ensures)
-    (c .before .pins-at .ensures) (c .mode-after .ensures)
+    let test = c .before .before .before in
+    let a = test .before .before .before .before .args in
+    goes-on (a .s .now) (a .bytes .now) (a .n) (test .before .events .inv) (test .events-test .taken)
+    (c .before .before .kept .ensures) (c .before .pins-at .ensures) (c .mode-after .ensures)
 
 returns : tie.Need-returns Inv-events μ-events
 returns c =
-    let start = c .before .before .before .before in
-    let a = start .args in
+    let a = c .before .before .before .before .args in
     ends (a .s .now) (a .bytes .now) (a .n) (c .before .events .inv) (omega arith)
 
 pub needed-spec : {M : Type 1} → statement M

@@ -24,7 +24,8 @@ element-copy-out-mode c = omega arith
 events-holds : tie.Need-events-holds Inv-events μ-events
 events-holds c =
     let start = c .before .before .before .before in
-    begins (start .args .s .now) (start .args .bytes .now) (start .args .n) (start .args .out .now) (start .pre .0) (c .before .first-cells .ensures)
+    begins (start .args .s .now) (start .args .bytes .now) (start .args .n) (start .args .out .now) (start .pre .0) (start .pre .1 .0)
+    (c .before .first-cells .ensures)
 
 step-requires : tie.Need-step-requires Inv-events μ-events
 step-requires c κs = (c .before .before .before .before .before .before .before .pre .0, c .before .events-test .taken)
@@ -81,7 +82,7 @@ write-burst-requires c κs =
     let is = told (settingsOf (a .s .now)) (a .bytes .now) (a .n) (x .i) (x .firsts) (x .mode) (stepped .step .ensures) (burst .event .given .1) in
     let taken = stepped .before .before .events-test .taken in (
       in-row (a .s .now) (a .bytes .now) (a .n) (a .out .now) (x .inv) taken refl (is .kept) refl (is .row) (is .place) (start .pre .0),
-      room (a .s .now) (a .bytes .now) (a .n) (a .out .now) (x .inv) taken refl (is .kept) (start .pre .1),
+      room (a .s .now) (a .bytes .now) (a .n) (a .out .now) (x .inv) taken refl (is .kept) (start .pre .1 .1),
     )
 
 cast-next : tie.Need-cast-next Inv-events μ-events
@@ -102,7 +103,7 @@ add-next c =
     let taken = stepped .before .before .events-test .taken in
     omega (
       arith,
-      room (a .s .now) (a .bytes .now) (a .n) (a .out .now) (x .inv) taken refl (is .kept) (start .pre .1),
+      room (a .s .now) (a .bytes .now) (a .n) (a .out .now) (x .inv) taken refl (is .kept) (start .pre .1 .1),
       size (a .s .now) (a .bytes .now) (a .n) (a .out .now) (x .inv),
     )
 

@@ -1,8 +1,11 @@
 -- What the commands do: which banks they open and close, what they cut, which cells a burst touches, which pins count.
 use Prim.Native.Nat.{ℕ, _+_}
-use mathlib.Core.List.{List, [], _∷_, _++_}
-use mathlib.Core.Path.{refl}
+use mathlib.Core.List.{List, [], _∷_, _++_, map}
+use mathlib.Core.Path.{_≡_, refl}
 use lib.ListN.{set}
+use Rattle.reading.specs.Settings.{settingsOf}
+use Rattle.reading.specs.Capture.{Event}
+use Rattle.reading.specs.Cells.{burstsOf}
 use Rattle.reading.proofs.Cases.{ACTIVE, READ, WRITE, TERMINATE, PRECHARGE, REFRESH, MODE, NOP, DESELECT, A10, A11, bank, at, usual, four, touches, breaks, saidOf, Line, line, lineUnder, HoldLines}
 
 -- the first cell of bank 1: 8192 x 1024
@@ -54,6 +57,8 @@ precharges =
     -- all: a read of another bank is cut, and by one it is not
     ∷ line (at 0 ACTIVE ∷ at 2 (ACTIVE + bank 1) ∷ at 8 (READ + bank 1) ∷ at 9 (PRECHARGE + A10) ∷ []) (touches 4 (one ∷ (one + 1) ∷ []))
     ∷ line (at 0 ACTIVE ∷ at 2 (ACTIVE + bank 1) ∷ at 8 (READ + bank 1) ∷ at 9 PRECHARGE ∷ []) (touches 4 (four one))
+    -- also where the bank of its pins is idle: each bank by itself
+    ∷ line (at 0 (ACTIVE + bank 1) ∷ at 6 (READ + bank 1) ∷ at 7 (PRECHARGE + A10) ∷ []) (touches 3 (one ∷ (one + 1) ∷ []))
     -- at k + h the read has ended
     ∷ line (at 0 ACTIVE ∷ at 2 (ACTIVE + bank 1) ∷ at 8 (READ + bank 1) ∷ at 10 (PRECHARGE + A10) ∷ []) (touches 4 (four one))
     -- BURST TERMINATE cuts a read of whichever bank
@@ -63,6 +68,36 @@ precharges =
 each-precharge : HoldLines precharges
 unfolding precharges saidOf
 each-precharge = refl
+
+-- the pairs that bursts keep, also behind a broken rule
+abbrev pairs : List Event → List ℕ
+pairs es = map (λ x. x .n) (burstsOf (settingsOf usual) es)
+
+-- a PRECHARGE cuts the read of an open bank, and not that of an idle one, which no clean capture has running
+open-and-idle :
+    map pairs
+    ((at 0 ACTIVE ∷ at 3 READ ∷ at 4 PRECHARGE ∷ [])
+    ∷ (at 0 ACTIVE ∷ at 3 READ ∷ at 4 (PRECHARGE + A10) ∷ [])
+    ∷ (at 3 READ ∷ at 4 PRECHARGE ∷ [])
+    ∷ (at 3 READ ∷ at 4 (PRECHARGE + A10) ∷ [])
+    ∷ (at 0 (ACTIVE + bank 1) ∷ at 3 READ ∷ at 4 (PRECHARGE + A10) ∷ [])
+    ∷ (at 0 ACTIVE ∷ at 3 (READ + bank 1) ∷ at 4 (PRECHARGE + A10) ∷ [])
+    ∷ []) ≡
+    (1 ∷ []) ∷ (1 ∷ []) ∷ (2 ∷ []) ∷ (2 ∷ []) ∷ (2 ∷ []) ∷ (2 ∷ []) ∷ []
+unfolding burstsOf
+open-and-idle = refl
+
+-- a burst with auto precharge is never cut, and what would cut it breaks a rule or finds its bank idle
+never-cut :
+    map pairs
+    ((at 0 ACTIVE ∷ at 3 (READ + A10) ∷ at 4 READ ∷ [])
+    ∷ (at 0 ACTIVE ∷ at 3 (READ + A10) ∷ at 4 TERMINATE ∷ [])
+    ∷ (at 0 ACTIVE ∷ at 3 (READ + A10) ∷ at 4 PRECHARGE ∷ [])
+    ∷ (at 0 ACTIVE ∷ at 3 (WRITE + A10) ∷ at 4 WRITE ∷ [])
+    ∷ []) ≡
+    (2 ∷ 2 ∷ []) ∷ (2 ∷ []) ∷ (2 ∷ []) ∷ (2 ∷ 2 ∷ []) ∷ []
+unfolding burstsOf
+never-cut = refl
 
 cells : List Line
 cells =
