@@ -42,7 +42,7 @@ abbrev pub writerOf : Option Burst → ℕ
 writerOf none = 0
 writerOf (some x) = x .bank
 
--- ---- the deadlines in groups
+-- ---- the deadlines in groups, by the names of their places
 
 -- of a bank
 pub record BankHeld : Type 0 where
