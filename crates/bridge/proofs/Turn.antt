@@ -42,7 +42,7 @@ module _ (s : Settings) (wide : s .rowBits < 32) (p : Part) (from₀ t : ℕ) (l
 
   pub record Turned (c : Command) : Type 0 where
     pub breaks : stepBreaks s (laid (summary s p)) t w ≡ num (lowestBroken rules s p t c)
-    pub brokenOr : lowestBroken rules s p t c ≡ none → Onward c
+    pub onward : lowestBroken rules s p t c ≡ none → Onward c
 
   -- a rule that an unbroken event keeps
   kept : (c : Command) → lowestBroken rules s p t c ≡ none → (r : ℕ) → List·Memᴰ r rules → keepsRule r s p t c ≡ true
@@ -84,7 +84,7 @@ module _ (s : Settings) (wide : s .rowBits < 32) (p : Part) (from₀ t : ℕ) (l
       subst (λ (k : Command). Turned k) (sym e)
       (record {
         breaks = d .breaks ∙ sym agrees;
-        brokenOr = λ z. record { leaves = d .leaves ∙ sym (next z); sets = d .sets ∙ pace; sound = sound z };
+        onward = λ z. record { leaves = d .leaves ∙ sym (next z); sets = d .sets ∙ pace; sound = sound z };
       })
 
   b : ℕ

@@ -40,7 +40,7 @@ module _ (s : Settings) where
     behind p from i [] g r k = tt
     behind p from i (e ∷ es) g r k =
         let rest = clean-rest (brokenBy s p e) i (e .cycle) (judgeFrom s (step s p e) (suc i) es) k in
-        let next = turned-event s wide p from (e .cycle) (r .0) g (e .pins) .brokenOr (rest .0) .sound in (
+        let next = turned-event s wide p from (e .cycle) (r .0) g (e .pins) .onward (rest .0) .sound in (
           same-cuts s p from (e .cycle) (r .0) g (commandOf (e .pins)),
           behind (step s p e) (suc (e .cycle)) (suc i) es next (r .1) (rest .1),
         )

@@ -136,7 +136,7 @@ module _ (settings bytes : List ℕ) (n : ℕ) where
       where
         onwards : brokenBy s (b .reached) (eventAt bytes i) ≡ none → Before (stepAfter s d pace t w) (paceAfter pace w) (i + 1)
         onwards e =
-            let k = turn .brokenOr e in
+            let k = turn .onward e in
             record {
               reached = step s (b .reached) (eventAt bytes i);
               after =

@@ -90,15 +90,15 @@ module _ {ws : List ℕ} (fit : Right ws) {s : List ℕ} (same : s ≡ ws) where
   sized = rw same (ranged ws (settings-fit ws (fit .count) (fit .each)) .sized)
 
   module _ (qs out : List ℕ) where
-    brokenOr : scheduleOutcome ws qs out
+    onward : scheduleOutcome ws qs out
         ≡ leaves (unless 5 (badRequest (settingsOf ws) qs) (whenPlanned (scheduleOf (settingsOf ws) qs) (λ es. fitting out (captureOf ws es)))) out
     unfolding scheduleOutcome
-    brokenOr = rw (fit .count, fit .each)
+    onward = rw (fit .count, fit .each)
 
     pub unserved : {r : Found} {i : ℕ} → placeOf r ≡ badRequest (settingsOf s) qs → r ≡ At i → Ends (scheduleOutcome ws qs out) (Refused 5 i) out
     unserved {r} {i} e k =
         let b : badRequest (settingsOf ws) qs ≡ some i = sym (ap (λ (x : List ℕ). badRequest (settingsOf x) qs) same) ∙ sym e ∙ ap placeOf k in
-        rw (brokenOr, b) (refl, refl)
+        rw (onward, b) (refl, refl)
 
     module _ {r : Found} (e : placeOf r ≡ badRequest (settingsOf s) qs) (k : r ≡ Nothing) where
       pub asked-fine : badRequest (settingsOf ws) qs ≡ none
@@ -115,7 +115,7 @@ module _ {ws : List ℕ} (fit : Right ws) {s : List ℕ} (same : s ≡ ws) where
         pub too-late : {i : ℕ} → t ≡ Late i → Ends (scheduleOutcome ws qs out) (Refused 6 i) out
         too-late {i} m =
             let p : Late i ≡ plannedAs (scheduleOf (settingsOf ws) qs) = sym m ∙ plans ∙ ap (λ (x : List ℕ). plannedAs (scheduleOf (settingsOf x) qs)) same in
-            rw (brokenOr, asked-fine) (go (scheduleOf (settingsOf ws) qs) p)
+            rw (onward, asked-fine) (go (scheduleOf (settingsOf ws) qs) p)
           where
             go : (x : Schedule) → Late i ≡ plannedAs x → Ends (leaves (whenPlanned x (λ es. fitting out (captureOf ws es))) out) (Refused 6 i) out
             go (planned es) p = let z : _≡_ {A = ℕ} 0 1 = cc in absurd (omega arith)
@@ -171,7 +171,7 @@ module _ {ws : List ℕ} (fit : Right ws) {s : List ℕ} (same : s ≡ ws) where
 
           outcome-is : scheduleOutcome ws qs out ≡ leaves (unless 7 (given (size n) (ltb (length out) (size n))) (answered cap)) out
           outcome-is =
-              brokenOr
+              onward
               ∙ (λ i. leaves (unless 5 (asked-fine i) (whenPlanned (made m .is i) (λ es. fitting out (captureOf ws es)))) out)
               ∙ (λ i. leaves (unless 7 (given (long i) (ltb (length out) (long i))) (answered cap)) out)
 
