@@ -1,6 +1,6 @@
 -- Kept pairs: a cut never raises them, and a burst with auto precharge keeps them all.
 use Prim.Native.Nat.{ℕ, _+_, _-_, _≤_}
-use mathlib.Core.Bool.{Bool, true, false, cond, not, _&&_, _||_, and-false}
+use mathlib.Core.Bool.{Bool, true, false, cond, not, _&&_, and-false}
 use mathlib.Core.List.{List, [], _∷_, map, reverseAux}
 use mathlib.Core.Option.{Option, none, some}
 use mathlib.Core.Path.{_≡_, refl, sym, ap, _∙_}
@@ -12,7 +12,7 @@ use Rattle.reading.specs.Search.{lesser}
 use Rattle.reading.specs.Mode.{h}
 use Rattle.reading.specs.Settings.{Settings}
 use Rattle.reading.specs.Capture.{Event}
-use Rattle.reading.specs.Commands.{Command, READ, WRITE, BURST-TERMINATE, PRECHARGE, is, among, names, commandOf}
+use Rattle.reading.specs.Commands.{Command, READ, WRITE, among, commandOf}
 use Rattle.reading.specs.Bursts.{Burst, withPairs, wholeEnd}
 use Rattle.reading.specs.Part.{Part, start, openOn, cuts, cutPairs, atMost, cutBy, burstGiven, step, run}
 use Rattle.reading.specs.Cells.{burstsOf}
@@ -35,11 +35,23 @@ module _ (s : Settings) (p : Part) (t : ℕ) (c : Command) (x : Burst) where
       go (some most) = lesser-le (x .n) most
 
   pub auto-uncut : x .auto ≡ true → cutBy s p t c x ≡ x
-  auto-uncut a = ap (λ (b : Bool). withPairs (atMost (cond b (some (t - x .k)) none) (x .n)) x) (never (cuts p c x) (x .auto) (ltb t (wholeEnd x)) a)
+  auto-uncut a = rw (a, and-false (cuts p c x))
+
+  -- to the pairs that have gone by
+  cut-to : (most : ℕ) → cutPairs s p t c x ≡ some most → most ≡ t - x .k
+  cut-to most = go (cuts p c x && (not (x .auto) && ltb t (wholeEnd x)))
     where
-      never : (b a l : Bool) → a ≡ true → (b && (not a && l)) ≡ false
-      never b true l e = and-false b
-      never b false l e = absurd (let z : _≡_ {A = ℕ} 0 1 = cc in omega arith)
+      go : (b : Bool) → cond b (some (t - x .k)) none ≡ some most → most ≡ t - x .k
+      go true e = cc
+      go false e = let z : _≡_ {A = ℕ} 0 1 = cc in absurd (omega arith)
+
+  -- one that keeps no more loses none
+  spent-uncut : x .k + x .n ≤ t → cutBy s p t c x ≡ x
+  spent-uncut l = ap (λ (n : ℕ). withPairs n x) (go (cutPairs s p t c x) refl)
+    where
+      go : (o : Option ℕ) → cutPairs s p t c x ≡ o → atMost o (x .n) ≡ x .n
+      go none e = refl
+      go (some most) e = rw (le-leb (x .n) most (omega (arith, cut-to most e)))
 
 -- ---- all bursts of a list of events
 
@@ -119,28 +131,15 @@ pub record Spent (t : ℕ) (p : Part) (x : Burst) : Type 0 where
 module _ (s : Settings) (p : Part) (t : ℕ) (c : Command) where
   -- so it does not matter whether the bank that a PRECHARGE names is open
   cut-alone : (x : Burst) → Spent t p x → cutBy s p t c x ≡ cutAlone s t c x
-  cut-alone x z = ap (λ (n : ℕ). withPairs n x) (go (x .writes) refl (x .auto) refl (p .banks (x .bank) .opened) refl)
+  cut-alone x z = go (x .writes) refl (x .auto) refl (p .banks (x .bank) .opened) refl
     where
-      asks : Bool → Bool → Bool
-      asks w o = cond w (is WRITE c) (among (READ ∷ BURST-TERMINATE ∷ []) c || (is PRECHARGE c && (o && names c (x .bank))))
-
-      done : Bool → Bool → Bool → Bool
-      done w a o = asks w o && (not a && ltb t (wholeEnd x))
-
-      left : Bool → ℕ
-      left b = atMost (cond b (some (t - x .k)) none) (x .n)
-
-      all-left : x .k + x .n ≤ t → (b : Bool) → left b ≡ x .n
-      all-left l true = rw (le-leb (x .n) (t - x .k) (omega arith))
-      all-left l false = refl
-
       go : (w : Bool) → x .writes ≡ w → (a : Bool) → x .auto ≡ a → (o : Bool) → p .banks (x .bank) .opened ≡ o →
-          left (done w a o) ≡ left (done w a true)
-      go true e a f o g = refl
-      go false e true f o g = ap left (and-false (asks false o) ∙ sym (and-false (asks false true)))
-      go false e false f true g = refl
+          cutBy s p t c x ≡ cutAlone s t c x
+      go true e a f o g = rw e
+      go false e true f o g = auto-uncut s p t c x f ∙ sym (auto-uncut s (allOpen (start s)) t c x f)
+      go false e false f true g = rw g
       go false e false f false g =
-          let l = z .by e f g in all-left l (done false false false) ∙ sym (all-left l (done false false true))
+          let l = z .by e f g in spent-uncut s p t c x l ∙ sym (spent-uncut s (allOpen (start s)) t c x l)
 
   pub cuts-alone : {xs : List Burst} → All (Spent t p) xs → map (cutBy s p t c) xs ≡ map (cutAlone s t c) xs
   cuts-alone nil = refl
