@@ -1,7 +1,7 @@
--- The deadlines that are kept of a part, forty numbers in a row; which rule a command breaks by them, and what it makes of them.
+-- The deadlines that are kept of a part, forty-three numbers in a row; which rule a command breaks by them, and what it makes of them.
 -- A deadline is the first cycle at which a rule lets a command through; 0 where nothing has happened.
 use Prim.Native.Nat.{ℕ, _+_, _%_, _^_}
-use mathlib.Core.Bool.{Bool, cond, not, _||_}
+use mathlib.Core.Bool.{Bool, cond, not, _&&_, _||_}
 use mathlib.Core.List.{List, [], _∷_}
 use lib.ListN.{getD, set, replicate}
 use lib.Dec.{leb, ltb, eqb}
@@ -36,12 +36,12 @@ WRITTEN = 24
 abbrev pub LOCKED : ℕ
 LOCKED = 28
 
--- rule 4; the last cycle that rule 14 lets through; rule 12; rule 13 for READ and for WRITE; rule 11
+-- rule 4; awake, the first cycle at which rule 14 is broken, and 0 asleep; rule 12; rule 13 for READ and for WRITE; rule 11
 abbrev pub BUSY : ℕ
 BUSY = 32
 
-abbrev pub DUE : ℕ
-DUE = 33
+abbrev pub OVERDUE : ℕ
+OVERDUE = 33
 
 abbrev pub BUS : ℕ
 BUS = 34
@@ -62,6 +62,20 @@ READER = 38
 abbrev pub WRITER : ℕ
 WRITER = 39
 
+-- rule 15, once sleep was left; asleep, the first cycle at which rule 14 is broken, and 0 awake; 1 in self refresh
+abbrev pub WAKE : ℕ
+WAKE = 40
+
+abbrev pub ASLEEP : ℕ
+ASLEEP = 41
+
+abbrev pub SELF : ℕ
+SELF = 42
+
+-- after every cycle
+abbrev pub FAR : ℕ
+FAR = 2 ^ 32
+
 abbrev pub at : List ℕ → ℕ → ℕ
 at d i = getD d i 0
 
@@ -81,16 +95,14 @@ orElse kept rule rest = cond kept rest rule
 
 -- ---- the refresh clock
 
-abbrev pub dueAtStart : Settings → ℕ
-dueAtStart s = s .GAP + 0
-
-abbrev pub dueAfterRefresh : Settings → ℕ → ℕ
-dueAfterRefresh s t = t + s .GAP
+-- it counts from the start, from an AUTO REFRESH, and from the event that leaves self refresh
+abbrev pub overdueFrom : Settings → ℕ → ℕ
+overdueFrom s t = t + 1 + s .GAP + 0
 
 -- nothing has happened: no read that can be cut
 unfoldable pub startOf : Settings → List ℕ
 startOf s =
-    let d₁ = set (replicate 40 0) DUE (dueAtStart s) in
+    let d₁ = set (replicate 43 0) OVERDUE (overdueFrom s 0) in
     let d₂ = set d₁ READER 4 in
     let d₃ = set d₂ LOCKED (s .tRAS + s .tRP) in
     let d₄ = set d₃ (LOCKED + 1) (s .tRAS + s .tRP) in
@@ -140,34 +152,42 @@ soonest (w ∷ v ∷ ws) = later (w .till) (soonest (v ∷ ws))
 
 -- ---- which rule is broken
 
-abbrev pub dueBreaks : List ℕ → ℕ → ℕ
-dueBreaks d t = orElse (leb t (at d DUE)) 14 0
+-- rule 14, of NOP and DESELECT, which wait for nothing
+abbrev pub timely : List ℕ → ℕ → Bool
+timely d t = ltb t (at d OVERDUE) || ltb t (at d ASLEEP)
+
+abbrev pub quietBreaks : List ℕ → ℕ → ℕ
+quietBreaks d t = orElse (timely d t) 14 0
+
+-- rules 14 and 15, of every other command: not asleep, nor before leaving is over
+abbrev pub lastBreaks : List ℕ → ℕ → ℕ
+lastBreaks d t = orElse (timely d t) 14 (orElse (ltb t (at d OVERDUE) && leb (at d WAKE) t) 15 0)
 
 unfoldable pub activeBreaks : Settings → List ℕ → ℕ → ℕ → ℕ → ℕ
 activeBreaks s d t b a =
     orElse (ltb a (2 ^ (s .rowBits % 32))) 1
     (orElse (eqb (at d (OPENED + b)) 0) 3
-    (unmet (activeWaits d b) t (dueBreaks d t)))
+    (unmet (activeWaits d b) t (lastBreaks d t)))
 
 unfoldable pub readBreaks : List ℕ → ℕ → ℕ → ℕ
-readBreaks d t b = orElse (not (eqb (at d (OPENED + b)) 0)) 3 (unmet (readWaits d b) t (dueBreaks d t))
+readBreaks d t b = orElse (not (eqb (at d (OPENED + b)) 0)) 3 (unmet (readWaits d b) t (lastBreaks d t))
 
 unfoldable pub writeBreaks : List ℕ → ℕ → ℕ → ℕ
-writeBreaks d t b = orElse (not (eqb (at d (OPENED + b)) 0)) 3 (unmet (writeWaits d b) t (dueBreaks d t))
+writeBreaks d t b = orElse (not (eqb (at d (OPENED + b)) 0)) 3 (unmet (writeWaits d b) t (lastBreaks d t))
 
 unfoldable pub terminateBreaks : Settings → List ℕ → ℕ → ℕ
 terminateBreaks s d t =
     orElse (leb (at d BUSY) t) 4
     (orElse (leb (at d READS) t) 13
     (orElse (leb (at d END) (t + s .tWTR)) 13
-    (dueBreaks d t)))
+    (lastBreaks d t)))
 
 unfoldable pub closeBreaks : List ℕ → ℕ → ℕ → ℕ
 closeBreaks d t b =
     orElse (leb (at d BUSY) t) 4
     (orElse (leb (at d (CLOSE + b)) t || eqb (at d (OPENED + b)) 0) 9
     (orElse (leb (at d (WRITTEN + b)) t || eqb (at d (OPENED + b)) 0) 10
-    (dueBreaks d t)))
+    (lastBreaks d t)))
 
 -- rules 9 and 10 of the banks that are open
 abbrev pub allHeld : List ℕ → ℕ → Bool
@@ -177,13 +197,31 @@ abbrev pub allWritten : List ℕ → ℕ → Bool
 allWritten d t = everyBank (λ i. leb (at d (WRITTEN + i)) t || eqb (at d (OPENED + i)) 0)
 
 unfoldable pub closeAllBreaks : List ℕ → ℕ → ℕ
-closeAllBreaks d t = orElse (leb (at d BUSY) t) 4 (orElse (allHeld d t) 9 (orElse (allWritten d t) 10 (dueBreaks d t)))
+closeAllBreaks d t = orElse (leb (at d BUSY) t) 4 (orElse (allHeld d t) 9 (orElse (allWritten d t) 10 (lastBreaks d t)))
 
 abbrev pub allIdle : List ℕ → Bool
 allIdle d = everyBank (λ i. eqb (at d (OPENED + i)) 0)
 
 unfoldable pub refreshBreaks : List ℕ → ℕ → ℕ
-refreshBreaks d t = orElse (allIdle d) 3 (unmet (refreshWaits d) t (dueBreaks d t))
+refreshBreaks d t = orElse (allIdle d) 3 (unmet (refreshWaits d) t (lastBreaks d t))
+
+-- NOP and DESELECT with CKE low: awake they enter power-down, asleep they stay
+unfoldable pub enterBreaks : Settings → List ℕ → ℕ → ℕ
+enterBreaks s d t =
+    orElse (leb (at d BUSY) t) 4
+    (orElse (ltb t (at d OVERDUE)) 14
+    (orElse (leb (at d BUS) t) 15
+    (orElse (leb (at d END) (t + s .tWTR)) 15
+    (orElse (leb (at d WAKE) t) 15 0))))
+
+unfoldable pub lowBreaks : Settings → List ℕ → ℕ → ℕ
+lowBreaks s d t = cond (ltb t (at d ASLEEP)) 0 (cond (eqb (at d ASLEEP) 0) (enterBreaks s d t) 14)
+
+-- AUTO REFRESH with CKE low enters self refresh
+unfoldable pub selfBreaks : Settings → List ℕ → ℕ → ℕ
+selfBreaks s d t =
+    let rule = refreshBreaks d t in
+    cond (eqb rule 0) (orElse (leb (at d END) (t + s .tWTR)) 15 0) rule
 
 unfoldable pub modeBreaks : List ℕ → ℕ → ℕ → ℕ → ℕ
 modeBreaks d t b a = orElse (cond (eqb b 0) (modeWord a) (eqb b 2)) 2 (refreshBreaks d t)
@@ -249,7 +287,34 @@ unfoldable pub closeAllAfter : Settings → List ℕ → List ℕ → ℕ → Li
 closeAllAfter s d m t = cutRead (restAll d (t + s .tRP)) m t (ltb (at (restAll d (t + s .tRP)) READER) 4)
 
 unfoldable pub refreshAfter : Settings → List ℕ → ℕ → List ℕ
-refreshAfter s d t = set (set d BUSY (t + s .tRFC)) DUE (dueAfterRefresh s t)
+refreshAfter s d t = set (set d BUSY (t + s .tRFC)) OVERDUE (overdueFrom s t)
 
 unfoldable pub modeSetAfter : Settings → List ℕ → ℕ → List ℕ
 modeSetAfter s d t = set d BUSY (t + s .tMRD)
+
+-- asleep the refresh clock stands where OVERDUE is not looked at
+unfoldable pub enterAfter : List ℕ → List ℕ
+enterAfter d = set (set d ASLEEP (at d OVERDUE)) OVERDUE 0
+
+unfoldable pub lowAfter : List ℕ → ℕ → List ℕ
+lowAfter d t = cond (ltb t (at d ASLEEP)) d (enterAfter d)
+
+unfoldable pub selfAfter : List ℕ → List ℕ
+selfAfter d = set (set (set d ASLEEP FAR) OVERDUE 0) SELF 1
+
+-- NOP and DESELECT with CKE high leave sleep: power-down, and self refresh
+unfoldable pub powerUpAfter : Settings → List ℕ → ℕ → List ℕ
+powerUpAfter s d t =
+    let d₁ = set d OVERDUE (at d ASLEEP) in
+    let d₂ = set d₁ WAKE (t + s .tXP) in
+    set d₂ ASLEEP 0
+
+unfoldable pub wakeAfter : Settings → List ℕ → ℕ → List ℕ
+wakeAfter s d t =
+    let d₁ = set d OVERDUE (overdueFrom s t) in
+    let d₂ = set d₁ WAKE (t + s .tXSR) in
+    let d₃ = set d₂ ASLEEP 0 in
+    set d₃ SELF 0
+
+unfoldable pub quietAfter : Settings → List ℕ → ℕ → List ℕ
+quietAfter s d t = cond (ltb t (at d OVERDUE)) d (cond (eqb (at d SELF) 0) (powerUpAfter s d t) (wakeAfter s d t))

@@ -1,6 +1,6 @@
 -- Pin words by arithmetic; the reading takes them apart bit by bit.
 use Prim.Native.Nat.{ℕ, _/_, _%_}
-use mathlib.Core.Bool.{Bool, cond, _&&_}
+use mathlib.Core.Bool.{Bool, true, false, cond, _&&_}
 use lib.Dec.{eqb}
 
 -- the pins CS#, RAS#, CAS#, WE#, CS# the lowest
@@ -16,6 +16,10 @@ addressOf w = w % 16384
 abbrev pub tenOf : ℕ → Bool
 tenOf w = eqb (w / 1024 % 2) 1
 
+-- CKE
+abbrev pub lowOf : ℕ → Bool
+lowOf w = eqb (w / 1048576 % 2) 1
+
 -- by the number of the command pins
 abbrev pub byCode : {A : Type 0} → ℕ → A → A → A → A → A → A → A → A → A
 byCode q active read write precharge terminate refresh mode quiet =
@@ -26,6 +30,10 @@ byCode q active read write precharge terminate refresh mode quiet =
     (cond (eqb q 6) terminate
     (cond (eqb q 8) refresh
     (cond (eqb q 0) mode quiet))))))
+
+-- NOP and DESELECT: none of the seven
+abbrev pub quietCode : ℕ → Bool
+quietCode q = byCode q false false false false false false false true
 
 -- MODE REGISTER SET with 00 replaces the mode word
 unfoldable pub modeAfter : ℕ → ℕ → ℕ

@@ -1,13 +1,13 @@
 -- The capture: header, settings, events; and what is wrong with one that is refused.
 use Prim.Native.Nat.{ℕ, _+_, _-_, _*_, _^_}
-use mathlib.Core.Bool.{Bool, not, _&&_, _||_}
+use mathlib.Core.Bool.{Bool, cond, not, _&&_, _||_}
 use mathlib.Core.List.{List, map}
 use mathlib.Core.Option.{Option}
 use lib.ListN.{length, drop}
 use lib.Dec.{leb, ltb, eqb}
 use Rattle.reading.specs.Search.{count, lowest}
 use Rattle.reading.specs.Words.{wordAt}
-use Rattle.reading.specs.Settings.{settingsCount}
+use Rattle.reading.specs.Settings.{settingsCount, sleepingCount}
 
 -- an event is a cycle and a pin word
 pub record Event : Type 0 where
@@ -36,9 +36,9 @@ captureSize settings n = eventsStart settings + 8 * n
 abbrev pub mostEvents : ℕ
 mostEvents = 8000
 
--- how many settings a capture holds
+-- how many settings a capture holds: with those of sleep, where it says so
 abbrev pub countIn : List ℕ → ℕ
-countIn capture = settingsCount
+countIn capture = cond (eqb (headerWord capture 1) sleepingCount) sleepingCount settingsCount
 
 unfoldable pub settingWords : List ℕ → List ℕ
 settingWords capture = map (λ i. wordAt capture (settingsStart + 4 * i)) (count 0 (countIn capture))
@@ -73,9 +73,9 @@ headerFits capture =
 abbrev pub lastCycle : ℕ
 lastCycle = 2000000000
 
--- how many of a pin word's bits stand for pins; the others are zero
+-- how many of a pin word's bits stand for pins, CKE among them where there is sleep; the others are zero
 abbrev pub pinBits : List ℕ → ℕ
-pinBits capture = 20
+pinBits capture = cond (eqb (headerWord capture 1) sleepingCount) 21 20
 
 -- the cycle is not too large and above the one before
 abbrev pub cycleFits : List ℕ → ℕ → Bool

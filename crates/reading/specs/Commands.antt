@@ -20,12 +20,13 @@ code MODE-REGISTER-SET = 0b0000
 code NOP = 0b0111
 code DESELECT = 0b1000
 
--- the address is A0-A13
+-- the address is A0-A13; low is CKE low
 pub record Command : Type 0 where
   pub op : Op
   pub bank : ℕ
   pub address : ℕ
   pub A10 : Bool
+  pub low : Bool
 
 abbrev pub opOf : ℕ → Op
 opOf k =
@@ -38,7 +39,7 @@ opOf k =
     (cond (eqb k (code MODE-REGISTER-SET)) MODE-REGISTER-SET
     (cond (eqb k (code NOP)) NOP DESELECT)))))))
 
--- bits 0-13 A0-A13, 14-15 BA0 and BA1, 16 CS#, 17 RAS#, 18 CAS#, 19 WE#
+-- bits 0-13 A0-A13, 14-15 BA0 and BA1, 16 CS#, 17 RAS#, 18 CAS#, 19 WE#, 20 CKE low
 abbrev pub commandOf : ℕ → Command
 commandOf w =
     record {
@@ -46,6 +47,7 @@ commandOf w =
       bank = w / 2 ^ 14 % 4;
       address = w % 2 ^ 14;
       A10 = eqb (bit 10 w) 1;
+      low = eqb (bit 20 w) 1;
     }
 
 abbrev pub is : Op → Command → Bool
@@ -54,6 +56,10 @@ is o c = eqb (code o) (code (c .op))
 abbrev pub among : List Op → Command → Bool
 among [] c = false
 among (o ∷ os) c = is o c || among os c
+
+-- NOP and DESELECT ask for nothing
+abbrev pub quiet : Command → Bool
+quiet c = among (NOP ∷ DESELECT ∷ []) c
 
 -- a PRECHARGE names its bank, with A10 all banks
 abbrev pub names : Command → ℕ → Bool

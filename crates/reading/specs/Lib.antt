@@ -6,6 +6,7 @@ pub mod Settings
 pub mod RefreshClock
 pub mod Capture
 pub mod Commands
+pub mod Sleep
 pub mod Bursts
 pub mod Part
 pub mod Rules

@@ -7,9 +7,10 @@ use lib.Dec.{leb, ltb, eqb}
 use Rattle.reading.specs.Search.{ever, orZero, find, lesser, later}
 use Rattle.reading.specs.Mode.{h}
 use Rattle.reading.specs.Settings.{Settings}
-use Rattle.reading.specs.RefreshClock.{Clock, clockAtStart, clockAfterRefresh}
+use Rattle.reading.specs.RefreshClock.{Clock, clockAtStart, clockAfterRefresh, clockAfterSleep}
 use Rattle.reading.specs.Capture.{Event}
 use Rattle.reading.specs.Commands.{Command, ACTIVE, READ, WRITE, BURST-TERMINATE, PRECHARGE, AUTO-REFRESH, MODE-REGISTER-SET, is, among, names, commandOf}
+use Rattle.reading.specs.Sleep.{Sleep, sleepAtStart, wakes, sleepAfter}
 use Rattle.reading.specs.Bursts.{Burst, reads, columnOf, withPairs, wholeEnd}
 
 -- open or idle, the row it was opened on, its last ACTIVE, its precharge cycle
@@ -19,13 +20,14 @@ pub record Bank : Type 0 where
   pub lastActive : Option ℕ
   pub prechargeCycle : Option ℕ
 
--- the last AUTO REFRESH and MODE REGISTER SET; the refresh clock; all bursts so far, the latest first
+-- the last AUTO REFRESH and MODE REGISTER SET; the refresh clock; sleep; all bursts so far, the latest first
 pub record Part : Type 0 where
   pub banks : ℕ → Bank
   pub mode : ℕ
   pub lastRefresh : Option ℕ
   pub lastModeSet : Option ℕ
   pub clock : Clock
+  pub sleep : Sleep
   pub bursts : List Burst
 
 -- all banks start idle
@@ -37,6 +39,7 @@ start s =
       lastRefresh = none;
       lastModeSet = none;
       clock = clockAtStart;
+      sleep = sleepAtStart;
       bursts = [];
     }
 
@@ -103,14 +106,22 @@ burstsAfter s p t c =
     (burstGiven s p t c ∷ map (cutBy s p t c) (p .bursts))
     (map (cutBy s p t c) (p .bursts))
 
+-- entering self refresh is no AUTO REFRESH
+abbrev pub refreshes : Command → Bool
+refreshes c = not (c .low) && is AUTO-REFRESH c
+
+abbrev pub clockAfter : Settings → ℕ → Command → Sleep → Clock → Clock
+clockAfter s t c x k = cond (wakes x c) (clockAfterSleep s t) (cond (refreshes c) (clockAfterRefresh s t k) k)
+
 abbrev pub partAfter : Settings → Part → ℕ → Command → Part
 partAfter s p t c =
     record {
       banks = λ b. bankAfter s (p .mode) t c b (p .banks b);
       mode = cond (is MODE-REGISTER-SET c && eqb (c .bank) 0) (c .address) (p .mode);
-      lastRefresh = cond (is AUTO-REFRESH c) (some t) (p .lastRefresh);
+      lastRefresh = cond (refreshes c) (some t) (p .lastRefresh);
       lastModeSet = cond (is MODE-REGISTER-SET c) (some t) (p .lastModeSet);
-      clock = cond (is AUTO-REFRESH c) (clockAfterRefresh s t (p .clock)) (p .clock);
+      clock = clockAfter s t c (p .sleep) (p .clock);
+      sleep = sleepAfter t c (p .sleep);
       bursts = burstsAfter s p t c;
     }
 

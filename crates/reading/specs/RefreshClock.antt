@@ -14,5 +14,9 @@ clockAtStart = record { since = 0 }
 abbrev pub clockAfterRefresh : Settings → ℕ → Clock → Clock
 clockAfterRefresh s t c = record { since = t }
 
+-- it counts anew from the event that leaves self refresh
+abbrev pub clockAfterSleep : Settings → ℕ → Clock
+clockAfterSleep s t = record { since = t }
+
 abbrev pub inTime : Settings → Clock → ℕ → Bool
 inTime s c t = leb t (c .since + s .GAP)

@@ -4,12 +4,13 @@ use mathlib.Core.Bool.{Bool, true, cond, not, _&&_, _||_}
 use mathlib.Core.List.{List, [], _∷_, _++_}
 use mathlib.Core.Option.{Option}
 use lib.Dec.{leb, ltb, eqb}
-use Rattle.reading.specs.Search.{implies, ever, every, find}
+use Rattle.reading.specs.Search.{implies, ever, every, find, after}
 use Rattle.reading.specs.Mode.{modeWord}
 use Rattle.reading.specs.Settings.{Settings}
 use Rattle.reading.specs.RefreshClock.{inTime}
 use Rattle.reading.specs.Capture.{Event}
-use Rattle.reading.specs.Commands.{Command, ACTIVE, READ, WRITE, BURST-TERMINATE, AUTO-REFRESH, MODE-REGISTER-SET, NOP, DESELECT, is, among, commandOf}
+use Rattle.reading.specs.Commands.{Command, ACTIVE, READ, WRITE, BURST-TERMINATE, AUTO-REFRESH, MODE-REGISTER-SET, is, among, quiet, commandOf}
+use Rattle.reading.specs.Sleep.{enters, inSelfRefresh, sleepAllows}
 use Rattle.reading.specs.Bursts.{Burst, reads, wholeEnd, readEnd, dataEnd}
 use Rattle.reading.specs.Part.{Part, closes, lastRead, lastWrite, lastBankWrite}
 
@@ -20,11 +21,7 @@ Rule = Settings → Part → ℕ → Command → Bool
 abbrev pub everyBank : (ℕ → Bool) → Bool
 everyBank f = f 0 && (f 1 && (f 2 && f 3))
 
--- at least `wait` cycles after it, where it has happened
-abbrev pub after : ℕ → Option ℕ → ℕ → Bool
-after wait o t = ever o (λ c. leb (c + wait) t)
-
--- the same after the data end of a write
+-- at least `wait` cycles after the data end of a write
 abbrev pub afterData : ℕ → Option Burst → ℕ → Bool
 afterData wait o t = ever o (λ x. leb (dataEnd x + wait) t)
 
@@ -43,10 +40,10 @@ rule3 s p t c =
     (cond (among (READ ∷ WRITE ∷ []) c) (p .banks (c .bank) .opened)
     (implies (among (AUTO-REFRESH ∷ MODE-REGISTER-SET ∷ []) c) (everyBank (λ b. not (p .banks b .opened)))))
 
--- 4: a command waits until the last AUTO REFRESH and the last MODE REGISTER SET are over
+-- 4: a command, and whatever enters sleep, waits until the last AUTO REFRESH and the last MODE REGISTER SET are over
 abbrev pub rule4 : Rule
 rule4 s p t c =
-    implies (not (among (DESELECT ∷ NOP ∷ []) c)) (after (s .tRFC) (p .lastRefresh) t && after (s .tMRD) (p .lastModeSet) t)
+    implies (enters (p .sleep) c || not (quiet c)) (after (s .tRFC) (p .lastRefresh) t && after (s .tMRD) (p .lastModeSet) t)
 
 -- 5: an ACTIVE waits for its bank's precharge to be over, AUTO REFRESH and MODE REGISTER SET for every bank's
 abbrev pub rule5 : Rule
@@ -102,9 +99,17 @@ rule13 s p t c =
     (cond (is WRITE c) (every (λ x. implies (x .writes) (autoOver t x)) (p .bursts))
     (implies (is BURST-TERMINATE c) (every (λ x. not (untouchable t x)) (p .bursts))))
 
--- 14: no event, of whatever kind, comes when an AUTO REFRESH is overdue
+-- 14: no event, of whatever kind, comes when an AUTO REFRESH is overdue; self refresh needs none
 abbrev pub rule14 : Rule
-rule14 s p t c = inTime s (p .clock) t
+rule14 s p t c = implies (not (inSelfRefresh (p .sleep))) (inTime s (p .clock) t)
+
+-- the data of the last read have left the bus, and those of the last write have been taken
+abbrev pub dataOver : Part → ℕ → Bool
+dataOver p t = ever (lastRead p) (λ x. leb (readEnd x) t) && afterData 0 (lastWrite p) t
+
+-- 15: sleep is entered and left as it may be, and nothing else comes before that is over
+abbrev pub rule15 : Rule
+rule15 s p t c = sleepAllows s (p .sleep) (dataOver p t) t c
 
 -- the rule of a number
 abbrev pub keepsRule : ℕ → Rule
@@ -122,14 +127,15 @@ keepsRule r s p t c =
     (cond (eqb r 11) (rule11 s p t c)
     (cond (eqb r 12) (rule12 s p t c)
     (cond (eqb r 13) (rule13 s p t c)
-    (cond (eqb r 14) (rule14 s p t c) true)))))))))))))
+    (cond (eqb r 14) (rule14 s p t c)
+    (cond (eqb r 15) (rule15 s p t c) true))))))))))))))
 
 -- rules 1-13, by which commands are placed; all rules, by which events are judged
 abbrev pub placing : List ℕ
 placing = 1 ∷ 2 ∷ 3 ∷ 4 ∷ 5 ∷ 6 ∷ 7 ∷ 8 ∷ 9 ∷ 10 ∷ 11 ∷ 12 ∷ 13 ∷ []
 
 abbrev pub rules : List ℕ
-rules = placing ++ (14 ∷ [])
+rules = placing ++ (14 ∷ 15 ∷ [])
 
 -- the lowest of some rules, listed by their numbers, that is broken
 abbrev pub lowestBroken : List ℕ → Settings → Part → ℕ → Command → Option ℕ

@@ -1,5 +1,5 @@
 -- Words that every page of document 01 uses: the first, the last, each, at least.
-use Prim.Native.Nat.{ℕ, zero, suc}
+use Prim.Native.Nat.{ℕ, zero, suc, _+_}
 use mathlib.Core.Bool.{Bool, true, cond, _&&_}
 use mathlib.Core.List.{List, [], _∷_}
 use mathlib.Core.Option.{Option, none, some}
@@ -13,6 +13,10 @@ implies a b = cond a b true
 abbrev pub ever : {A : Type 0} → Option A → (A → Bool) → Bool
 ever none f = true
 ever (some a) f = f a
+
+-- at least `wait` cycles after it, where it has happened
+abbrev pub after : ℕ → Option ℕ → ℕ → Bool
+after wait o t = ever o (λ c. leb (c + wait) t)
 
 -- "cycle 0 if none"
 abbrev pub orZero : Option ℕ → ℕ

@@ -8,9 +8,12 @@ use lib.Dec.{leb, eqb}
 use Rattle.reading.specs.Search.{implies, lowest}
 use Rattle.reading.specs.Mode.{modeWord}
 
--- how many there are
+-- how many there are, and how many with those of sleep
 abbrev pub settingsCount : ℕ
 settingsCount = 14
+
+abbrev pub sleepingCount : ℕ
+sleepingCount = 16
 
 pub record Settings : Type 0 where
   pub lane : ℕ
@@ -27,6 +30,8 @@ pub record Settings : Type 0 where
   pub tRFC : ℕ
   pub tMRD : ℕ
   pub GAP : ℕ
+  pub tXP : ℕ
+  pub tXSR : ℕ
 
 -- from a list of words, by their numbers
 abbrev pub settingsOf : List ℕ → Settings
@@ -46,6 +51,8 @@ settingsOf ws =
       tRFC = getD ws 11 0;
       tMRD = getD ws 12 0;
       GAP = getD ws 13 0;
+      tXP = getD ws 14 0;
+      tXSR = getD ws 15 0;
     }
 
 pub record Limits : Type 0 where
@@ -55,12 +62,13 @@ pub record Limits : Type 0 where
 abbrev between : ℕ → ℕ → Limits
 between a b = record { least = a; most = b }
 
--- the table, row by row; rows 4 to 12 are alike
+-- the table, row by row; rows 4 to 12 are alike, and so are those of sleep
 abbrev pub limits : List Limits
 limits =
     between 1 2 ∷ between 12 14 ∷ between 8 11 ∷ between 0 127 ∷ []
     ++ replicate 9 (between 1 10000)
     ++ (between 1 1000000 ∷ [])
+    ++ replicate 2 (between 1 10000)
 
 -- word w may be setting i; row 3 is also valid by rule 2
 unfoldable pub settingFits : ℕ → ℕ → Bool
