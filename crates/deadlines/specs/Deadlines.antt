@@ -97,7 +97,7 @@ orElse kept rule rest = cond kept rest rule
 
 -- it counts from the start, from an AUTO REFRESH, and from the event that leaves self refresh
 abbrev pub overdueFrom : Settings → ℕ → ℕ
-overdueFrom s t = t + 1 + s .GAP + 0
+overdueFrom s t = t + s .GAP + 1
 
 -- nothing has happened: no read that can be cut
 unfoldable pub startOf : Settings → List ℕ

@@ -117,6 +117,7 @@ allOpen p =
       lastRefresh = p .lastRefresh;
       lastModeSet = p .lastModeSet;
       clock = p .clock;
+      sleep = p .sleep;
       bursts = p .bursts;
     }
 

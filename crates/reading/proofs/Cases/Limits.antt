@@ -1,13 +1,18 @@
 -- Every limit of a capture and of a setting, from both sides. A capture of 64,080 bytes is too long to compute, so what its
 -- length and its 8,000 events mean is two laws.
-use Prim.Native.Nat.{ℕ, _+_, _-_}
+use Prim.Native.Nat.{ℕ, _+_, _-_, _*_}
+use mathlib.Core.Bool.{Bool, true, false, cond, not, _&&_}
 use mathlib.Core.List.{List, [], _∷_, _++_, map}
 use mathlib.Core.Option.{Option, none, some}
 use mathlib.Core.Path.{_≡_, refl}
+use native.Mathlib.Omega.{arith}
 use lib.ListN.{length, set, take}
+use lib.Dec.{leb, eqb}
+use borrow.Author.Tests.{ne-eqb}
+use Rattle.reading.specs.Search.{given}
 use Rattle.reading.specs.Words.{bytesOf}
 use Rattle.reading.specs.Settings.{settingFits, badSetting}
-use Rattle.reading.specs.Capture.{headerWord, eventCount, settingWords, eventBytes, lengthFits, headerFits, pinBits, badEvent}
+use Rattle.reading.specs.Capture.{headerWord, eventCount, captureSize, mostEvents, settingWords, eventBytes, lengthFits, headerFits, pinBits, badEvent}
 use Rattle.reading.specs.Answers.{Answer, refused, unless, accepted}
 use Rattle.reading.proofs.Cases.{NOP, at, usual, refuses, touches, said, Case, case, bytes, Hold}
 
@@ -85,10 +90,30 @@ each-shape = refl
 -- ---- 64,080 bytes and N = 8,000, whatever is asked of the capture
 
 module _ {A : Type 0} (capture : List ℕ) (rest : Answer A) where
-  -- no header saves a longer one
-  too-long : length capture ≡ 64081 → accepted capture rest ≡ refused 1 0
+  -- no header saves a longer one, and none but sixteen settings one of 64,081 to 64,088
+  too-long : length capture ≡ 64089 → accepted capture rest ≡ refused 1 0
   unfolding accepted lengthFits
-  too-long l = rw l
+  too-long l = rw l (go (eqb (headerWord capture 1) 16) _)
+    where
+      go : (b : Bool) (x : Answer A) →
+          unless 1
+          (given 0 (not (leb (captureSize (cond b 16 14) 0) 64089 && leb 64089 (captureSize (cond b 16 14) mostEvents) && eqb (headerWord capture 0) 64089)))
+          x ≡ refused 1 0
+      go true x = refl
+      go false x = refl
+
+  -- lengths of fourteen settings for every count but sixteen
+  longer : eqb (headerWord capture 1) 16 ≡ false → length capture ≡ 64084 → accepted capture rest ≡ refused 1 0
+  unfolding accepted lengthFits
+  longer c l = rw (c, l)
+
+  sixteen-longer : headerWord capture 1 ≡ 16 → headerWord capture 0 ≡ 64084 → length capture ≡ 64084 → accepted capture rest ≡ refused 2 0
+  unfolding accepted lengthFits headerFits
+  sixteen-longer c total l = rw (c, total, l, ne-eqb 64084 (88 + 8 * eventCount capture) (λ e. omega arith)) (go _ _)
+    where
+      go : (a : Bool) (x : Answer A) → unless 2 (given 0 (not (a && false))) x ≡ refused 2 0
+      go true x = refl
+      go false x = refl
 
   -- of such a one that its header states, only settings and events are left to ask
   longest :

@@ -19,8 +19,11 @@ refusals =
     ∷ bytes (bytesOf (80 ∷ 14 ∷ 24 ∷ 0 ∷ 80 ∷ 0 ∷ []) ++ bytesOf usual) (touches 0 [])
     ∷ bytes (bytesOf (80 ∷ 14 ∷ 24 ∷ 0 ∷ 80 ∷ 0 ∷ []) ++ bytesOf usual ++ (0 ∷ [])) (refuses 1 0)
     ∷ wrong (81 ∷ 14 ∷ 24 ∷ 0 ∷ 80 ∷ 0 ∷ []) 1 0
+    -- with sixteen settings the shortest is longer
+    ∷ wrong (80 ∷ 16 ∷ 24 ∷ 0 ∷ 80 ∷ 0 ∷ []) 1 0
     -- 2: another header word, or the total is not 80 + 8 N, reckoned without wrapping
-    ∷ wrong (80 ∷ 16 ∷ 24 ∷ 0 ∷ 80 ∷ 0 ∷ []) 2 0
+    ∷ wrong (80 ∷ 15 ∷ 24 ∷ 0 ∷ 80 ∷ 0 ∷ []) 2 0
+    ∷ wrong (80 ∷ 17 ∷ 24 ∷ 0 ∷ 80 ∷ 0 ∷ []) 2 0
     ∷ wrong (80 ∷ 14 ∷ 28 ∷ 0 ∷ 80 ∷ 0 ∷ []) 2 0
     ∷ wrong (80 ∷ 14 ∷ 24 ∷ 1 ∷ 80 ∷ 0 ∷ []) 2 0
     ∷ wrong (80 ∷ 14 ∷ 24 ∷ 0x20000000 ∷ 80 ∷ 0 ∷ []) 2 0
