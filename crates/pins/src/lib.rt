@@ -31,7 +31,11 @@ pub fn code(w: u32) -> u32
     w / CODE % 16
 }
 
-// With CKE low on top of them, 16.
+// With CKE low 16 is added.
+pub const REFRESH_LOW: u32 = 24;
+
+pub const NOP_LOW: u32 = 30;
+
 pub fn wide_code(w: u32) -> u32
     ensures { λ r. ⌜ r ≡ wideCodeOf w ⌝ }
 {
