@@ -1,5 +1,6 @@
 -- The pins of a command carry it, and have no bit above the pins.
 use Prim.Native.Nat.{ℕ, _+_, _*_, _/_, _%_, _^_, _<_}
+use mathlib.Core.Bool.{false}
 use mathlib.Core.Path.{_≡_, refl}
 use native.Mathlib.Omega.{arith}
 use lib.Dec.{eqb}
@@ -8,7 +9,7 @@ use Rattle.reading.specs.Words.{bit}
 use Rattle.reading.specs.Commands.{Op, ACTIVE, READ, WRITE, BURST-TERMINATE, PRECHARGE, AUTO-REFRESH, MODE-REGISTER-SET, NOP, DESELECT, Command, code, opOf, commandOf, pinsOf}
 
 abbrev pub command : Op → ℕ → ℕ → Command
-command o bank address = record { op = o; bank = bank; address = address; A10 = eqb (bit 10 address) 1 }
+command o bank address = record { op = o; bank = bank; address = address; A10 = eqb (bit 10 address) 1; low = false }
 
 op-back : (o : Op) → opOf (8 * bit 3 (code o) + 4 * bit 2 (code o) + 2 * bit 1 (code o) + bit 0 (code o)) ≡ o
 op-back ACTIVE = refl
@@ -51,6 +52,9 @@ module _ (k bank address : ℕ) (hb : bank < 4) (ha : address < 2 ^ 14) where
   A10-carried : bit 10 (word k bank address) ≡ bit 10 address
   A10-carried = omega arith
 
+  low-carried : bit 20 (word k bank address) ≡ 0
+  low-carried = omega arith
+
 pub pins-carry : (o : Op) (bank address : ℕ) → bank < 4 → address < 2 ^ 14 → commandOf (pinsOf o bank address) ≡ command o bank address
 pins-carry o bank address hb ha =
     let (c, r, a, w) = code-carried (code o) bank address hb ha in
@@ -61,6 +65,7 @@ pins-carry o bank address hb ha =
       bank = bank-carried (code o) bank address hb ha i;
       address = address-carried (code o) bank address hb ha i;
       A10 = eqb (A10-carried (code o) bank address hb ha i) 1;
+      low = eqb (low-carried (code o) bank address hb ha i) 1;
     }
 
 pub pins-small : (o : Op) (bank address : ℕ) → bank < 4 → address < 2 ^ 14 → pinsOf o bank address < 2 ^ 20

@@ -1,10 +1,12 @@
 -- The command of a pin word, by the four command pins as a number with CS# lowest; the reading writes CS# first.
-use Prim.Native.Nat.{ℕ, _+_, _*_, _/_, _%_}
+use Prim.Native.Nat.{ℕ, _+_, _*_, _/_, _%_, _≤_, _<_}
+use mathlib.Core.Bool.{true, false}
 use mathlib.Core.Path.{_≡_, sym, ap, _∙_}
 use native.Mathlib.Nat.{div-div-eq-div-mul}
 use native.Mathlib.Omega.{arith}
+use borrow.Author.Tests.{eq-eqb, ne-eqb}
 use Rattle.reading.specs.Commands.{opOf, commandOf}
-use Rattle.pins.specs.Pins.{codeOf}
+use Rattle.pins.specs.Pins.{codeOf, wideCodeOf, lowOf}
 
 abbrev pub turned : ℕ → ℕ
 turned q = 8 * (q % 2) + 4 * (q / 2 % 2) + 2 * (q / 4 % 2) + q / 8 % 2
@@ -19,3 +21,15 @@ pub op-is : (w : ℕ) → commandOf w .op ≡ opOf (turned (codeOf w))
 op-is w =
     let over : (k : ℕ) → w / (65536 * k) ≡ w / 65536 / k = λ k. sym (div-div-eq-div-mul w 65536 k) in
     ap opOf ((λ i. 8 * (w / 65536 % 2) + 4 * (over 2 i % 2) + 2 * (over 4 i % 2) + over 8 i % 2) ∙ low-four (w / 65536))
+
+-- ---- the command pins and CKE of the number that has both
+
+module _ (w : ℕ) where
+  wide-is : wideCodeOf w ≡ codeOf w + 16 * (w / 1048576 % 2)
+  wide-is = omega arith
+
+  pub high-is : wideCodeOf w < 16 → (codeOf w ≡ wideCodeOf w) × (lowOf w ≡ false)
+  high-is h = (omega (arith, wide-is), ne-eqb (w / 1048576 % 2) 1 (λ e. omega (arith, wide-is)))
+
+  pub low-is : 16 ≤ wideCodeOf w → (codeOf w + 16 ≡ wideCodeOf w) × (lowOf w ≡ true)
+  low-is h = (omega (arith, wide-is), eq-eqb (w / 1048576 % 2) 1 (omega (arith, wide-is)))

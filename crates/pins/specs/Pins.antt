@@ -16,7 +16,10 @@ addressOf w = w % 16384
 abbrev pub tenOf : ℕ → Bool
 tenOf w = eqb (w / 1024 % 2) 1
 
--- CKE
+-- the command pins and above them CKE low
+abbrev pub wideCodeOf : ℕ → ℕ
+wideCodeOf w = w / 65536 % 32
+
 abbrev pub lowOf : ℕ → Bool
 lowOf w = eqb (w / 1048576 % 2) 1
 

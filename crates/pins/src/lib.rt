@@ -1,9 +1,9 @@
 // Pin words: what the pins of an event ask for, and the pins that ask for a command.
 ghost use mathlib.Core.Path.{_≡_};
 ghost use Prim.Native.Nat.{_<_};
-ghost use Rattle.pins.specs.Pins.{codeOf, bankOf, addressOf, tenOf};
+ghost use Rattle.pins.specs.Pins.{codeOf, wideCodeOf, bankOf, addressOf, tenOf};
 
-// The command pins as a number: CS#, RAS#, CAS#, WE#, CS# the lowest. All others ask for nothing.
+// The command pins as a number: CS#, RAS#, CAS#, WE#, CS# the lowest. The odd ones are DESELECT.
 pub const ACTIVE: u32 = 12;
 
 pub const READ: u32 = 10;
@@ -18,6 +18,8 @@ pub const REFRESH: u32 = 8;
 
 pub const MODE_SET: u32 = 0;
 
+pub const NOP: u32 = 14;
+
 // Where the bank and the command pins stand in a pin word.
 pub const BANK: u32 = 16_384;
 
@@ -27,6 +29,13 @@ pub fn code(w: u32) -> u32
     ensures { λ r. ⌜ r ≡ codeOf w ⌝ }
 {
     w / CODE % 16
+}
+
+// With CKE low on top of them, 16.
+pub fn wide_code(w: u32) -> u32
+    ensures { λ r. ⌜ r ≡ wideCodeOf w ⌝ }
+{
+    w / CODE % 32
 }
 
 pub fn bank(w: u32) -> usize

@@ -10,15 +10,18 @@ ghost use Rattle.reading.specs.Mode.{modeWord};
 ghost use Rattle.reading.specs.Settings.{settingFits, badSetting};
 ghost use Rattle.settings.specs.Meaning.{means, checked};
 
-// How many settings there are, and all of them.
+// How many settings there are, and how many with those of sleep.
 pub const COUNT: usize = 14;
 
-pub type Settings = [u32; COUNT];
+pub const SLEEPING: usize = 16;
+
+// All of them; those of sleep are 0 where there is none.
+pub type Settings = [u32; SLEEPING];
 
 // The least and the most that a setting may be.
 struct Limits(u32, u32);
 
-const LIMITS: [Limits; COUNT] = [
+const LIMITS: [Limits; SLEEPING] = [
     Limits(1, 2), // lane code
     Limits(12, 14), // row bits
     Limits(8, 11), // column bits
@@ -33,6 +36,8 @@ const LIMITS: [Limits; COUNT] = [
     Limits(1, 10_000), // tRFC
     Limits(1, 10_000), // tMRD
     Limits(1, 1_000_000), // GAP
+    Limits(1, 10_000), // tXP
+    Limits(1, 10_000), // tXSR
 ];
 
 // What is wrong with a list of settings, or with a capture.
@@ -63,7 +68,7 @@ pub fn mode_word(w: u32) -> bool
 }
 
 fn setting_fits(i: usize, w: u32) -> bool
-    requires { ⌜ i < 14 ⌝ }
+    requires { ⌜ i < 16 ⌝ }
     ensures { λ r. ⌜ r ≡ settingFits i w ⌝ }
 {
     let row = LIMITS[i];
@@ -81,7 +86,7 @@ fn setting_fits(i: usize, w: u32) -> bool
 
 // The lowest setting that is out of its row's limits or no mode word.
 pub fn lowest_bad(words: &[u32]) -> Found
-    requires { ⌜ length (now words) ≤ 14 ⌝ }
+    requires { ⌜ length (now words) ≤ 16 ⌝ }
     ensures { λ r. ⌜ placeOf r ≡ badSetting (now (words .entry)) ⌝ }
 {
     'settings: for i in 0..words.len() {

@@ -1,7 +1,7 @@
 -- Every limit of a capture and of a setting, from both sides. A capture of 64,080 bytes is too long to compute, so what its
 -- length and its 8,000 events mean is two laws.
 use Prim.Native.Nat.{ℕ, _+_, _-_, _*_}
-use mathlib.Core.Bool.{Bool, true, false, cond, not, _&&_}
+use mathlib.Core.Bool.{Bool, true, false, cond, not, _&&_, and-false}
 use mathlib.Core.List.{List, [], _∷_, _++_, map}
 use mathlib.Core.Option.{Option, none, some}
 use mathlib.Core.Path.{_≡_, refl}
@@ -109,11 +109,7 @@ module _ {A : Type 0} (capture : List ℕ) (rest : Answer A) where
 
   sixteen-longer : headerWord capture 1 ≡ 16 → headerWord capture 0 ≡ 64084 → length capture ≡ 64084 → accepted capture rest ≡ refused 2 0
   unfolding accepted lengthFits headerFits
-  sixteen-longer c total l = rw (c, total, l, ne-eqb 64084 (88 + 8 * eventCount capture) (λ e. omega arith)) (go _ _)
-    where
-      go : (a : Bool) (x : Answer A) → unless 2 (given 0 (not (a && false))) x ≡ refused 2 0
-      go true x = refl
-      go false x = refl
+  sixteen-longer c total l = rw (c, total, l, ne-eqb 64084 (88 + 8 * eventCount capture) (λ e. omega arith), and-false _)
 
   -- of such a one that its header states, only settings and events are left to ask
   longest :
