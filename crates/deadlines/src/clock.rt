@@ -1,19 +1,13 @@
-// The refresh clock as a deadline: the last cycle that rule 14 lets through.
-use crate::sums::after;
+// The refresh clock as a deadline: the first cycle at which rule 14 is broken, where it counts from a cycle on.
+use crate::sums::after2;
 use settings::Settings;
 use settings::places::GAP;
 ghost use mathlib.Core.Path.{_≡_};
 ghost use Rattle.reading.specs.Settings.{settingsOf};
-ghost use Rattle.deadlines.specs.Deadlines.{dueAtStart, dueAfterRefresh};
+ghost use Rattle.deadlines.specs.Deadlines.{overdueFrom};
 
-pub fn due_at_start(s: &Settings) -> u64
-    ensures { λ r. ⌜ r ≡ dueAtStart (settingsOf (now (s .entry))) ⌝ }
+pub fn overdue_from(s: &Settings, t: u32) -> u64
+    ensures { λ r. ⌜ r ≡ overdueFrom (settingsOf (now (s .entry))) t ⌝ }
 {
-    after(s[GAP], 0)
-}
-
-pub fn due_after_refresh(s: &Settings, t: u32) -> u64
-    ensures { λ r. ⌜ r ≡ dueAfterRefresh (settingsOf (now (s .entry))) t ⌝ }
-{
-    after(t, s[GAP])
+    after2(t, s[GAP], 1)
 }

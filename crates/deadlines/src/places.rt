@@ -20,7 +20,7 @@ pub const LOCKED: usize = 28;
 // Of the part.
 pub const BUSY: usize = 32;
 
-pub const DUE: usize = 33;
+pub const OVERDUE: usize = 33;
 
 pub const BUS: usize = 34;
 
@@ -33,6 +33,12 @@ pub const END: usize = 37;
 pub const READER: usize = 38;
 
 pub const WRITER: usize = 39;
+
+pub const WAKE: usize = 40;
+
+pub const ASLEEP: usize = 41;
+
+pub const SELF: usize = 42;
 
 // Of the mode word in force: h and CL.
 pub const PAIRS: usize = 0;
