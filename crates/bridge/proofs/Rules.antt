@@ -38,18 +38,25 @@ register-is b m = go (eqb b 0) refl
     go true e = rw (eqb-true b 0 e) (or-false m)
     go false e = refl
 
+-- with CKE high, and low
 abbrev pub does : Op → ℕ → ℕ → Bool → Command
-does o b a ten = record { op = o; bank = b; address = a; A10 = ten }
+does o b a ten = record { op = o; bank = b; address = a; A10 = ten; low = false }
 
-module _ (s : Settings) (p : Part) (t : ℕ) where
+abbrev pub doesLow : Op → ℕ → ℕ → Bool → Command
+doesLow o b a ten = record { op = o; bank = b; address = a; A10 = ten; low = true }
+
+module _ (s : Settings) (p : Part) (t : ℕ) (early : t < FAR) where
   abbrev pub says : Op → ℕ → ℕ → Bool → ℕ
   says o b a ten = num (lowestBroken rules s p t (does o b a ten))
 
-  pub quiet : (b a : ℕ) (ten : Bool) → says NOP b a ten ≡ dueBreaks (laid (summary s p)) t
-  quiet b a ten = simp num-cond
+  pub quiet : (b a : ℕ) (ten : Bool) → says NOP b a ten ≡ quietBreaks (laid (summary s p)) t
+  quiet b a ten = simp num-cond (quiet-is s (p .clock) (p .sleep) t early)
 
-  pub deselect : (b a : ℕ) (ten : Bool) → says DESELECT b a ten ≡ dueBreaks (laid (summary s p)) t
-  deselect b a ten = simp num-cond
+  pub deselect : (b a : ℕ) (ten : Bool) → says DESELECT b a ten ≡ quietBreaks (laid (summary s p)) t
+  deselect b a ten = simp num-cond (quiet-is s (p .clock) (p .sleep) t early)
+
+  last : _
+  last = last-is s (p .clock) (p .sleep) t early
 
   pub read-agrees : (b a : ℕ) (ten : Bool) → b < 4 → says READ b a ten ≡ readBreaks (laid (summary s p)) t b
   unfolding readBreaks unmet

@@ -316,5 +316,8 @@ wakeAfter s d t =
     let d₃ = set d₂ ASLEEP 0 in
     set d₃ SELF 0
 
+unfoldable pub leaveAfter : Settings → List ℕ → ℕ → List ℕ
+leaveAfter s d t = cond (eqb (at d SELF) 0) (powerUpAfter s d t) (wakeAfter s d t)
+
 unfoldable pub quietAfter : Settings → List ℕ → ℕ → List ℕ
-quietAfter s d t = cond (ltb t (at d OVERDUE)) d (cond (eqb (at d SELF) 0) (powerUpAfter s d t) (wakeAfter s d t))
+quietAfter s d t = cond (ltb t (at d OVERDUE)) d (leaveAfter s d t)
