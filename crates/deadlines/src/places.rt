@@ -34,6 +34,7 @@ pub const READER: usize = 38;
 
 pub const WRITER: usize = 39;
 
+// Of sleep.
 pub const WAKE: usize = 40;
 
 pub const ASLEEP: usize = 41;
