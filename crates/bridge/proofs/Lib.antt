@@ -4,6 +4,7 @@ pub mod Tests
 pub mod Sleeping
 pub mod Bursts
 pub mod Rules
+pub mod Low
 pub mod Cut
 pub mod Next
 pub mod Kept

@@ -8,12 +8,12 @@ use native.Mathlib.Nat.{add-zero, zero-add}
 use native.Mathlib.Omega.{arith}
 use lib.Dec.{leb, eqb}
 use borrow.Author.Tests.{leb-true, not-false}
-use Rattle.reading.specs.Search.{find}
+use Rattle.reading.specs.Search.{find, after}
 use Rattle.reading.specs.Settings.{Settings}
 use Rattle.reading.specs.Commands.{Op, ACTIVE, READ, WRITE, BURST-TERMINATE, PRECHARGE, AUTO-REFRESH, MODE-REGISTER-SET, NOP, DESELECT, Command, opOf, commandOf}
 use Rattle.reading.specs.Bursts.{reads}
 use Rattle.reading.specs.Part.{Part, start, partAfter}
-use Rattle.reading.specs.Rules.{after, keepsRule, rules, lowestBroken}
+use Rattle.reading.specs.Rules.{keepsRule, rules, lowestBroken}
 use Rattle.reading.proofs.Cuts.{nil}
 use Rattle.reading.proofs.Found.{find-none}
 use Rattle.deadlines.specs.Deadlines.{paceOf, startOf}

@@ -33,7 +33,7 @@ sleepAfter t c x =
     record {
       asleep = c .low;
       self = cond (enters x c) (is AUTO-REFRESH c) (x .self);
-      left = cond (c .low) none (cond (x .asleep) (some t) (x .left));
+      left = cond (enters x c) none (cond (leaves x c) (some t) (x .left));
     }
 
 -- leaving is over: tXSR after self refresh, tXP after power-down
