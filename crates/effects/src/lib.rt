@@ -4,20 +4,23 @@ use deadlines::KEPT;
 use deadlines::Pace;
 use deadlines::clock;
 use deadlines::places::AGAIN;
+use deadlines::places::ASLEEP;
 use deadlines::places::BUS;
 use deadlines::places::BUSY;
 use deadlines::places::CLOSE;
 use deadlines::places::COLUMN;
-use deadlines::places::DUE;
 use deadlines::places::END;
 use deadlines::places::LATENCY;
 use deadlines::places::LOCKED;
 use deadlines::places::OPENED;
 use deadlines::places::OTHER;
+use deadlines::places::OVERDUE;
 use deadlines::places::PAIRS;
 use deadlines::places::READER;
 use deadlines::places::READS;
 use deadlines::places::REST;
+use deadlines::places::SELF;
+use deadlines::places::WAKE;
 use deadlines::places::WRITER;
 use deadlines::places::WRITES;
 use deadlines::places::WRITTEN;
@@ -38,6 +41,8 @@ use settings::places::T_RP;
 use settings::places::T_RRD;
 use settings::places::T_WR;
 use settings::places::T_WTR;
+use settings::places::T_XP;
+use settings::places::T_XSR;
 ghost use mathlib.Core.Path.{_≡_};
 ghost use Prim.Native.Nat.{_+_, _<_};
 ghost use Rattle.reading.specs.Settings.{settingsOf};
@@ -153,7 +158,7 @@ pub fn refresh_after(s: &Settings, d: &mut Deadlines, t: u32)
     ensures { λ r. ⌜ now (d .exit) ≡ is.refreshAfter (settingsOf (now (s .entry))) (now (d .entry)) t ⌝ }
 {
     d[BUSY] = after(t, s[T_RFC]);
-    d[DUE] = clock::due_after_refresh(s, t);
+    d[OVERDUE] = clock::overdue_from(s, t);
 }
 
 pub fn mode_set_after(s: &Settings, d: &mut Deadlines, t: u32)
@@ -162,12 +167,56 @@ pub fn mode_set_after(s: &Settings, d: &mut Deadlines, t: u32)
     d[BUSY] = after(t, s[T_MRD]);
 }
 
+// Power-down: the refresh clock runs on.
+pub fn enter_after(d: &mut Deadlines)
+    ensures { λ r. ⌜ now (d .exit) ≡ is.enterAfter (now (d .entry)) ⌝ }
+{
+    d[ASLEEP] = d[OVERDUE];
+    d[OVERDUE] = 0;
+}
+
+// Self refresh: it stands still.
+pub fn self_after(d: &mut Deadlines)
+    ensures { λ r. ⌜ now (d .exit) ≡ is.selfAfter (now (d .entry)) ⌝ }
+{
+    d[ASLEEP] = clock::FAR;
+    d[OVERDUE] = 0;
+    d[SELF] = 1;
+}
+
+fn power_up_after(s: &Settings, d: &mut Deadlines, t: u32)
+    ensures { λ r. ⌜ now (d .exit) ≡ is.powerUpAfter (settingsOf (now (s .entry))) (now (d .entry)) t ⌝ }
+{
+    d[OVERDUE] = d[ASLEEP];
+    d[WAKE] = after(t, s[T_XP]);
+    d[ASLEEP] = 0;
+}
+
+fn wake_after(s: &Settings, d: &mut Deadlines, t: u32)
+    ensures { λ r. ⌜ now (d .exit) ≡ is.wakeAfter (settingsOf (now (s .entry))) (now (d .entry)) t ⌝ }
+{
+    d[OVERDUE] = clock::overdue_from(s, t);
+    d[WAKE] = after(t, s[T_XSR]);
+    d[ASLEEP] = 0;
+    d[SELF] = 0;
+}
+
+pub fn leave_after(s: &Settings, d: &mut Deadlines, t: u32)
+    ensures { λ r. ⌜ now (d .exit) ≡ is.leaveAfter (settingsOf (now (s .entry))) (now (d .entry)) t ⌝ }
+{
+    if d[SELF] == 0 {
+        power_up_after(s, d, t);
+        return;
+    }
+    wake_after(s, d, t);
+}
+
 // The deadlines of a part at the start: nothing has happened, and the first AUTO REFRESH is due after GAP.
 pub fn start(s: &Settings) -> Deadlines
     ensures { λ r. ⌜ r ≡ is.startOf (settingsOf (now (s .entry))) ⌝ }
 {
     let mut d = [0u64; KEPT];
-    d[DUE] = clock::due_at_start(s);
+    d[OVERDUE] = clock::overdue_from(s, 0);
     d[READER] = 4;
     let locked = after(s[T_RAS], s[T_RP]);
     d[LOCKED] = locked;

@@ -1,16 +1,18 @@
 // Which rule a command breaks: a comparison for each timed rule, a search for each rule that looks at several banks.
 use deadlines::Deadlines;
 use deadlines::places::AGAIN;
+use deadlines::places::ASLEEP;
 use deadlines::places::BUS;
 use deadlines::places::BUSY;
 use deadlines::places::CLOSE;
 use deadlines::places::COLUMN;
-use deadlines::places::DUE;
 use deadlines::places::END;
 use deadlines::places::OPENED;
 use deadlines::places::OTHER;
+use deadlines::places::OVERDUE;
 use deadlines::places::READS;
 use deadlines::places::REST;
+use deadlines::places::WAKE;
 use deadlines::places::WRITES;
 use deadlines::places::WRITTEN;
 use deadlines::sums::after;
@@ -22,18 +24,31 @@ use settings::places::T_WTR;
 ghost use mathlib.Core.Path.{_≡_};
 ghost use mathlib.Core.Bool.{cond};
 ghost use Prim.Native.Nat.{_+_, _<_};
-ghost use lib.Dec.{leb, eqb};
+ghost use lib.Dec.{leb, ltb, eqb};
 ghost use Rattle.reading.specs.Mode.{modeWord};
 ghost use Rattle.reading.specs.Settings.{settingsOf};
 ghost use Rattle.reading.specs.Rules.{everyBank};
 ghost use Rattle.deadlines.specs.Deadlines as is;
 ghost use Rattle.deadlines.specs.Deadlines.{at, orElse};
 
-pub fn due_breaks(d: &Deadlines, t: u32) -> u32
-    ensures { λ r. ⌜ r ≡ is.dueBreaks (now (d .entry)) t ⌝ }
+// Rule 14, or 15 asleep.
+fn late(d: &Deadlines, t: u32) -> u32
+    ensures { λ r. ⌜ r ≡ orElse (ltb t (at (now (d .entry)) is.ASLEEP)) 14 15 ⌝ }
 {
-    if d[DUE] < (t as u64) {
-        return 14;
+    if (t as u64) < d[ASLEEP] {
+        return 15;
+    }
+    14
+}
+
+fn last_breaks(d: &Deadlines, t: u32) -> u32
+    ensures { λ r. ⌜ r ≡ is.lastBreaks (now (d .entry)) t ⌝ }
+{
+    if d[OVERDUE] <= (t as u64) {
+        return late(d, t);
+    }
+    if (t as u64) < d[WAKE] {
+        return 15;
     }
     0
 }
@@ -134,7 +149,7 @@ pub fn active_breaks(s: &Settings, d: &Deadlines, t: u32, b: usize, row: u32) ->
     if apart != 0 {
         return apart;
     }
-    due_breaks(d, t)
+    last_breaks(d, t)
 }
 
 pub fn read_breaks(d: &Deadlines, t: u32, b: usize) -> u32
@@ -156,7 +171,7 @@ pub fn read_breaks(d: &Deadlines, t: u32, b: usize) -> u32
     if (t as u64) < d[READS] {
         return 13;
     }
-    due_breaks(d, t)
+    last_breaks(d, t)
 }
 
 pub fn write_breaks(d: &Deadlines, t: u32, b: usize) -> u32
@@ -178,7 +193,7 @@ pub fn write_breaks(d: &Deadlines, t: u32, b: usize) -> u32
     if (t as u64) < d[WRITES] {
         return 13;
     }
-    due_breaks(d, t)
+    last_breaks(d, t)
 }
 
 pub fn terminate_breaks(s: &Settings, d: &Deadlines, t: u32) -> u32
@@ -193,7 +208,7 @@ pub fn terminate_breaks(s: &Settings, d: &Deadlines, t: u32) -> u32
     if after(t, s[T_WTR]) < d[END] {
         return 13;
     }
-    due_breaks(d, t)
+    last_breaks(d, t)
 }
 
 pub fn close_breaks(d: &Deadlines, t: u32, b: usize) -> u32
@@ -204,7 +219,7 @@ pub fn close_breaks(d: &Deadlines, t: u32, b: usize) -> u32
         return 4;
     }
     if d[OPENED + b] == 0 {
-        return due_breaks(d, t);
+        return last_breaks(d, t);
     }
     if (t as u64) < d[CLOSE + b] {
         return 9;
@@ -212,7 +227,7 @@ pub fn close_breaks(d: &Deadlines, t: u32, b: usize) -> u32
     if (t as u64) < d[WRITTEN + b] {
         return 10;
     }
-    due_breaks(d, t)
+    last_breaks(d, t)
 }
 
 pub fn close_all_breaks(d: &Deadlines, t: u32) -> u32
@@ -229,7 +244,7 @@ pub fn close_all_breaks(d: &Deadlines, t: u32) -> u32
     if written != 0 {
         return written;
     }
-    due_breaks(d, t)
+    last_breaks(d, t)
 }
 
 pub fn refresh_breaks(d: &Deadlines, t: u32) -> u32
@@ -249,7 +264,7 @@ pub fn refresh_breaks(d: &Deadlines, t: u32) -> u32
     if (t as u64) < d[BUS] {
         return 12;
     }
-    due_breaks(d, t)
+    last_breaks(d, t)
 }
 
 fn register_fits(b: usize, word: u32) -> bool
@@ -268,4 +283,40 @@ pub fn mode_breaks(d: &Deadlines, t: u32, b: usize, word: u32) -> u32
         return 2;
     }
     refresh_breaks(d, t)
+}
+
+// NOP and DESELECT that enter power-down.
+pub fn enter_breaks(s: &Settings, d: &Deadlines, t: u32) -> u32
+    ensures { λ r. ⌜ r ≡ is.enterBreaks (settingsOf (now (s .entry))) (now (d .entry)) t ⌝ }
+{
+    if (t as u64) < d[BUSY] {
+        return 4;
+    }
+    if d[OVERDUE] <= (t as u64) {
+        return 14;
+    }
+    if (t as u64) < d[BUS] {
+        return 15;
+    }
+    if after(t, s[T_WTR]) < d[END] {
+        return 15;
+    }
+    if (t as u64) < d[WAKE] {
+        return 15;
+    }
+    0
+}
+
+// AUTO REFRESH that enters self refresh.
+pub fn self_breaks(s: &Settings, d: &Deadlines, t: u32) -> u32
+    ensures { λ r. ⌜ r ≡ is.selfBreaks (settingsOf (now (s .entry))) (now (d .entry)) t ⌝ }
+{
+    let rule = refresh_breaks(d, t);
+    if rule != 0 {
+        return rule;
+    }
+    if after(t, s[T_WTR]) < d[END] {
+        return 15;
+    }
+    0
 }

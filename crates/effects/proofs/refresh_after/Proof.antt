@@ -12,15 +12,15 @@ after-requires c κs = search needs
 element-write-d : tie.Need-element-write-d
 element-write-d c = search needs
 
-due-after-refresh-requires : tie.Need-due-after-refresh-requires
-due-after-refresh-requires c κs = search needs
+overdue-from-requires : tie.Need-overdue-from-requires
+overdue-from-requires c κs = search needs
 
 element-write-d-2 : tie.Need-element-write-d-2
 element-write-d-2 c = search needs
 
 returns : tie.Need-returns
 unfolding refreshAfter
-returns c = rw (c .due-after-refresh .ensures, c .before .after .ensures)
+returns c = rw (c .overdue-from .ensures, c .before .after .ensures)
 
 pub refresh-after-spec : {M : Type 1} → statement M
 refresh-after-spec =
@@ -29,6 +29,6 @@ refresh-after-spec =
     element-copy-out-after
     after-requires
     element-write-d
-    due-after-refresh-requires
+    overdue-from-requires
     element-write-d-2
     returns)

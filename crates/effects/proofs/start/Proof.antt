@@ -3,8 +3,8 @@ use borrow.Author.Needs.{needs}
 use Rattle.effects.proofs.start.Statement.{statement}
 use Rattle.effects.proofs.start.Tie as tie
 
-due-at-start-requires : tie.Need-due-at-start-requires
-due-at-start-requires c κs = search needs
+overdue-from-requires : tie.Need-overdue-from-requires
+overdue-from-requires c κs = search needs
 
 array-write-d : tie.Need-array-write-d
 array-write-d c = search needs
@@ -53,13 +53,13 @@ array-write-d-6 c = search needs
 
 returns : tie.Need-returns
 unfolding startOf
-returns c = rw (c .after .ensures, c .before .before .before .due-at-start .ensures)
+returns c = rw (c .after .ensures, c .before .before .before .overdue-from .ensures)
 
 pub start-spec : {M : Type 1} → statement M
 start-spec =
     tie.close
     (tie.spec
-    due-at-start-requires
+    overdue-from-requires
     array-write-d
     array-write-d-2
     element-copy-out-after

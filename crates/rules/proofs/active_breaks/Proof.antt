@@ -3,7 +3,7 @@ use mathlib.Core.Path.{sym, _∙_}
 use lib.Dec.{leb}
 use borrow.Author.Tests.{le-leb, lt-leb, lt-ltb, le-ltb, eq-eqb, ne-eqb}
 use Rattle.reading.specs.Rules.{everyBank}
-use Rattle.deadlines.specs.Deadlines.{otherBank, unmet, dueBreaks, activeBreaks}
+use Rattle.deadlines.specs.Deadlines.{otherBank, unmet, lastBreaks, activeBreaks}
 use Rattle.deadlines.proofs.Waits.{each-over, each-waits}
 use Rattle.rules.proofs.Banks.{told-broken, told-kept}
 use borrow.Author.Needs.{needs}
@@ -118,10 +118,10 @@ returns-6 c =
       le-leb _ _ (asked₄ .if4 .left),
       le-leb _ _ (asked₅ .if5 .left),
     )
-    (told .named ∙ sym (each-waits 7 apart [] (a .t) (dueBreaks (a .d .now) (a .t)) (told .fails)))
+    (told .named ∙ sym (each-waits 7 apart [] (a .t) (lastBreaks (a .d .now) (a .t)) (told .fails)))
 
-due-breaks-requires : tie.Need-due-breaks-requires
-due-breaks-requires c κs = search needs
+last-breaks-requires : tie.Need-last-breaks-requires
+last-breaks-requires c κs = search needs
 
 returns-7 : tie.Need-returns-7
 unfolding activeBreaks unmet
@@ -143,7 +143,7 @@ returns-7 c =
       le-leb _ _ (asked₄ .if4 .left),
       le-leb _ _ (asked₅ .if5 .left),
     )
-    (c .due-breaks .ensures ∙ sym (each-over 7 apart [] (a .t) (dueBreaks (a .d .now) (a .t)) kept))
+    (c .last-breaks .ensures ∙ sym (each-over 7 apart [] (a .t) (lastBreaks (a .d .now) (a .t)) kept))
 
 pub active-breaks-spec : {M : Type 1} → statement M
 active-breaks-spec =
@@ -168,5 +168,5 @@ active-breaks-spec =
     returns-5
     others-apart-requires
     returns-6
-    due-breaks-requires
+    last-breaks-requires
     returns-7)

@@ -41,8 +41,8 @@ returns-3 c =
     )
     (told .named)
 
-due-breaks-requires : tie.Need-due-breaks-requires
-due-breaks-requires c κs = search needs
+last-breaks-requires : tie.Need-last-breaks-requires
+last-breaks-requires c κs = search needs
 
 returns-4 : tie.Need-returns-4
 unfolding closeAllBreaks
@@ -56,7 +56,7 @@ returns-4 c =
       le-leb _ _ (asked₁ .if1 .left),
       told-kept (allHeld d (a .t)) 8 (asked₂ .before .all-held .ensures) (asked₂ .if2 .left),
       told-kept (allWritten d (a .t)) 9 (asked₃ .before .all-written .ensures) (asked₃ .if3 .left),
-      c .due-breaks .ensures,
+      c .last-breaks .ensures,
     )
 
 pub close-all-breaks-spec : {M : Type 1} → statement M
@@ -69,5 +69,5 @@ close-all-breaks-spec =
     returns-2
     all-written-requires
     returns-3
-    due-breaks-requires
+    last-breaks-requires
     returns-4)

@@ -21,8 +21,8 @@ mul-if2 c = search needs
 element-copy-out-if2 : tie.Need-element-copy-out-if2
 element-copy-out-if2 c = search needs
 
-due-breaks-requires : tie.Need-due-breaks-requires
-due-breaks-requires c κs = search needs
+last-breaks-requires : tie.Need-last-breaks-requires
+last-breaks-requires c κs = search needs
 
 returns-2 : tie.Need-returns-2
 unfolding closeBreaks
@@ -34,7 +34,7 @@ returns-2 c =
       eq-eqb _ _ (asked₂ .if2 .taken),
       or-true _,
       or-true _,
-      c .due-breaks .ensures,
+      c .last-breaks .ensures,
     )
 
 add-if3 : tie.Need-add-if3
@@ -79,8 +79,8 @@ returns-4 c =
       lt-leb _ _ (c .if4 .taken),
     )
 
-due-breaks-requires-2 : tie.Need-due-breaks-requires-2
-due-breaks-requires-2 c κs = search needs
+last-breaks-requires-2 : tie.Need-last-breaks-requires-2
+last-breaks-requires-2 c κs = search needs
 
 returns-5 : tie.Need-returns-5
 unfolding closeBreaks
@@ -94,7 +94,7 @@ returns-5 c =
       ne-eqb _ _ (asked₂ .if2 .left),
       le-leb _ _ (asked₃ .if3 .left),
       le-leb _ _ (asked₄ .if4 .left),
-      c .due-breaks2 .ensures,
+      c .last-breaks2 .ensures,
     )
 
 pub close-breaks-spec : {M : Type 1} → statement M
@@ -106,7 +106,7 @@ close-breaks-spec =
     add-if2
     mul-if2
     element-copy-out-if2
-    due-breaks-requires
+    last-breaks-requires
     returns-2
     add-if3
     mul-if3
@@ -116,5 +116,5 @@ close-breaks-spec =
     mul-if4
     element-copy-out-if4
     returns-4
-    due-breaks-requires-2
+    last-breaks-requires-2
     returns-5)

@@ -4,7 +4,7 @@ use mathlib.Core.Path.{sym, _∙_}
 use lib.Dec.{leb}
 use borrow.Author.Tests.{le-leb, lt-leb}
 use Rattle.reading.specs.Rules.{everyBank}
-use Rattle.deadlines.specs.Deadlines.{REST, BUS, at, Wait, asks, unmet, dueBreaks, allIdle, refreshBreaks}
+use Rattle.deadlines.specs.Deadlines.{REST, BUS, at, Wait, asks, unmet, lastBreaks, allIdle, refreshBreaks}
 use Rattle.deadlines.proofs.Waits.{each-over, each-waits}
 use Rattle.rules.proofs.Banks.{told-broken, told-kept}
 use borrow.Author.Needs.{needs}
@@ -49,7 +49,7 @@ returns-3 c =
     let d = a .d .now in
     let told = told-broken (everyBank (λ i. leb (rests d i) (a .t))) 5 (c .before .all-rested .ensures) (c .if3 .taken) in
     rw (told-kept (allIdle d) 2 (asked₁ .before .all-idle .ensures) (asked₁ .if1 .left), le-leb _ _ (asked₂ .if2 .left))
-    (told .named ∙ sym (each-waits 5 (rests d) (then d) (a .t) (dueBreaks d (a .t)) (told .fails)))
+    (told .named ∙ sym (each-waits 5 (rests d) (then d) (a .t) (lastBreaks d (a .t)) (told .fails)))
 
 element-copy-out-if4 : tie.Need-element-copy-out-if4
 element-copy-out-if4 c = search needs
@@ -66,12 +66,12 @@ returns-4 c =
     rw (
       told-kept (allIdle d) 2 (asked₁ .before .all-idle .ensures) (asked₁ .if1 .left),
       le-leb _ _ (asked₂ .if2 .left),
-      each-over 5 (rests d) (then d) (a .t) (dueBreaks d (a .t)) rested,
+      each-over 5 (rests d) (then d) (a .t) (lastBreaks d (a .t)) rested,
       lt-leb _ _ (c .if4 .taken),
     )
 
-due-breaks-requires : tie.Need-due-breaks-requires
-due-breaks-requires c κs = search needs
+last-breaks-requires : tie.Need-last-breaks-requires
+last-breaks-requires c κs = search needs
 
 returns-5 : tie.Need-returns-5
 unfolding refreshBreaks unmet
@@ -86,9 +86,9 @@ returns-5 c =
     rw (
       told-kept (allIdle d) 2 (asked₁ .before .all-idle .ensures) (asked₁ .if1 .left),
       le-leb _ _ (asked₂ .if2 .left),
-      each-over 5 (rests d) (then d) (a .t) (dueBreaks d (a .t)) rested,
+      each-over 5 (rests d) (then d) (a .t) (lastBreaks d (a .t)) rested,
       le-leb _ _ (asked₄ .if4 .left),
-      c .due-breaks .ensures,
+      c .last-breaks .ensures,
     )
 
 pub refresh-breaks-spec : {M : Type 1} → statement M
@@ -103,5 +103,5 @@ refresh-breaks-spec =
     returns-3
     element-copy-out-if4
     returns-4
-    due-breaks-requires
+    last-breaks-requires
     returns-5)

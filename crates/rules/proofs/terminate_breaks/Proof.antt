@@ -39,8 +39,8 @@ returns-3 c =
       lt-leb _ _ (c .if3 .taken),
     )
 
-due-breaks-requires : tie.Need-due-breaks-requires
-due-breaks-requires c κs = search needs
+last-breaks-requires : tie.Need-last-breaks-requires
+last-breaks-requires c κs = search needs
 
 returns-4 : tie.Need-returns-4
 unfolding terminateBreaks
@@ -53,7 +53,7 @@ returns-4 c =
       le-leb _ _ (asked₂ .if2 .left),
       ← asked₃ .before .before .after .ensures,
       le-leb _ _ (asked₃ .if3 .left),
-      c .due-breaks .ensures,
+      c .last-breaks .ensures,
     )
 
 pub terminate-breaks-spec : {M : Type 1} → statement M
@@ -68,5 +68,5 @@ terminate-breaks-spec =
     after-requires
     element-copy-out-if3
     returns-3
-    due-breaks-requires
+    last-breaks-requires
     returns-4)

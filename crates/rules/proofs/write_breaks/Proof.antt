@@ -78,8 +78,8 @@ returns-5 c =
       lt-leb _ _ (c .if5 .taken),
     )
 
-due-breaks-requires : tie.Need-due-breaks-requires
-due-breaks-requires c κs = search needs
+last-breaks-requires : tie.Need-last-breaks-requires
+last-breaks-requires c κs = search needs
 
 returns-6 : tie.Need-returns-6
 unfolding writeBreaks unmet
@@ -95,7 +95,7 @@ returns-6 c =
       le-leb _ _ (asked₃ .if3 .left),
       le-leb _ _ (asked₄ .if4 .left),
       le-leb _ _ (asked₅ .if5 .left),
-      c .due-breaks .ensures,
+      c .last-breaks .ensures,
     )
 
 pub write-breaks-spec : {M : Type 1} → statement M
@@ -116,5 +116,5 @@ write-breaks-spec =
     returns-4
     element-copy-out-if5
     returns-5
-    due-breaks-requires
+    last-breaks-requires
     returns-6)
