@@ -9,7 +9,7 @@ use native.Mathlib.Omega.{arith}
 use lib.Dec.{leb, eqb, eqb·suc-zero}
 use lib.ListN.{length, getD, drop, length-append, List·getD-append}
 use lib.Seq.{getD-append-add}
-use borrow.Author.Tests.{leb-true, le-leb, lt-ltb, le-ltb, eq-eqb, not-false}
+use borrow.Author.Tests.{leb-true, le-leb, lt-ltb, le-ltb, eq-eqb}
 use Rattle.reading.specs.Search.{every, find, count}
 use Rattle.reading.specs.Words.{wordAt, bytesOf}
 use Rattle.reading.specs.Settings.{Limits, settingsCount, sleepingCount, limits, settingsOf, settingFits, badSetting}
@@ -20,8 +20,7 @@ use Rattle.reading.specs.Schedule.{badRequest, freeFrom, planned, scheduleOf, e
 use Rattle.reading.specs.Answers.{Answer, Report, answered, accepted, verdictIn, judgeAnswer}
 use Rattle.reading.proofs.Meaning.{eventOf}
 use Rattle.words.proofs.Words.{bytesOf-length, word-drop, word-of-bytes}
-use Rattle.words.proofs.Search.{none-below}
-use Rattle.settings.proofs.Fitting.{rowAt, at-most}
+use Rattle.settings.proofs.Fitting.{rowAt, at-most, in-range}
 use Rattle.plan.proofs.Ranged.{ranged}
 use Rattle.plan.proofs.Reached.{Rises}
 use Rattle.plan.proofs.Ready.{Planned, few-requests, schedule-planned}
@@ -100,8 +99,7 @@ pins-word (e ∷ es) (suc i) = let k : 2 * suc i + 1 ≡ suc (suc (2 * i + 1)) =
 
 pub settings-fit : (ws : List ℕ) → length ws ≡ 14 → badSetting ws ≡ none → (i : ℕ) → i < 14 → settingFits i (getD ws i 0) ≡ true
 unfolding badSetting
-settings-fit ws fourteen good i l =
-    not-false (settingFits i (getD ws i 0)) (none-below (λ j. not (settingFits j (getD ws j 0))) (length ws) good i (omega (arith, fourteen)))
+settings-fit ws fourteen good i l = in-range ws (length ws) good i (omega (arith, fourteen))
 
 -- clean, all events judged
 abbrev pub allClean : List Event → Report
