@@ -12,7 +12,7 @@ use lib.Dec.{leb, ltb, eqb}
 use Rattle.reading.specs.Search.{given, count}
 use Rattle.reading.specs.Words.{wordAt}
 use Rattle.reading.specs.Settings.{settingFits, badSetting}
-use Rattle.reading.specs.Capture.{headerWord, eventCount, settingWords, eventBytes, eventAt, lengthFits, headerFits, lastCycle, pinBits, cycleFits, eventFits, badEvent}
+use Rattle.reading.specs.Capture.{headerWord, eventCount, settingWords, eventBytes, eventAt, lengthFits, headerFits, lastCycle, pinLimit, cycleFits, eventFits, badEvent}
 use Rattle.reading.specs.Answers.{Answer, refused, answered, unless, accepted}
 use Rattle.words.proofs.Search.{none-below}
 
@@ -34,7 +34,7 @@ followed {A} capture rest =
     let o1 = given 0 (not (lengthFits capture)) in
     let o2 = given 0 (not (headerFits capture)) in
     let o3 = badSetting (settingWords capture) in
-    let o4 = badEvent (pinBits capture) (eventBytes capture) (eventCount capture) in
+    let o4 = badEvent (pinLimit capture) (eventBytes capture) (eventCount capture) in
     let a4 : Answer (Unit {0}) = unless 4 o4 (answered tt) in
     let a3 : Answer (Unit {0}) = unless 3 o3 a4 in
     let a2 : Answer (Unit {0}) = unless 2 o2 a3 in
@@ -111,17 +111,17 @@ module _ (capture : List ℕ) where
   pub accepted-sound : accepted capture (answered (tt {0})) ≡ answered tt → Sound capture
   unfolding accepted badSetting badEvent eventFits
   accepted-sound h =
-      let bits = pinBits capture in
+      let limit = pinLimit capture in
       let clear =
       nothing-wrong (given 0 (not (lengthFits capture))) (given 0 (not (headerFits capture))) (badSetting (settingWords capture))
-      (badEvent bits (eventBytes capture) (eventCount capture)) h in
+      (badEvent limit (eventBytes capture) (eventCount capture)) h in
       let unfit : ℕ → Bool = λ j. not (settingFits j (getD (settingWords capture) j 0)) in
-      let fits : (i : ℕ) → i < eventCount capture → eventFits bits (eventBytes capture) i ≡ true =
-      λ i l. not-false _ (none-below (λ j. not (eventFits bits (eventBytes capture) j)) (eventCount capture) (clear .3) i l) in
+      let fits : (i : ℕ) → i < eventCount capture → eventFits limit (eventBytes capture) i ≡ true =
+      λ i l. not-false _ (none-below (λ j. not (eventFits limit (eventBytes capture) j)) (eventCount capture) (clear .3) i l) in
       record {
         sized = sized (not-false _ (not-given _ (clear .0))) (not-false _ (not-given _ (clear .1)));
         settings = λ i l. not-false _ (none-below unfit (length (settingWords capture)) (clear .2) i (omega (arith, words-count)));
-        events = λ i l. both (ltb (eventAt (eventBytes capture) i .pins) (2 ^ bits)) _ (fits i l) .1;
+        events = λ i l. both (ltb (eventAt (eventBytes capture) i .pins) limit) _ (fits i l) .1;
       }
 
 -- ---- events that fit

@@ -38,7 +38,7 @@ module _ (capture : List ℕ) where
       wrong-setting e = rw (right-length, right-header, sym is-setting, e)
 
       pub right-settings : setting ≡ Nothing → (event : Found) {n : ℕ} → n ≡ eventCount capture →
-          placeOf event ≡ badEvent 20 (eventBytes capture) n →
+          placeOf event ≡ badEvent (2 ^ 20) (eventBytes capture) n →
           unless 4 (placeOf event) (answered tt) ≡ accepted capture (answered (tt {0}))
       unfolding accepted
       right-settings e event c is-event =
