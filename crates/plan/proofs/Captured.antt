@@ -14,7 +14,7 @@ use Rattle.reading.specs.Search.{every, find, count}
 use Rattle.reading.specs.Words.{wordAt, bytesOf}
 use Rattle.reading.specs.Settings.{Limits, settingsCount, sleepingCount, limits, settingsOf, settingFits, badSetting}
 use Rattle.reading.specs.Capture.{Event, settingsStart, eventsStart, captureSize, headerWord, countIn, eventCount, settingWords, eventBytes, eventAt, eventsOf}
-use Rattle.reading.specs.Capture.{lengthFits, headerFits, pinBits, lastCycle, eventFits, badEvent}
+use Rattle.reading.specs.Capture.{lengthFits, headerFits, pinLimit, lastCycle, eventFits, badEvent}
 use Rattle.reading.specs.Verdict.{clean, verdictOf}
 use Rattle.reading.specs.Schedule.{badRequest, freeFrom, planned, scheduleOf, eventWords, captureOf}
 use Rattle.reading.specs.Answers.{Answer, Report, answered, accepted, verdictIn, judgeAnswer}
@@ -143,8 +143,8 @@ module _ (ws : List ℕ) (es : List Event) (fourteen : length ws ≡ 14) (good :
   pub held : countIn C ≡ settingsCount
   held = ap (λ (n : ℕ). cond (eqb n sleepingCount) sleepingCount settingsCount) said
 
-  pub awake-pins : pinBits C ≡ 20
-  awake-pins = ap (λ (n : ℕ). cond (eqb n sleepingCount) 21 20) said
+  pub awake-pins : pinLimit C ≡ 2 ^ 20
+  awake-pins = ap (λ (n : ℕ). cond (eqb n sleepingCount) (2 ^ 21) (2 ^ 20)) said
 
   pub counts : eventCount C ≡ length es
   counts = head ws es fourteen 3 (omega arith) (omega arith)
@@ -190,7 +190,7 @@ module _ (ws : List ℕ) (es : List Event) (fourteen : length ws ≡ 14) (good :
       (counted (eventAt (eventBytes C)) (record { cycle = 0; pins = 0 }) 0 (length es) es refl
       (λ i l. rw (zero-add i) (λ u. record { cycle = cycle-back i l u; pins = pins-back i l u })))
 
-  event-fits : (i : ℕ) → i < length es → eventFits 20 (eventBytes C) i ≡ true
+  event-fits : (i : ℕ) → i < length es → eventFits (2 ^ 20) (eventBytes C) i ≡ true
   unfolding eventFits
   event-fits zero l =
       let w = within 0 es rises 0 l in
@@ -236,9 +236,9 @@ module _ (ws : List ℕ) (es : List Event) (fourteen : length ws ≡ 14) (good :
         eq-eqb (80 + 8 * length es) (80 + 8 * length es) refl,
       )
 
-  right-events : badEvent 20 (eventBytes C) (eventCount C) ≡ none
+  right-events : badEvent (2 ^ 20) (eventBytes C) (eventCount C) ≡ none
   unfolding badEvent
-  right-events = rw counts (nowhere (λ i. not (eventFits 20 (eventBytes C) i)) 0 (length es) (λ i l. rw (zero-add i) (ap not (event-fits i l))))
+  right-events = rw counts (nowhere (λ i. not (eventFits (2 ^ 20) (eventBytes C) i)) 0 (length es) (λ i l. rw (zero-add i) (ap not (event-fits i l))))
 
   pub captured : {A : Type 0} (rest : Answer A) → accepted C rest ≡ rest
   unfolding accepted
