@@ -60,10 +60,10 @@ fn captures() -> Vec<(&'static str, Vec<u8>)> {
             streaming(with_mode(BL_16), true),
         ),
         ("a schedule", schedule_capture()),
-        ("random commands", busy_capture(&mut dice, PART)),
+        ("random commands", busy_capture(&mut dice, &PART)),
         (
             "random commands, BL 16",
-            busy_capture(&mut dice, with_mode(BL_16)),
+            busy_capture(&mut dice, &with_mode(BL_16)),
         ),
     ]
 }
@@ -81,8 +81,8 @@ fn repeated(settings: [u32; SETTINGS], commands: &[Command]) -> Vec<u8> {
     let mut events = Vec::new();
     let mut next = 0;
     for &command in commands.iter().cycle().take(8_000) {
-        let cycle = earliest(&part, next, command);
-        part.apply(cycle, command);
+        let cycle = earliest(&part, next, command.into());
+        part.apply(cycle, command.into());
         events.push(Event {
             cycle: cycle as u32,
             pins: command.pins(),
