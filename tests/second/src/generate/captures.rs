@@ -535,20 +535,16 @@ impl<'a> Builder<'a> {
         let soon = self.next + u64::from(self.dice.below(30));
         let late = self.part.gap_from + self.part.settings.gap + 1;
         let cycle = self.dice.pick(&[soon, soon, late.max(self.next)]);
-        let low = self.dice.percent(50);
-        let any = self.any_pins();
-        let quiet = self.idle_command();
-        let command = self.usual_command();
-        let pins = self.dice.pick(&[
-            Asked { command, low }.pins(),
-            Asked {
-                command: quiet,
-                low,
-            }
-            .pins(),
-            any,
-        ]);
-        (cycle, pins)
+        let quiet = self.idle_command().pins();
+        let fitting = self.usual_command().pins();
+        let (_, unfit) = self.wrong_state_event();
+        let (_, bad_register) = self.bad_register_event();
+        let any = self.dice.word() & PINS;
+        let pins = self
+            .dice
+            .pick(&[quiet, fitting, fitting, unfit, bad_register, any]);
+        let cke = self.dice.pick(&[0, LOW]);
+        (cycle, pins | cke)
     }
 
     /// An event one cycle too early, or some cycles.
