@@ -250,16 +250,19 @@ SAMPLES = [
     ("setting-latency-4", ("W948D6KBHX", "-5 CL3"), unknown_latency, "a mode word among the settings with CAS latency 4"),
     ("cut-short", ("MT46H64M16LF", "-6 CL3"), cut_short, "the first 3,000 bytes of a longer capture"),
     ("cycles-of-16-bits", ("IS43LR32400G", "-6 CL3"), stamps_of_16_bits, "a recorder whose cycles start again at 65,536"),
-    ("clean-power-down", ("MT46H64M16LF", "-5 CL3"), clean_power_down, "16 settings: frames of traffic, power-down between them"),
+    ("clean-power-down", ("MT46H64M16LF", "-5 CL3"), clean_power_down,
+     "16 settings: frames of traffic, power-down between them"),
     ("clean-self-refresh", ("IS43LR32400G", "-6 CL3"), clean_self_refresh, "the same with self refresh, often longer than GAP"),
     ("tXP", ("MT46H128M16LF", "-48 CL3"), active_before_txp, "ACTIVE a cycle before tXP is over"),
     ("tXSR", ("W948D6KBHX", "-6 CL2"), active_before_txsr, "ACTIVE a cycle before tXSR is over"),
-    ("power-down-in-read", ("MT46H32M32LF", "-75 CL3"), power_down_in_read, "CKE falls a cycle before read data is off the bus"),
+    ("power-down-in-read", ("MT46H32M32LF", "-75 CL3"), power_down_in_read,
+     "CKE falls a cycle before read data is off the bus"),
     ("power-down-in-write", ("MT46H64M16LF", "-54 CL3"), power_down_in_write, "CKE falls a cycle before write data is in"),
     ("precharge-while-low", ("IS43LR32400G", "-6 CL3"), precharge_while_low, "PRECHARGE in power-down"),
     ("active-at-exit", ("MT46H64M32LF", "-48 CL3"), active_at_exit, "CKE rises with ACTIVE where it may with NOP and DESELECT"),
     ("late-refresh-asleep", ("W948D6KBHX", "-5 CL3"), late_refresh_asleep, "GAP passes in power-down"),
-    ("power-down-before-tRFC", ("MT46H128M16LF", "-48 CL3"), power_down_before_trfc, "CKE falls with NOP a cycle before tRFC is over"),
+    ("power-down-before-tRFC", ("MT46H128M16LF", "-48 CL3"), power_down_before_trfc,
+     "CKE falls with NOP a cycle before tRFC is over"),
 ]
 
 

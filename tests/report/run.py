@@ -44,9 +44,9 @@ CASES = [
     ("pin bit 21", capture([(0, NOP | LOW), (1, NOP | 1 << 21)], SLEEPY), "refused 4 place 1\n"),
     ("64,088 bytes, the longest capture of 16 settings", quiet(8000, SLEEPY), "events 8000\njudged 8000\nclean\n"),
     ("64,089 bytes", quiet(8000, SLEEPY) + b"\0", "refused 1 place 0\n"),
-    ("64,084 bytes of 16 settings, N of them stated as 8,000",
+    ("64,084 bytes that count 16 settings",
      capture([], SLEEPY, [64_084, 16, 24, 8000, 88, 0]) + bytes(63_996), "refused 2 place 0\n"),
-    ("64,084 bytes of 14 settings", capture([], header=[64_084, 14, 24, 8000, 80, 0]) + bytes(64_004), "refused 1 place 0\n"),
+    ("64,084 bytes that count 14 settings", capture([], header=[64_084, 14, 24, 8000, 80, 0]) + bytes(64_004), "refused 1 place 0\n"),
 ]
 
 
