@@ -113,12 +113,6 @@ struct Style {
 
 impl Style {
     fn new(dice: &mut Dice, sleeps: bool) -> Style {
-        // Rule 15 has more ways to be broken than any other.
-        let fault_rule = match (sleeps, dice.below(5)) {
-            (false, _) => dice.between(1, 14),
-            (true, 0) => 15,
-            (true, _) => dice.between(1, 15),
-        };
         Style {
             banks: dice.between(1, BANKS as u32),
             auto_precharge_percent: dice.pick(&[0, 20, 50, 90]),
@@ -128,7 +122,12 @@ impl Style {
             } else {
                 0
             },
-            fault_rule,
+            // Rule 15 has more ways to be broken than any other.
+            fault_rule: if sleeps {
+                dice.between(1, 18).min(15)
+            } else {
+                dice.between(1, 14)
+            },
         }
     }
 }
@@ -353,7 +352,7 @@ impl<'a> Builder<'a> {
             let command = self.idle_command();
             return Asked { command, low };
         }
-        if self.dice.percent(self.style.sleep_percent) {
+        if self.may_sleep() && self.dice.percent(self.style.sleep_percent) {
             return self.entry();
         }
         self.usual_command().into()
