@@ -1,6 +1,6 @@
 //! A second implementation of document 01 and of the customer requests that have landed,
-//! written from their words alone and slow on purpose, to hold the verified one against. The C next door answers the same questions
-//! at speed.
+//! written from their words alone and slow on purpose, to hold the verified one against.
+//! The C next door answers the same questions at speed.
 
 pub mod archive;
 pub mod c;

@@ -1,7 +1,7 @@
 //! Implementations held against each other on generated inputs: the literal one, the one
 //! that looks only at running bursts, and the C.
 
-use second::capture::{word, Refusal};
+use second::capture::{bytes_of, word, Capture, Refusal, HEADER_BYTES, SETTINGS};
 use second::generate::{input, Dice, Input, Tally};
 use second::schedule::schedule_literally;
 use second::verdict::{cells_literally, judge_literally};
@@ -182,4 +182,30 @@ fn schedules_are_clean_and_replay_as_plain_memory() {
         tried += 1;
     }
     assert!(tried > 1_000);
+}
+
+#[test]
+fn two_settings_more_change_nothing_while_cke_is_high() {
+    for input in inputs(INPUTS / 4) {
+        let Input::Capture(bytes) = input else {
+            continue;
+        };
+        let Ok(capture) = Capture::read(&bytes) else {
+            continue;
+        };
+        if capture.settings.wake.is_none() {
+            let settings = (0..SETTINGS).map(|place| word(&bytes, HEADER_BYTES + 4 * place));
+            let list: Vec<u32> = settings.chain([1, 1]).collect();
+            let sleepy = bytes_of(&list, &capture.events);
+            assert_eq!(judge(&sleepy), judge(&bytes));
+            let written = tried_cells(
+                &|c, out| packed::of_count(cells(c, out)),
+                &sleepy,
+                CELL_ROOM,
+            );
+            let expected =
+                tried_cells(&|c, out| packed::of_count(cells(c, out)), &bytes, CELL_ROOM);
+            assert!(written == expected);
+        }
+    }
 }
