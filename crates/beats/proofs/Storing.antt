@@ -12,6 +12,7 @@ use Rattle.reading.specs.Search.{count}
 use Rattle.reading.specs.Mode.{BL, interleaved}
 use Rattle.reading.specs.Bursts.{place, beatColumn}
 use Rattle.words.proofs.Runs.{sets-append}
+use Rattle.capture.proofs.Accepted.{length-count}
 use Rattle.beats.specs.Rows.{placeIn, blockCells, beatCells}
 
 count-more : (from n : ℕ) → count from (suc n) ≡ count from n ++ ((from + n) ∷ [])
