@@ -1,4 +1,4 @@
--- Reading and writing the forty places, one bank at a time.
+-- Reading and writing the places, one bank at a time.
 use Prim.Native.Nat.{ℕ, zero, suc, _+_, _%_, _<_}
 use mathlib.Core.Bool.{Bool, cond}
 use mathlib.Core.Path.{_≡_, refl}
@@ -8,7 +8,7 @@ use lib.ListN.{set}
 use Rattle.reading.specs.Search.{lesser, later}
 use Rattle.reading.specs.Settings.{Settings}
 use Rattle.deadlines.specs.Deadlines.{OPENED, AGAIN, OTHER, REST, COLUMN, CLOSE, WRITTEN, LOCKED, at, activeAfter, autoAfter, cutWrite, newWrite, restAfter}
-use Rattle.bridge.specs.Summary.{BankHeld, ReadHeld, WriteHeld, Held, laid}
+use Rattle.bridge.specs.Summary.{BankHeld, ReadHeld, WriteHeld, SleepHeld, Held, laid}
 
 -- what holds of each of the four banks
 at-bank : (P : ℕ → Type 0) → P 0 → P 1 → P 2 → P 3 → (b : ℕ) → b < 4 → P b
@@ -38,8 +38,9 @@ stands x =
     (record { opened = refl; again = refl; other = refl; rest = refl; column = refl; close = refl; written = refl; locked = refl })
 
 -- two summaries are equal group by group
-pub same : {x y : Held} → ((b : ℕ) → x .banks b ≡ y .banks b) → x .read ≡ y .read → x .write ≡ y .write → x .busy ≡ y .busy → x .due ≡ y .due → x ≡ y
-same banks read write busy due = λ u. record { banks = λ b. banks b u; read = read u; write = write u; busy = busy u; due = due u }
+pub same : {x y : Held} → ((b : ℕ) → x .banks b ≡ y .banks b) → x .read ≡ y .read → x .write ≡ y .write → x .busy ≡ y .busy →
+    x .sleep ≡ y .sleep → x ≡ y
+same banks read write busy sleep = λ u. record { banks = λ b. banks b u; read = read u; write = write u; busy = busy u; sleep = sleep u }
 
 pub same-read : {x y : ReadHeld} → x .bus ≡ y .bus → x .reads ≡ y .reads → x .reader ≡ y .reader → x ≡ y
 same-read bus reads reader = λ u. record { bus = bus u; reads = reads u; reader = reader u }
@@ -50,16 +51,16 @@ same-write writes end writer = λ u. record { writes = writes u; end = end u; wr
 -- ---- a group replaced
 
 abbrev pub banked : (ℕ → BankHeld) → Held → Held
-banked banks x = record { banks = banks; read = x .read; write = x .write; busy = x .busy; due = x .due }
+banked banks x = record { banks = banks; read = x .read; write = x .write; busy = x .busy; sleep = x .sleep }
 
 abbrev pub readGiven : ReadHeld → Held → Held
-readGiven read x = record { banks = x .banks; read = read; write = x .write; busy = x .busy; due = x .due }
+readGiven read x = record { banks = x .banks; read = read; write = x .write; busy = x .busy; sleep = x .sleep }
 
 abbrev pub writeGiven : WriteHeld → Held → Held
-writeGiven write x = record { banks = x .banks; read = x .read; write = write; busy = x .busy; due = x .due }
+writeGiven write x = record { banks = x .banks; read = x .read; write = write; busy = x .busy; sleep = x .sleep }
 
-abbrev pub timed : ℕ → ℕ → Held → Held
-timed busy due x = record { banks = x .banks; read = x .read; write = x .write; busy = busy; due = due }
+abbrev pub timed : ℕ → SleepHeld → Held → Held
+timed busy sleep x = record { banks = x .banks; read = x .read; write = x .write; busy = busy; sleep = sleep }
 
 -- ---- a bank changed: one of them, `own` tells whether this is it
 

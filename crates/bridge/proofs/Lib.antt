@@ -1,8 +1,10 @@
 -- The summary of a part answers as the part does, and the summary of the next part is the next summary.
 pub mod Laid
 pub mod Tests
+pub mod Sleeping
 pub mod Bursts
 pub mod Rules
+pub mod Low
 pub mod Cut
 pub mod Next
 pub mod Kept

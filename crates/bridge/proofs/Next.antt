@@ -12,20 +12,24 @@ use borrow.Author.Tests.{leb-true, leb-false, le-leb, lt-leb, lt-ltb, eqb-false,
 use Rattle.reading.specs.Search.{ever, find, lesser, later, orZero}
 use Rattle.reading.specs.Mode.{h, CL}
 use Rattle.reading.specs.Settings.{Settings}
+use Rattle.reading.specs.RefreshClock.{clockAfterSleep}
+use Rattle.reading.specs.Sleep.{sleepAfter}
+use Rattle.reading.specs.Rules.{rule14}
 use Rattle.reading.specs.Commands.{ACTIVE, READ, WRITE, BURST-TERMINATE, PRECHARGE, AUTO-REFRESH, MODE-REGISTER-SET, NOP, DESELECT, Command, is}
 use Rattle.reading.specs.Bursts.{Burst, reads, dataEnd}
-use Rattle.reading.specs.Part.{Part, Bank, openOn, idleFrom, cuts, cutBy, burstGiven, partAfter, bankWrite, lastBankWrite}
+use Rattle.reading.specs.Part.{Part, Bank, openOn, idleFrom, cuts, cutBy, burstGiven, clockAfter, partAfter, bankWrite, lastBankWrite}
 use Rattle.reading.proofs.Cuts.{All, nil, cons, auto-uncut}
-use Rattle.deadlines.specs.Deadlines.{WRITES, READER, at, paceOf, dueAfterRefresh, cutWrite, newWrite, autoAfter, restAfter, restAll}
+use Rattle.deadlines.specs.Deadlines.{WRITES, READER, FAR, at, paceOf, overdueFrom, quietAfter, lowAfter, selfAfter, cutWrite, newWrite, autoAfter, restAfter, restAll}
 use Rattle.deadlines.specs.Deadlines.{activeAfter, readAfter, writeAfter, cutRead, closeAfter, closeAllAfter, refreshAfter, modeSetAfter}
-use Rattle.bridge.specs.Summary.{BankHeld, Held, laid, summary, bankHeld, writeHeld, from, ended, cleared, readerOf, writerOf}
+use Rattle.bridge.specs.Summary.{BankHeld, SleepHeld, Held, laid, summary, bankHeld, writeHeld, sleepHeld, from, ended, cleared, readerOf, writerOf}
 use Rattle.bridge.proofs.Laid.{same, same-read, same-write, banked, readGiven, writeGiven, timed}
 use Rattle.bridge.proofs.Laid.{onBank, activated, shut, writtenTill, autoShut, closed, writtenBy, active-laid, auto-laid, cut-laid, new-laid, rest-laid}
 use Rattle.bridge.proofs.Bursts.{uncut, find-same, find-map, held-cut, Given, Running, all-spent, Late, nothing, read, write, Over, held-over}
 use Rattle.bridge.proofs.Bursts.{find-all, find-holds, lesser-low, lesser-add, later-low, later-high, later-add}
 use Rattle.bridge.proofs.Tests.{first-of}
 use Rattle.bridge.proofs.Cut.{cut-until, Latency, same-latency, same-reader}
-use Rattle.bridge.proofs.Rules.{does}
+use Rattle.bridge.proofs.Rules.{does, doesLow}
+use Rattle.bridge.proofs.Sleeping.{slept, stays-laid, quiet-laid, low-laid, self-laid, refresh-laid}
 
 abbrev pub Before : ℕ → Option ℕ → Type 0
 Before from none = Unit {0}
@@ -72,24 +76,66 @@ module _ (s : Settings) (p : Part) (from₀ t : ℕ) (l : from₀ ≤ t) (g : So
   -- the summary but for the bursts
   abbrev withBursts : List Burst → Held
   withBursts zs =
-      summary s (record { banks = p .banks; mode = p .mode; lastRefresh = p .lastRefresh; lastModeSet = p .lastModeSet; clock = p .clock; bursts = zs })
+      summary s
+      (record {
+        banks = p .banks;
+        mode = p .mode;
+        lastRefresh = p .lastRefresh;
+        lastModeSet = p .lastModeSet;
+        clock = p .clock;
+        sleep = p .sleep;
+        bursts = zs;
+      })
 
   unchanged : (c : Command) → ((x : Burst) → cuts p c x ≡ false) → withBursts (map (cutBy s p t c) xs) ≡ X
   unchanged c e = ap withBursts (whole c e)
 
-  pub quiet-next : (b a : ℕ) (ten : Bool) → laid (after (does NOP b a ten)) ≡ laid X
-  quiet-next b a ten = ap laid (unchanged (does NOP b a ten) (λ x. none-cut (x .writes)))
+  -- NOP and DESELECT, with CKE high and low
+  abbrev sleepy : Command → SleepHeld
+  sleepy c = sleepHeld s (clockAfter s t c (p .sleep) (p .clock)) (sleepAfter t c (p .sleep))
 
-  pub deselect-next : (b a : ℕ) (ten : Bool) → laid (after (does DESELECT b a ten)) ≡ laid X
-  deselect-next b a ten = ap laid (unchanged (does DESELECT b a ten) (λ x. none-cut (x .writes)))
+  pub quiet-next : (b a : ℕ) (ten : Bool) → rule14 s p t (does NOP b a ten) ≡ true → laid (after (does NOP b a ten)) ≡ quietAfter s (laid X) t
+  quiet-next b a ten k =
+      ap (λ (y : Held). laid (slept (sleepy (does NOP b a ten)) y)) (unchanged (does NOP b a ten) (λ x. none-cut (x .writes)))
+      ∙ quiet-laid s t (p .clock) (p .sleep .asleep) (p .sleep .self) (p .sleep .left) X k
 
-  pub refresh-next : (b a : ℕ) (ten : Bool) → X .busy ≤ t → laid (after (does AUTO-REFRESH b a ten)) ≡ refreshAfter s (laid X) t
+  pub deselect-next : (b a : ℕ) (ten : Bool) → rule14 s p t (does DESELECT b a ten) ≡ true → laid (after (does DESELECT b a ten)) ≡ quietAfter s (laid X) t
+  deselect-next b a ten k =
+      ap (λ (y : Held). laid (slept (sleepy (does DESELECT b a ten)) y)) (unchanged (does DESELECT b a ten) (λ x. none-cut (x .writes)))
+      ∙ quiet-laid s t (p .clock) (p .sleep .asleep) (p .sleep .self) (p .sleep .left) X k
+
+  pub low-next : (b a : ℕ) (ten : Bool) → t < FAR → rule14 s p t (doesLow NOP b a ten) ≡ true → laid (after (doesLow NOP b a ten)) ≡ lowAfter (laid X) t
+  low-next b a ten early k =
+      ap (λ (y : Held). laid (slept (sleepy (doesLow NOP b a ten)) y)) (unchanged (doesLow NOP b a ten) (λ x. none-cut (x .writes)))
+      ∙ low-laid s t (p .clock) early (p .sleep .asleep) (p .sleep .self) (p .sleep .left) X k
+
+  pub low-deselect-next : (b a : ℕ) (ten : Bool) → t < FAR → rule14 s p t (doesLow DESELECT b a ten) ≡ true →
+      laid (after (doesLow DESELECT b a ten)) ≡ lowAfter (laid X) t
+  low-deselect-next b a ten early k =
+      ap (λ (y : Held). laid (slept (sleepy (doesLow DESELECT b a ten)) y)) (unchanged (doesLow DESELECT b a ten) (λ x. none-cut (x .writes)))
+      ∙ low-laid s t (p .clock) early (p .sleep .asleep) (p .sleep .self) (p .sleep .left) X k
+
+  pub self-next : (b a : ℕ) (ten : Bool) → p .sleep .asleep ≡ false → laid (after (doesLow AUTO-REFRESH b a ten)) ≡ selfAfter (laid X)
+  self-next b a ten e =
+      ap (λ (y : Held). laid (slept (sleepy (doesLow AUTO-REFRESH b a ten)) y)) (unchanged (doesLow AUTO-REFRESH b a ten) (λ x. none-cut (x .writes)))
+      ∙ self-laid s t (p .clock) (p .sleep .asleep) (p .sleep .self) (p .sleep .left) X e
+
+  -- the commands with CKE high come awake, and leave sleep alone
+  awake-stays : p .sleep .asleep ≡ false →
+      sleepHeld s (cond ((p .sleep .asleep && true) && p .sleep .self) (clockAfterSleep s t) (p .clock))
+      (record { asleep = false; self = p .sleep .self; left = cond (p .sleep .asleep && true) (some t) (p .sleep .left) }) ≡ X .sleep
+  awake-stays awake = stays-laid s t (p .clock) (p .sleep .asleep) (p .sleep .self) (p .sleep .left) awake
+
+  pub refresh-next : p .sleep .asleep ≡ false → (b a : ℕ) (ten : Bool) → X .busy ≤ t → laid (after (does AUTO-REFRESH b a ten)) ≡ refreshAfter s (laid X) t
   unfolding refreshAfter
-  refresh-next b a ten busy =
+  refresh-next awake b a ten busy =
       let set = from (p .lastModeSet) (s .tMRD) in
-      ap (λ (y : Held). laid (timed (later (t + s .tRFC) set) (dueAfterRefresh s t) y))
+      let y : SleepHeld = record { overdue = overdueFrom s t; wake = X .sleep .wake; asleep = X .sleep .asleep; self = X .sleep .self } in
+      ap (λ (z : Held). laid (timed (later (t + s .tRFC) set) (sleepy (does AUTO-REFRESH b a ten)) z))
       (unchanged (does AUTO-REFRESH b a ten) (λ x. none-cut (x .writes)))
-      ∙ ap (λ (v : ℕ). laid (timed v (dueAfterRefresh s t) X)) (later-high (t + s .tRFC) set (omega (arith, busy, later-least)))
+      ∙ ap (λ (z : SleepHeld). laid (timed (later (t + s .tRFC) set) z X))
+      (refresh-laid s t (p .clock) (p .sleep .asleep) (p .sleep .self) (p .sleep .left) awake)
+      ∙ ap (λ (v : ℕ). laid (timed v y X)) (later-high (t + s .tRFC) set (omega (arith, busy, later-least)))
     where
       later-least : from (p .lastModeSet) (s .tMRD) ≤ X .busy
       later-least = go (leb (from (p .lastRefresh) (s .tRFC)) (from (p .lastModeSet) (s .tMRD))) refl
@@ -99,13 +145,14 @@ module _ (s : Settings) (p : Part) (from₀ t : ℕ) (l : from₀ ≤ t) (g : So
           go true e = omega arith
           go false e = omega (arith, leb-false (from (p .lastRefresh) (s .tRFC)) (from (p .lastModeSet) (s .tMRD)) e)
 
-  pub mode-next : (b a : ℕ) (ten : Bool) → X .busy ≤ t → laid (after (does MODE-REGISTER-SET b a ten)) ≡ modeSetAfter s (laid X) t
+  pub mode-next : p .sleep .asleep ≡ false → (b a : ℕ) (ten : Bool) → X .busy ≤ t → laid (after (does MODE-REGISTER-SET b a ten)) ≡ modeSetAfter s (laid X) t
   unfolding modeSetAfter
-  mode-next b a ten busy =
+  mode-next awake b a ten busy =
       let refreshed = from (p .lastRefresh) (s .tRFC) in
-      ap (λ (y : Held). laid (timed (later refreshed (t + s .tMRD)) (X .due) y))
+      ap (λ (z : Held). laid (timed (later refreshed (t + s .tMRD)) (sleepy (does MODE-REGISTER-SET b a ten)) z))
       (unchanged (does MODE-REGISTER-SET b a ten) (λ x. none-cut (x .writes)))
-      ∙ ap (λ (v : ℕ). laid (timed v (X .due) X)) (later-low refreshed (t + s .tMRD) (omega (arith, busy, later-least)))
+      ∙ ap (λ (z : SleepHeld). laid (timed (later refreshed (t + s .tMRD)) z X)) (awake-stays awake)
+      ∙ ap (λ (v : ℕ). laid (timed v (X .sleep) X)) (later-low refreshed (t + s .tMRD) (omega (arith, busy, later-least)))
     where
       later-least : from (p .lastRefresh) (s .tRFC) ≤ X .busy
       later-least = go (leb (from (p .lastRefresh) (s .tRFC)) (from (p .lastModeSet) (s .tMRD))) refl
@@ -115,8 +162,8 @@ module _ (s : Settings) (p : Part) (from₀ t : ℕ) (l : from₀ ≤ t) (g : So
           go true e = leb-true (from (p .lastRefresh) (s .tRFC)) (from (p .lastModeSet) (s .tMRD)) e
           go false e = omega arith
 
-  pub active-next : (b a : ℕ) (ten : Bool) → b < 4 → laid (after (does ACTIVE b a ten)) ≡ activeAfter s (laid X) t b
-  active-next b a ten m = ap laid entries ∙ sym (active-laid s X t b m)
+  pub active-next : p .sleep .asleep ≡ false → (b a : ℕ) (ten : Bool) → b < 4 → laid (after (does ACTIVE b a ten)) ≡ activeAfter s (laid X) t b
+  active-next awake b a ten m = ap laid entries ∙ sym (active-laid s X t b m)
     where
       cut : map (cutBy s p t (does ACTIVE b a ten)) xs ≡ xs
       cut = whole (does ACTIVE b a ten) (λ x. none-cut (x .writes))
@@ -129,7 +176,7 @@ module _ (s : Settings) (p : Part) (from₀ t : ℕ) (l : from₀ ≤ t) (g : So
       bank i false = refl
 
       entries : after (does ACTIVE b a ten) ≡ banked (onBank (activated s t) b (X .banks)) X
-      entries = same (λ i. rw cut (bank i (eqb i b))) (rw cut) (rw cut) refl refl
+      entries = same (λ i. rw cut (bank i (eqb i b))) (rw cut) (rw cut) refl (awake-stays awake)
 
   -- ---- what a command that is no WRITE leaves of the writes
 
@@ -186,9 +233,9 @@ module _ (s : Settings) (p : Part) (from₀ t : ℕ) (l : from₀ ≤ t) (g : So
   held-new true c H q = later-high c H q
   held-new false c H q = rw (leb·zero H)
 
-  pub read-next : (b a : ℕ) (ten : Bool) → b < 4 → X .read .reads ≤ t → laid (after (does READ b a ten)) ≡ readAfter s (laid X) (paceOf (p .mode)) t b ten
+  pub read-next : p .sleep .asleep ≡ false → (b a : ℕ) (ten : Bool) → b < 4 → X .read .reads ≤ t → laid (after (does READ b a ten)) ≡ readAfter s (laid X) (paceOf (p .mode)) t b ten
   unfolding readAfter
-  read-next b a ten m q = ap laid entries ∙ stored ten
+  read-next awake b a ten m q = ap laid entries ∙ stored ten
     where
       c : Command
       c = does READ b a ten
@@ -213,7 +260,7 @@ module _ (s : Settings) (p : Part) (from₀ t : ℕ) (l : from₀ ≤ t) (g : So
           same bank
           (same-read refl (rw (held-cut reads (λ n x. refl) s p t c xs) (held-new ten over (X .read .reads) (omega (arith, q)))) refl)
           (same-write (rw (held-cut (λ x. x .writes) (λ n x. refl) s p t c xs, leb·zero (X .write .writes))) (rw (writes-stay c refl)) (rw (writes-stay c refl)))
-          refl refl
+          refl (awake-stays awake)
 
   -- ---- WRITE: every write's data now ends by t + 1; only the last one's could end later
 
@@ -287,10 +334,10 @@ module _ (s : Settings) (p : Part) (from₀ t : ℕ) (l : from₀ ≤ t) (g : So
   open-by i none q = refl
   open-by i (some a) q = le-leb a t (omega arith)
 
-  pub write-next : (b a : ℕ) (ten : Bool) → b < 4 → X .write .writes ≤ t →
+  pub write-next : p .sleep .asleep ≡ false → (b a : ℕ) (ten : Bool) → b < 4 → X .write .writes ≤ t →
       laid (after (does WRITE b a ten)) ≡ writeAfter s (laid X) (paceOf (p .mode)) t b ten
   unfolding writeAfter
-  write-next b a ten m q = ap laid entries ∙ stored ten
+  write-next awake b a ten m q = ap laid entries ∙ stored ten
     where
       c : Command
       c = does WRITE b a ten
@@ -351,7 +398,7 @@ module _ (s : Settings) (p : Part) (from₀ t : ℕ) (l : from₀ ≤ t) (g : So
           same bank
           (same-read (rw reads-whole) (rw (held-cut reads (λ n x. refl) s p t c xs, leb·zero (X .read .reads))) (rw reads-whole))
           (same-write (rw (held-cut isWrite (λ n x. refl) s p t c xs) (held-new ten (t + h (p .mode)) (X .write .writes) (omega (arith, q)))) refl refl)
-          refl refl
+          refl (awake-stays awake)
 
   -- ---- cuts of reads
 
@@ -386,9 +433,9 @@ module _ (s : Settings) (p : Part) (from₀ t : ℕ) (l : from₀ ≤ t) (g : So
           cut-clear c x f y (rw (not-true (x .writes) (find-holds reads xs f)))
           (λ a. find-all reads (held-over reads t xs q) f .by (find-holds reads xs f) a)
 
-  pub terminate-next : (b a : ℕ) (ten : Bool) → X .read .reads ≤ t → laid (after (does BURST-TERMINATE b a ten)) ≡ cutRead (laid X) (paceOf (p .mode)) t true
+  pub terminate-next : p .sleep .asleep ≡ false → (b a : ℕ) (ten : Bool) → X .read .reads ≤ t → laid (after (does BURST-TERMINATE b a ten)) ≡ cutRead (laid X) (paceOf (p .mode)) t true
   unfolding cutRead
-  terminate-next b a ten q = ap laid entries
+  terminate-next awake b a ten q = ap laid entries
     where
       c : Command
       c = does BURST-TERMINATE b a ten
@@ -397,7 +444,7 @@ module _ (s : Settings) (p : Part) (from₀ t : ℕ) (l : from₀ ≤ t) (g : So
       bank i = ap (bankHeld s (p .banks i)) (written-stays c refl i _ refl)
 
       entries : after c ≡ readGiven (record { bus = lesser (X .read .bus) (t + CL (p .mode)); reads = X .read .reads; reader = X .read .reader }) X
-      entries = same bank (same-read (bus-ends b a ten q) (held-cut reads (λ n x. refl) s p t c xs) (same-reads c)) (writes-left c refl) refl refl
+      entries = same bank (same-read (bus-ends b a ten q) (held-cut reads (λ n x. refl) s p t c xs) (same-reads c)) (writes-left c refl) refl (awake-stays awake)
 
   -- PRECHARGE cuts the last read if the reader, which is 4 for auto precharge, is a bank that it names; where that is idle
   -- there is nothing left to cut
@@ -457,9 +504,9 @@ module _ (s : Settings) (p : Part) (from₀ t : ℕ) (l : from₀ ≤ t) (g : So
       bank-stays (does PRECHARGE b a ten) refl t i (k .opened && v)
       ∙ close-bank (k .opened) (k .row) (k .lastActive) (k .prechargeCycle) (lastBankWrite p i) v
 
-  pub close-next : (b a : ℕ) → b < 4 → laid (after (does PRECHARGE b a false)) ≡ closeAfter s (laid X) (paceOf (p .mode)) t b
+  pub close-next : p .sleep .asleep ≡ false → (b a : ℕ) → b < 4 → laid (after (does PRECHARGE b a false)) ≡ closeAfter s (laid X) (paceOf (p .mode)) t b
   unfolding closeAfter cutRead
-  close-next b a m =
+  close-next awake b a m =
       ap laid entries
       ∙ sym (ap (λ (d : List ℕ). cutRead d (paceOf (p .mode)) t (eqb (at d READER) b)) (rest-laid X (t + s .tRP) b m))
     where
@@ -475,11 +522,11 @@ module _ (s : Settings) (p : Part) (from₀ t : ℕ) (l : from₀ ≤ t) (g : So
       entries =
           same (λ i. closed-is b a false i (eqb i b))
           (same-read (bus-closes b a false (λ i. eqb i b) (ne-eqb 4 b (omega arith)) (λ x f. refl)) (held-cut reads (λ n x. refl) s p t c xs) (same-reads c))
-          (writes-left c refl) refl refl
+          (writes-left c refl) refl (awake-stays awake)
 
-  pub close-all-next : (b a : ℕ) → laid (after (does PRECHARGE b a true)) ≡ closeAllAfter s (laid X) (paceOf (p .mode)) t
+  pub close-all-next : p .sleep .asleep ≡ false → (b a : ℕ) → laid (after (does PRECHARGE b a true)) ≡ closeAllAfter s (laid X) (paceOf (p .mode)) t
   unfolding closeAllAfter cutRead restAll restAfter
-  close-all-next b a = ap laid entries
+  close-all-next awake b a = ap laid entries
     where
       c : Command
       c = does PRECHARGE b a true
@@ -495,4 +542,4 @@ module _ (s : Settings) (p : Part) (from₀ t : ℕ) (l : from₀ ≤ t) (g : So
       entries =
           same (λ i. closed-is b a true i true)
           (same-read (bus-closes b a true (λ i. ltb i 4) refl small) (held-cut reads (λ n x. refl) s p t c xs) (same-reads c))
-          (writes-left c refl) refl refl
+          (writes-left c refl) refl (awake-stays awake)

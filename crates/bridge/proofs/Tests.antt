@@ -7,10 +7,10 @@ use mathlib.Core.Path.{_≡_, refl, sym, ap}
 use native.Mathlib.Omega.{arith}
 use lib.Dec.{leb, ltb, eqb, leb·zero}
 use borrow.Author.Tests.{leb-true, leb-false, le-leb, lt-ltb, le-ltb}
-use Rattle.reading.specs.Search.{implies, ever, every, later}
+use Rattle.reading.specs.Search.{implies, ever, every, after, later}
 use Rattle.reading.specs.Mode.{h, CL}
 use Rattle.reading.specs.Bursts.{Burst, dataEnd}
-use Rattle.reading.specs.Rules.{after, autoOver}
+use Rattle.reading.specs.Rules.{autoOver}
 use Rattle.deadlines.specs.Deadlines.{orElse}
 use Rattle.bridge.specs.Summary.{from, ended, cleared, heldBy}
 

@@ -7,33 +7,43 @@ use mathlib.Core.Path.{_≡_, refl, sym, ap, _∙_, subst}
 use native.Mathlib.Nat.{add-zero, zero-add}
 use native.Mathlib.Omega.{arith}
 use lib.Dec.{leb, eqb}
-use borrow.Author.Tests.{leb-true, not-false}
-use Rattle.reading.specs.Search.{find}
+use borrow.Author.Tests.{leb-true, eqb-false, not-false}
+use Rattle.reading.specs.Search.{find, after}
 use Rattle.reading.specs.Settings.{Settings}
-use Rattle.reading.specs.Commands.{Op, ACTIVE, READ, WRITE, BURST-TERMINATE, PRECHARGE, AUTO-REFRESH, MODE-REGISTER-SET, NOP, DESELECT, Command, opOf, commandOf}
+use Rattle.reading.specs.Commands.{Op, is, quiet as quietly, ACTIVE, READ, WRITE, BURST-TERMINATE, PRECHARGE, AUTO-REFRESH, MODE-REGISTER-SET, NOP, DESELECT, Command, opOf, commandOf}
 use Rattle.reading.specs.Bursts.{reads}
 use Rattle.reading.specs.Part.{Part, start, partAfter}
-use Rattle.reading.specs.Rules.{after, keepsRule, rules, lowestBroken}
+use Rattle.reading.specs.Rules.{keepsRule, rules, lowestBroken}
 use Rattle.reading.proofs.Cuts.{nil}
 use Rattle.reading.proofs.Found.{find-none}
-use Rattle.deadlines.specs.Deadlines.{paceOf, startOf}
-use Rattle.pins.specs.Pins.{codeOf, bankOf, addressOf, tenOf}
-use Rattle.steps.specs.Steps.{stepBreaks, stepAfter, paceAfter}
+use Rattle.deadlines.specs.Deadlines.{FAR, paceOf, startOf, closeBreaks, closeAllBreaks}
+use Rattle.pins.specs.Pins.{codeOf, bankOf, addressOf, tenOf, lowOf, quietCode}
+use Rattle.steps.specs.Steps.{unlessLower, highBreaks, stepBreaks, stepAfter, paceAfter}
 use Rattle.steps.proofs.Codes as codes
 use Rattle.pins.proofs.Pins.{turned, op-is}
 use Rattle.bridge.specs.Summary.{Held, laid, summary, from}
 use Rattle.bridge.proofs.Tests.{num, first-of, after-is, leb-later, held-is, cleared-is}
 use Rattle.bridge.proofs.Bursts.{terminate-is, nothing}
-use Rattle.bridge.proofs.Rules.{does, quiet, deselect, read-agrees, write-agrees, active-agrees, terminate-agrees, close-agrees, close-all-agrees, refresh-agrees, mode-agrees}
-use Rattle.bridge.proofs.Next.{Sound, quiet-next, deselect-next, refresh-next, mode-next, active-next, read-next, write-next, terminate-next, close-next, close-all-next}
+use Rattle.bridge.proofs.Rules.{does, doesLow, says, quiet, deselect, read-agrees, write-agrees, active-agrees, terminate-agrees, close-agrees, close-all-agrees, refresh-agrees, mode-agrees}
+use Rattle.bridge.proofs.Next.{Sound, quiet-next, deselect-next, low-next, low-deselect-next, self-next, refresh-next, mode-next, active-next, read-next, write-next, terminate-next, close-next, close-all-next}
+use Rattle.bridge.proofs.Low.{command-agrees, low-agrees, low-deselect-agrees, self-agrees}
 use Rattle.bridge.proofs.Kept.{kept-plain, kept-mode, kept-read, kept-write}
 
-carries : (w q : ℕ) → codeOf w ≡ q → commandOf w ≡ does (opOf (turned q)) (bankOf w) (addressOf w) (tenOf w)
-carries w q e = ap (λ (o : Op). does o (bankOf w) (addressOf w) (tenOf w)) (op-is w ∙ ap (λ (v : ℕ). opOf (turned v)) e)
+carries : (w q : ℕ) (v : Bool) → lowOf w ≡ v → codeOf w ≡ q →
+    commandOf w ≡ record { op = opOf (turned q); bank = bankOf w; address = addressOf w; A10 = tenOf w; low = v }
+carries w q v n e =
+    λ i.
+    record {
+      op = (op-is w ∙ ap (λ (k : ℕ). opOf (turned k)) e) i;
+      bank = bankOf w;
+      address = addressOf w;
+      A10 = tenOf w;
+      low = n i;
+    }
 
 -- ---- one event
 
-module _ (s : Settings) (wide : s .rowBits < 32) (p : Part) (from₀ t : ℕ) (l : from₀ ≤ t) (g : Sound from₀ p) (w : ℕ) where
+module _ (s : Settings) (wide : s .rowBits < 32) (p : Part) (from₀ t : ℕ) (l : from₀ ≤ t) (early : t < FAR) (g : Sound from₀ p) (w : ℕ) where
   -- the deadlines, h and CL, and what holds of the part, after an event that keeps every rule
   pub record Onward (c : Command) : Type 0 where
     pub leaves : stepAfter s (laid (summary s p)) (paceOf (p .mode)) t w ≡ laid (summary s (partAfter s p t c))
@@ -65,6 +75,20 @@ module _ (s : Settings) (wide : s .rowBits < 32) (p : Part) (from₀ t : ℕ) (l
 
   thirteenth : List·Memᴰ 13 rules
   thirteenth = there (there (there (there (there (there (there (there (there (there (there (there here)))))))))))
+
+  fourteenth : List·Memᴰ 14 rules
+  fourteenth = there (there (there (there (there (there (there (there (there (there (there (there (there here))))))))))))
+
+  fifteenth : List·Memᴰ 15 rules
+  fifteenth = there (there (there (there (there (there (there (there (there (there (there (there (there (there here)))))))))))))
+
+  -- a command that waits comes awake
+  awake : (v : Bool) → cond (p .sleep .asleep) false v ≡ true → p .sleep .asleep ≡ false
+  awake v = go (p .sleep .asleep)
+    where
+      go : (a : Bool) → cond a false v ≡ true → a ≡ false
+      go true e = let z : _≡_ {A = ℕ} 0 1 = cc in absurd (omega arith)
+      go false e = refl
 
   abbrev X : Held
   X = summary s p
@@ -100,27 +124,27 @@ module _ (s : Settings) (wide : s .rowBits < 32) (p : Part) (from₀ t : ℕ) (l
   unfolding b
   small = omega arith
 
-  turn-active : codeOf w ≡ 12 → Turned (commandOf w)
+  turn-active : lowOf w ≡ false → codeOf w ≡ 12 → Turned (commandOf w)
   unfolding b a ten
-  turn-active e =
-      turn 12 (does ACTIVE b a ten) (carries w 12 e) (codes.active s (laid X) (paceOf (p .mode)) t w refl refl e) (active-agrees s p t b a ten small wide)
-      (λ z. active-next s p from₀ t l g b a ten small) refl (λ z. kept-plain s p from₀ t l g (does ACTIVE b a ten) refl refl)
+  turn-active n e =
+      turn 12 (does ACTIVE b a ten) (carries w 12 false n e) (codes.active s (laid X) (paceOf (p .mode)) t w refl refl n e) (active-agrees s p t early b a ten small wide)
+      (λ z. active-next s p from₀ t l g (awake _ (kept (does ACTIVE b a ten) z 15 fifteenth)) b a ten small) refl (λ z. kept-plain s p from₀ t l g (does ACTIVE b a ten) refl refl)
 
-  turn-read : codeOf w ≡ 10 → Turned (commandOf w)
+  turn-read : lowOf w ≡ false → codeOf w ≡ 10 → Turned (commandOf w)
   unfolding b a ten
-  turn-read e =
-      turn 10 c (carries w 10 e) (codes.read s (laid X) (paceOf (p .mode)) t w refl refl e) (read-agrees s p t b a ten small)
-      (λ z. read-next s p from₀ t l g b a ten small (leb-true (X .read .reads) t (sym (held-is reads t (p .bursts)) ∙ kept c z 13 thirteenth)))
+  turn-read n e =
+      turn 10 c (carries w 10 false n e) (codes.read s (laid X) (paceOf (p .mode)) t w refl refl n e) (read-agrees s p t early b a ten small)
+      (λ z. read-next s p from₀ t l g (awake _ (kept c z 15 fifteenth)) b a ten small (leb-true (X .read .reads) t (sym (held-is reads t (p .bursts)) ∙ kept c z 13 thirteenth)))
       refl (λ z. kept-read s p from₀ t l g b a ten small (kept c z 3 third))
     where
       c : Command
       c = does READ b a ten
 
-  turn-write : codeOf w ≡ 2 → Turned (commandOf w)
+  turn-write : lowOf w ≡ false → codeOf w ≡ 2 → Turned (commandOf w)
   unfolding b a ten
-  turn-write e =
-      turn 2 c (carries w 2 e) (codes.write s (laid X) (paceOf (p .mode)) t w refl refl e) (write-agrees s p t b a ten small)
-      (λ z. write-next s p from₀ t l g b a ten small (held z)) refl (λ z. kept-write s p from₀ t l g b a ten small (free z) (held z))
+  turn-write n e =
+      turn 2 c (carries w 2 false n e) (codes.write s (laid X) (paceOf (p .mode)) t w refl refl n e) (write-agrees s p t early b a ten small)
+      (λ z. write-next s p from₀ t l g (awake _ (kept c z 15 fifteenth)) b a ten small (held z)) refl (λ z. kept-write s p from₀ t l g b a ten small (free z) (held z))
     where
       c : Command
       c = does WRITE b a ten
@@ -131,25 +155,25 @@ module _ (s : Settings) (wide : s .rowBits < 32) (p : Part) (from₀ t : ℕ) (l
       held : lowestBroken rules s p t c ≡ none → X .write .writes ≤ t
       held z = leb-true (X .write .writes) t (sym (held-is (λ x. x .writes) t (p .bursts)) ∙ kept c z 13 thirteenth)
 
-  turn-close : codeOf w ≡ 4 → Turned (commandOf w)
+  turn-close : lowOf w ≡ false → codeOf w ≡ 4 → Turned (commandOf w)
   unfolding b a ten
-  turn-close e = go (tenOf w) refl
+  turn-close n e = go (tenOf w) refl
     where
       go : (v : Bool) → tenOf w ≡ v → Turned (commandOf w)
       go true f =
-          turn 4 (does PRECHARGE b a true) (carries w 4 e ∙ ap (does PRECHARGE b a) f) (codes.close-all s (laid X) (paceOf (p .mode)) t w e f)
-          (close-all-agrees s p t b a) (λ z. close-all-next s p from₀ t l g b a) refl
+          turn 4 (does PRECHARGE b a true) (carries w 4 false n e ∙ ap (does PRECHARGE b a) f) (codes.close-all s (laid X) (paceOf (p .mode)) t w n e f)
+          (close-all-agrees s p t early b a) (λ z. close-all-next s p from₀ t l g (awake _ (kept (does PRECHARGE b a true) z 15 fifteenth)) b a) refl
           (λ z. kept-plain s p from₀ t l g (does PRECHARGE b a true) refl refl)
       go false f =
-          turn 4 (does PRECHARGE b a false) (carries w 4 e ∙ ap (does PRECHARGE b a) f) (codes.close s (laid X) (paceOf (p .mode)) t w refl e f)
-          (close-agrees s p t b a small) (λ z. close-next s p from₀ t l g b a small) refl
+          turn 4 (does PRECHARGE b a false) (carries w 4 false n e ∙ ap (does PRECHARGE b a) f) (codes.close s (laid X) (paceOf (p .mode)) t w refl n e f)
+          (close-agrees s p t early b a small) (λ z. close-next s p from₀ t l g (awake _ (kept (does PRECHARGE b a false) z 15 fifteenth)) b a small) refl
           (λ z. kept-plain s p from₀ t l g (does PRECHARGE b a false) refl refl)
 
-  turn-terminate : codeOf w ≡ 6 → Turned (commandOf w)
+  turn-terminate : lowOf w ≡ false → codeOf w ≡ 6 → Turned (commandOf w)
   unfolding b a ten
-  turn-terminate e =
-      turn 6 c (carries w 6 e) (codes.terminate s (laid X) (paceOf (p .mode)) t w e) (terminate-agrees s p t b a ten from₀ l (g .bursts) (g .late))
-      (λ z. terminate-next s p from₀ t l g b a ten (held z)) refl (λ z. kept-plain s p from₀ t l g c refl refl)
+  turn-terminate n e =
+      turn 6 c (carries w 6 false n e) (codes.terminate s (laid X) (paceOf (p .mode)) t w n e) (terminate-agrees s p t early b a ten from₀ l (g .bursts) (g .late))
+      (λ z. terminate-next s p from₀ t l g (awake _ (kept c z 15 fifteenth)) b a ten (held z)) refl (λ z. kept-plain s p from₀ t l g c refl refl)
     where
       c : Command
       c = does BURST-TERMINATE b a ten
@@ -159,20 +183,20 @@ module _ (s : Settings) (wide : s .rowBits < 32) (p : Part) (from₀ t : ℕ) (l
           leb-true (X .read .reads) t
           (first-of (leb (X .read .reads) t) _ (sym (terminate-is from₀ t l (s .tWTR) (g .bursts) (g .late)) ∙ kept c z 13 thirteenth))
 
-  turn-refresh : codeOf w ≡ 8 → Turned (commandOf w)
+  turn-refresh : lowOf w ≡ false → codeOf w ≡ 8 → Turned (commandOf w)
   unfolding b a ten
-  turn-refresh e =
-      turn 8 c (carries w 8 e) (codes.refresh s (laid X) (paceOf (p .mode)) t w e) (refresh-agrees s p t b a ten)
-      (λ z. refresh-next s p from₀ t l g b a ten (both-after (kept c z 4 fourth))) refl (λ z. kept-plain s p from₀ t l g c refl refl)
+  turn-refresh n e =
+      turn 8 c (carries w 8 false n e) (codes.refresh s (laid X) (paceOf (p .mode)) t w n e) (refresh-agrees s p t early b a ten)
+      (λ z. refresh-next s p from₀ t l g (awake _ (kept c z 15 fifteenth)) b a ten (both-after (kept c z 4 fourth))) refl (λ z. kept-plain s p from₀ t l g c refl refl)
     where
       c : Command
       c = does AUTO-REFRESH b a ten
 
-  turn-mode : codeOf w ≡ 0 → Turned (commandOf w)
+  turn-mode : lowOf w ≡ false → codeOf w ≡ 0 → Turned (commandOf w)
   unfolding b a ten
-  turn-mode e =
-      turn 0 c (carries w 0 e) (codes.mode-set s (laid X) (paceOf (p .mode)) t w refl refl e) (mode-agrees s p t b a ten)
-      (λ z. mode-next s p from₀ t l g b a ten (both-after (kept c z 4 fourth))) (which (eqb b 0))
+  turn-mode n e =
+      turn 0 c (carries w 0 false n e) (codes.mode-set s (laid X) (paceOf (p .mode)) t w refl refl n e) (mode-agrees s p t early b a ten)
+      (λ z. mode-next s p from₀ t l g (awake _ (kept c z 15 fifteenth)) b a ten (both-after (kept c z 4 fourth))) (which (eqb b 0))
       (λ z. kept-mode s p from₀ t l g b a ten (leb-true (X .read .bus) t (sym (cleared-is (find reads (p .bursts)) t) ∙ kept c z 12 twelfth)))
     where
       c : Command
@@ -182,20 +206,20 @@ module _ (s : Settings) (wide : s .rowBits < 32) (p : Part) (from₀ t : ℕ) (l
       which true = refl
       which false = refl
 
-  turn-quiet : (q : ℕ) → codeOf w ≡ q → codes.Quiet s (laid X) (paceOf (p .mode)) t w q → opOf (turned q) ≡ NOP → Turned (commandOf w)
+  turn-quiet : lowOf w ≡ false → (q : ℕ) → codeOf w ≡ q → codes.Quiet s (laid X) (paceOf (p .mode)) t w q → opOf (turned q) ≡ NOP → Turned (commandOf w)
   unfolding b a ten
-  turn-quiet q e n o =
-      turn q c (carries w q e ∙ ap (λ (k : Op). does k b a ten) o) (codes.quiet s (laid X) (paceOf (p .mode)) t w (sym e) n) (quiet s p t b a ten)
-      (λ z. quiet-next s p from₀ t l g b a ten) refl (λ z. kept-plain s p from₀ t l g c refl refl)
+  turn-quiet k q e n o =
+      turn q c (carries w q false k e ∙ ap (λ (y : Op). does y b a ten) o) (codes.quiet s (laid X) (paceOf (p .mode)) t w (sym e) k n) (quiet s p t early b a ten)
+      (λ z. quiet-next s p from₀ t l g b a ten (kept c z 14 fourteenth)) refl (λ z. kept-plain s p from₀ t l g c refl refl)
     where
       c : Command
       c = does NOP b a ten
 
-  turn-deselect : (q : ℕ) → codeOf w ≡ q → codes.Quiet s (laid X) (paceOf (p .mode)) t w q → opOf (turned q) ≡ DESELECT → Turned (commandOf w)
+  turn-deselect : lowOf w ≡ false → (q : ℕ) → codeOf w ≡ q → codes.Quiet s (laid X) (paceOf (p .mode)) t w q → opOf (turned q) ≡ DESELECT → Turned (commandOf w)
   unfolding b a ten
-  turn-deselect q e n o =
-      turn q c (carries w q e ∙ ap (λ (k : Op). does k b a ten) o) (codes.quiet s (laid X) (paceOf (p .mode)) t w (sym e) n) (deselect s p t b a ten)
-      (λ z. deselect-next s p from₀ t l g b a ten) refl (λ z. kept-plain s p from₀ t l g c refl refl)
+  turn-deselect k q e n o =
+      turn q c (carries w q false k e ∙ ap (λ (y : Op). does y b a ten) o) (codes.quiet s (laid X) (paceOf (p .mode)) t w (sym e) k n) (deselect s p t early b a ten)
+      (λ z. deselect-next s p from₀ t l g b a ten (kept c z 14 fourteenth)) refl (λ z. kept-plain s p from₀ t l g c refl refl)
     where
       c : Command
       c = does DESELECT b a ten
@@ -213,39 +237,156 @@ module _ (s : Settings) (wide : s .rowBits < 32) (p : Part) (from₀ t : ℕ) (l
         no-mode-set = f 0 (omega arith);
       }
 
-  -- an odd code has CS# high
-  pub turned-event : Turned (commandOf w)
-  turned-event = go (codeOf w) refl (omega arith)
+  -- ---- with CKE low
+
+  turn-low-quiet : lowOf w ≡ true → (q : ℕ) → codeOf w ≡ q → codes.Quiet s (laid X) (paceOf (p .mode)) t w q → opOf (turned q) ≡ NOP → Turned (commandOf w)
+  unfolding b a ten
+  turn-low-quiet k q e n o =
+      turn q c (carries w q true k e ∙ ap (λ (y : Op). doesLow y b a ten) o) (codes.low-quiet s (laid X) (paceOf (p .mode)) t w (sym e) k n)
+      (low-agrees s p t early b a ten) (λ z. low-next s p from₀ t l g b a ten early (kept c z 14 fourteenth)) refl
+      (λ z. kept-plain s p from₀ t l g c refl refl)
+    where
+      c : Command
+      c = doesLow NOP b a ten
+
+  turn-low-deselect : lowOf w ≡ true → (q : ℕ) → codeOf w ≡ q → codes.Quiet s (laid X) (paceOf (p .mode)) t w q → opOf (turned q) ≡ DESELECT →
+      Turned (commandOf w)
+  unfolding b a ten
+  turn-low-deselect k q e n o =
+      turn q c (carries w q true k e ∙ ap (λ (y : Op). doesLow y b a ten) o) (codes.low-quiet s (laid X) (paceOf (p .mode)) t w (sym e) k n)
+      (low-deselect-agrees s p t early b a ten) (λ z. low-deselect-next s p from₀ t l g b a ten early (kept c z 14 fourteenth)) refl
+      (λ z. kept-plain s p from₀ t l g c refl refl)
+    where
+      c : Command
+      c = doesLow DESELECT b a ten
+
+  turn-low-refresh : lowOf w ≡ true → codeOf w ≡ 8 → Turned (commandOf w)
+  unfolding b a ten
+  turn-low-refresh n e =
+      turn 8 c (carries w 8 true n e) (codes.low-refresh s (laid X) (paceOf (p .mode)) t w n e) (self-agrees s p t early b a ten)
+      (λ z. self-next s p from₀ t l g b a ten (awake _ (kept c z 15 fifteenth))) refl (λ z. kept-plain s p from₀ t l g c refl refl)
+    where
+      c : Command
+      c = doesLow AUTO-REFRESH b a ten
+
+  -- any other command breaks a rule
+  turn-low-command : (q : ℕ) (o : Op) → lowOf w ≡ true → codeOf w ≡ q → opOf (turned q) ≡ o → eqb q 8 ≡ false → quietCode q ≡ false →
+      quietly (does o b a ten) ≡ false → is AUTO-REFRESH (does o b a ten) ≡ false → highBreaks s (laid X) t w ≡ says s p t o b a ten → Turned (commandOf w)
+  unfolding b a ten
+  turn-low-command q o n e f g₁ g₂ h₁ h₂ agrees =
+      subst (λ (k : Command). Turned k) (sym (carries w q true n e ∙ ap (λ (y : Op). doesLow y b a ten) f))
+      (record { breaks = breaks; onward = λ z. absurd (never-none (says s p t o b a ten) (sym (command-agrees s p t o b a ten h₁ h₂) ∙ ap num z)) })
+    where
+      breaks : stepBreaks s (laid X) t w ≡ num (lowestBroken rules s p t (doesLow o b a ten))
+      breaks =
+          codes.low-command s (laid X) (paceOf (p .mode)) t w n (ap (λ (k : ℕ). eqb k 8) e ∙ g₁) (ap quietCode e ∙ g₂) .breaks
+          ∙ ap unlessLower agrees ∙ sym (command-agrees s p t o b a ten h₁ h₂)
+
+      never-none : (r : ℕ) → unlessLower r ≡ 0 → ⊥
+      never-none r = go (eqb r 0) refl
+        where
+          go : (v : Bool) → eqb r 0 ≡ v → cond v 15 r ≡ 0 → ⊥
+          go true k z = omega arith
+          go false k z = eqb-false r 0 k z
+
+  turn-low-active : lowOf w ≡ true → codeOf w ≡ 12 → Turned (commandOf w)
+  unfolding b a ten
+  turn-low-active n e = turn-low-command 12 ACTIVE n e refl refl refl refl refl (rw e (sym (active-agrees s p t early b a ten small wide)))
+
+  turn-low-read : lowOf w ≡ true → codeOf w ≡ 10 → Turned (commandOf w)
+  unfolding b a ten
+  turn-low-read n e = turn-low-command 10 READ n e refl refl refl refl refl (rw e (sym (read-agrees s p t early b a ten small)))
+
+  turn-low-write : lowOf w ≡ true → codeOf w ≡ 2 → Turned (commandOf w)
+  unfolding b a ten
+  turn-low-write n e = turn-low-command 2 WRITE n e refl refl refl refl refl (rw e (sym (write-agrees s p t early b a ten small)))
+
+  turn-low-terminate : lowOf w ≡ true → codeOf w ≡ 6 → Turned (commandOf w)
+  unfolding b a ten
+  turn-low-terminate n e =
+      turn-low-command 6 BURST-TERMINATE n e refl refl refl refl refl (rw e (sym (terminate-agrees s p t early b a ten from₀ l (g .bursts) (g .late))))
+
+  turn-low-mode : lowOf w ≡ true → codeOf w ≡ 0 → Turned (commandOf w)
+  unfolding b a ten
+  turn-low-mode n e = turn-low-command 0 MODE-REGISTER-SET n e refl refl refl refl refl (rw e (sym (mode-agrees s p t early b a ten)))
+
+  turn-low-close : lowOf w ≡ true → codeOf w ≡ 4 → Turned (commandOf w)
+  unfolding b a ten
+  turn-low-close n e = turn-low-command 4 PRECHARGE n e refl refl refl refl refl (rw e (go (tenOf w)))
+    where
+      go : (v : Bool) → cond v (closeAllBreaks (laid X) t) (closeBreaks (laid X) t b) ≡ says s p t PRECHARGE b a v
+      go true = sym (close-all-agrees s p t early b a)
+      go false = sym (close-agrees s p t early b a small)
+
+  -- ---- every event: an odd code has CS# high
+
+  awake-event : lowOf w ≡ false → Turned (commandOf w)
+  awake-event n = go (codeOf w) refl (omega arith)
     where
       high : (q : ℕ) → codeOf w ≡ q → (q % 2 ≡ 1) → opOf (turned q) ≡ DESELECT → Turned (commandOf w)
-      high q e n o = turn-deselect q e (silent q (λ m k f. omega arith)) o
+      high q e k o = turn-deselect n q e (silent q (λ m j f. omega arith)) o
 
       quiet-14 : codeOf w ≡ 14 → Turned (commandOf w)
-      quiet-14 e = turn-quiet 14 e (silent 14 (λ m k f. omega arith)) refl
+      quiet-14 e = turn-quiet n 14 e (silent 14 (λ m j f. omega arith)) refl
 
       go : (q : ℕ) → codeOf w ≡ q → q < 16 → Turned (commandOf w)
-      go zero e m = turn-mode e
+      go zero e m = turn-mode n e
       go (suc zero) e m = high 1 e refl refl
-      go (suc (suc zero)) e m = turn-write e
+      go (suc (suc zero)) e m = turn-write n e
       go (suc (suc (suc zero))) e m = high 3 e refl refl
-      go (suc (suc (suc (suc zero)))) e m = turn-close e
+      go (suc (suc (suc (suc zero)))) e m = turn-close n e
       go (suc (suc (suc (suc (suc zero))))) e m = high 5 e refl refl
-      go (suc (suc (suc (suc (suc (suc zero)))))) e m = turn-terminate e
+      go (suc (suc (suc (suc (suc (suc zero)))))) e m = turn-terminate n e
       go (suc (suc (suc (suc (suc (suc (suc zero))))))) e m = high 7 e refl refl
-      go (suc (suc (suc (suc (suc (suc (suc (suc zero)))))))) e m = turn-refresh e
+      go (suc (suc (suc (suc (suc (suc (suc (suc zero)))))))) e m = turn-refresh n e
       go (suc (suc (suc (suc (suc (suc (suc (suc (suc zero))))))))) e m = high 9 e refl refl
-      go (suc (suc (suc (suc (suc (suc (suc (suc (suc (suc zero)))))))))) e m = turn-read e
+      go (suc (suc (suc (suc (suc (suc (suc (suc (suc (suc zero)))))))))) e m = turn-read n e
       go (suc (suc (suc (suc (suc (suc (suc (suc (suc (suc (suc zero))))))))))) e m = high 11 e refl refl
-      go (suc (suc (suc (suc (suc (suc (suc (suc (suc (suc (suc (suc zero)))))))))))) e m = turn-active e
+      go (suc (suc (suc (suc (suc (suc (suc (suc (suc (suc (suc (suc zero)))))))))))) e m = turn-active n e
       go (suc (suc (suc (suc (suc (suc (suc (suc (suc (suc (suc (suc (suc zero))))))))))))) e m = high 13 e refl refl
       go (suc (suc (suc (suc (suc (suc (suc (suc (suc (suc (suc (suc (suc (suc zero)))))))))))))) e m = quiet-14 e
       go (suc (suc (suc (suc (suc (suc (suc (suc (suc (suc (suc (suc (suc (suc (suc zero))))))))))))))) e m = high 15 e refl refl
       go (suc (suc (suc (suc (suc (suc (suc (suc (suc (suc (suc (suc (suc (suc (suc (suc q)))))))))))))))) e m = absurd (omega arith)
 
+  low-event : lowOf w ≡ true → Turned (commandOf w)
+  low-event n = go (codeOf w) refl (omega arith)
+    where
+      low-high : (q : ℕ) → codeOf w ≡ q → (q % 2 ≡ 1) → opOf (turned q) ≡ DESELECT → Turned (commandOf w)
+      low-high q e k o = turn-low-deselect n q e (silent q (λ m j f. omega arith)) o
+
+      low-14 : codeOf w ≡ 14 → Turned (commandOf w)
+      low-14 e = turn-low-quiet n 14 e (silent 14 (λ m j f. omega arith)) refl
+
+      go : (q : ℕ) → codeOf w ≡ q → q < 16 → Turned (commandOf w)
+      go zero e m = turn-low-mode n e
+      go (suc zero) e m = low-high 1 e refl refl
+      go (suc (suc zero)) e m = turn-low-write n e
+      go (suc (suc (suc zero))) e m = low-high 3 e refl refl
+      go (suc (suc (suc (suc zero)))) e m = turn-low-close n e
+      go (suc (suc (suc (suc (suc zero))))) e m = low-high 5 e refl refl
+      go (suc (suc (suc (suc (suc (suc zero)))))) e m = turn-low-terminate n e
+      go (suc (suc (suc (suc (suc (suc (suc zero))))))) e m = low-high 7 e refl refl
+      go (suc (suc (suc (suc (suc (suc (suc (suc zero)))))))) e m = turn-low-refresh n e
+      go (suc (suc (suc (suc (suc (suc (suc (suc (suc zero))))))))) e m = low-high 9 e refl refl
+      go (suc (suc (suc (suc (suc (suc (suc (suc (suc (suc zero)))))))))) e m = turn-low-read n e
+      go (suc (suc (suc (suc (suc (suc (suc (suc (suc (suc (suc zero))))))))))) e m = low-high 11 e refl refl
+      go (suc (suc (suc (suc (suc (suc (suc (suc (suc (suc (suc (suc zero)))))))))))) e m = turn-low-active n e
+      go (suc (suc (suc (suc (suc (suc (suc (suc (suc (suc (suc (suc (suc zero))))))))))))) e m = low-high 13 e refl refl
+      go (suc (suc (suc (suc (suc (suc (suc (suc (suc (suc (suc (suc (suc (suc zero)))))))))))))) e m = low-14 e
+      go (suc (suc (suc (suc (suc (suc (suc (suc (suc (suc (suc (suc (suc (suc (suc zero))))))))))))))) e m = low-high 15 e refl refl
+      go (suc (suc (suc (suc (suc (suc (suc (suc (suc (suc (suc (suc (suc (suc (suc (suc q)))))))))))))))) e m = absurd (omega arith)
+
+  pub turned-event : Turned (commandOf w)
+  turned-event = go (lowOf w) refl
+    where
+      go : (v : Bool) → lowOf w ≡ v → Turned (commandOf w)
+      go true n = low-event n
+      go false n = awake-event n
+
 -- at the start
 pub start-laid : (s : Settings) → startOf s ≡ laid (summary s (start s))
 unfolding startOf
-start-laid s = rw (add-zero (s .GAP), zero-add (s .GAP), zero-add (s .tRAS))
+start-laid s = rw (zero-add (s .tRAS))
 
 pub start-sound : (s : Settings) → Sound 0 (start s)
 start-sound s = record { bursts = nil; banks = λ b. tt; late = nothing; latency = tt; running = nil }

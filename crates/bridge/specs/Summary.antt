@@ -7,8 +7,10 @@ use mathlib.Core.Option.{Option, none, some}
 use Rattle.reading.specs.Search.{orZero, find, later}
 use Rattle.reading.specs.Settings.{Settings}
 use Rattle.reading.specs.RefreshClock.{Clock}
+use Rattle.reading.specs.Sleep.{Sleep}
 use Rattle.reading.specs.Bursts.{Burst, reads, wholeEnd, readEnd, dataEnd}
 use Rattle.reading.specs.Part.{Bank, Part, lastBankWrite}
+use Rattle.deadlines.specs.Deadlines.{FAR, overdueFrom}
 
 -- so long after it, 0 where it has not happened
 abbrev pub from : Option ℕ → ℕ → ℕ
@@ -19,9 +21,9 @@ abbrev pub ended : Option Burst → ℕ → ℕ
 ended none wait = 0
 ended (some x) wait = dataEnd x + wait
 
--- the last cycle that the refresh clock lets through
-abbrev pub dueBy : Settings → Clock → ℕ
-dueBy s c = c .since + s .GAP
+-- the first cycle that is too late for the refresh clock
+abbrev pub overdueBy : Settings → Clock → ℕ
+overdueBy s k = overdueFrom s (k .since)
 
 -- the bus is free of a read's data
 abbrev pub cleared : Option Burst → ℕ
@@ -67,18 +69,25 @@ pub record WriteHeld : Type 0 where
   pub end : ℕ
   pub writer : ℕ
 
--- busy: of the commands that make all others wait; due: of the refresh clock
+-- of sleep and of the refresh clock, which stands in another place asleep
+pub record SleepHeld : Type 0 where
+  pub overdue : ℕ
+  pub wake : ℕ
+  pub asleep : ℕ
+  pub self : ℕ
+
+-- busy: of the commands that make all others wait
 pub record Held : Type 0 where
   pub banks : ℕ → BankHeld
   pub read : ReadHeld
   pub write : WriteHeld
   pub busy : ℕ
-  pub due : ℕ
+  pub sleep : SleepHeld
 
 abbrev pub four : (ℕ → BankHeld) → (BankHeld → ℕ) → List ℕ → List ℕ
 four banks f tail = f (banks 0) ∷ f (banks 1) ∷ f (banks 2) ∷ f (banks 3) ∷ tail
 
--- in the order of the forty places
+-- in the order of the places
 abbrev pub laid : Held → List ℕ
 laid x =
     four (x .banks) (λ b. b .opened)
@@ -89,8 +98,9 @@ laid x =
     (four (x .banks) (λ b. b .close)
     (four (x .banks) (λ b. b .written)
     (four (x .banks) (λ b. b .locked)
-    (x .busy ∷ x .due
-    ∷ x .read .bus ∷ x .read .reads ∷ x .write .writes ∷ x .write .end ∷ x .read .reader ∷ x .write .writer ∷ []))))))))
+    (x .busy ∷ x .sleep .overdue
+    ∷ x .read .bus ∷ x .read .reads ∷ x .write .writes ∷ x .write .end ∷ x .read .reader ∷ x .write .writer
+    ∷ x .sleep .wake ∷ x .sleep .asleep ∷ x .sleep .self ∷ []))))))))
 
 -- ---- of the reading's part
 
@@ -119,6 +129,15 @@ writeHeld s xs =
       writer = writerOf (find (λ x. x .writes) xs);
     }
 
+abbrev pub sleepHeld : Settings → Clock → Sleep → SleepHeld
+sleepHeld s k x =
+    record {
+      overdue = cond (x .asleep) 0 (overdueBy s k);
+      wake = from (x .left) (cond (x .self) (s .tXSR) (s .tXP));
+      asleep = cond (x .asleep) (cond (x .self) FAR (overdueBy s k)) 0;
+      self = cond (x .asleep) (cond (x .self) 1 0) 0;
+    }
+
 abbrev pub summary : Settings → Part → Held
 summary s p =
     record {
@@ -126,5 +145,5 @@ summary s p =
       read = readHeld (p .bursts);
       write = writeHeld s (p .bursts);
       busy = later (from (p .lastRefresh) (s .tRFC)) (from (p .lastModeSet) (s .tMRD));
-      due = dueBy s (p .clock);
+      sleep = sleepHeld s (p .clock) (p .sleep);
     }

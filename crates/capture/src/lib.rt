@@ -1,6 +1,7 @@
 // A capture in bytes: whether it is accepted, and its settings and events.
 use settings::COUNT;
 use settings::Checked;
+use settings::SLEEPING;
 use settings::Settings;
 use words::Found;
 ghost use mathlib.Core.Path.{_≡_};
@@ -9,36 +10,91 @@ ghost use mathlib.Core.Option.{none};
 ghost use Prim.Native.Nat.{_+_, _*_, _≤_};
 ghost use lib.ListN.{length};
 ghost use Rattle.words.specs.Found.{placeOf};
-ghost use Rattle.reading.specs.Capture.{eventCount, settingWords, eventBytes, eventAt, lengthFits, headerFits, badEvent};
+ghost use lib.Dec.{eqb};
+ghost use Rattle.reading.specs.Settings.{sleepingCount};
+ghost use Rattle.reading.specs.Capture.{headerWord, countIn, eventsStart, pinLimit, eventCount, settingWords, eventBytes, eventAt, lengthFits, headerFits, badEvent};
 ghost use Rattle.reading.specs.Answers.{answered, accepted};
-ghost use Rattle.settings.specs.Meaning.{means};
+ghost use Rattle.settings.specs.Meaning.{means, padded};
 ghost use Rattle.capture.specs.Meaning.{fitsFrom};
 
-// Where the settings start, and where the events do.
+// How many settings a capture states, without sleep and with it.
+const COUNT_STATED: u32 = COUNT as u32;
+
+const SLEEPING_STATED: u32 = SLEEPING as u32;
+
+// Where the settings start.
 pub const SETTINGS: usize = 24;
 
+// Where the events of a capture without sleep start, and of one with sleep.
 pub const EVENTS: usize = SETTINGS + 4 * COUNT;
+
+const SLEEPING_EVENTS: usize = SETTINGS + 4 * SLEEPING;
 
 const MOST_EVENTS: u32 = 8_000;
 
-// The bytes of the shortest and of the longest capture.
-pub const LEAST: usize = EVENTS;
+// The bytes of the longest capture.
+pub const MOST: usize = SLEEPING_EVENTS + 8 * (MOST_EVENTS as usize);
 
-pub const MOST: usize = EVENTS + 8 * (MOST_EVENTS as usize);
-
-// Pin words are below this: bits 20-31 are zero.
+// Pin words are below this: above the pins, bits are zero. CKE is a pin where there is sleep.
 const PINS: u32 = 1 << 20;
 
+const SLEEPING_PINS: u32 = 1 << 21;
+
 const LAST_CYCLE: u32 = 2_000_000_000;
+
+// Its settings have those of sleep among them.
+fn sleeping(capture: &[u8]) -> bool
+    requires { ⌜ 24 ≤ length (now capture) ⌝ }
+    ensures { λ r. ⌜ r ≡ eqb (headerWord (now (capture .entry)) 1) sleepingCount ⌝ }
+{
+    words::word_at(capture, 4) == SLEEPING_STATED
+}
+
+// How many settings it has.
+fn settings_count(capture: &[u8]) -> u32
+    requires { ⌜ 24 ≤ length (now capture) ⌝ }
+    ensures { λ r. ⌜ r ≡ countIn (now (capture .entry)) ⌝ }
+    ensures { λ r. ⌜ (14 ≤ r) × (r ≤ 16) ⌝ }
+{
+    if sleeping(capture) {
+        SLEEPING_STATED
+    } else {
+        COUNT_STATED
+    }
+}
+
+// Where its events start.
+pub fn events_start(capture: &[u8]) -> u32
+    requires { ⌜ 24 ≤ length (now capture) ⌝ }
+    ensures { λ r. ⌜ r ≡ eventsStart (countIn (now (capture .entry))) ⌝ }
+    ensures { λ r. ⌜ (80 ≤ r) × (r ≤ 88) ⌝ }
+{
+    SETTINGS as u32 + 4 * settings_count(capture)
+}
+
+fn pin_limit(capture: &[u8]) -> u32
+    requires { ⌜ 24 ≤ length (now capture) ⌝ }
+    ensures { λ r. ⌜ r ≡ pinLimit (now (capture .entry)) ⌝ }
+{
+    if sleeping(capture) {
+        SLEEPING_PINS
+    } else {
+        PINS
+    }
+}
 
 fn bad_length(capture: &[u8]) -> bool
     ensures { λ r. ⌜ r ≡ not (lengthFits (now (capture .entry))) ⌝ }
 {
     let size = capture.len();
-    if size < LEAST {
+    if size < EVENTS {
         return true;
     }
-    if MOST < size {
+    let start = events_start(capture) as usize;
+    if size < start {
+        return true;
+    }
+    if start + 8 * (MOST_EVENTS as usize) < size {
         return true;
     }
     words::word_at(capture, 0) as usize != size
@@ -56,7 +112,8 @@ fn bad_header(capture: &[u8]) -> bool
     requires { ⌜ 24 ≤ length (now capture) ⌝ }
     ensures { λ r. ⌜ r ≡ not (headerFits (now (capture .entry))) ⌝ }
 {
-    if words::word_at(capture, 4) != COUNT as u32 {
+    let count = settings_count(capture);
+    if words::word_at(capture, 4) != count {
         return true;
     }
     if words::word_at(capture, 8) != SETTINGS as u32 {
@@ -66,22 +123,24 @@ fn bad_header(capture: &[u8]) -> bool
     if MOST_EVENTS < n {
         return true;
     }
-    if words::word_at(capture, 16) != EVENTS as u32 {
+    let start = SETTINGS as u32 + 4 * count;
+    if words::word_at(capture, 16) != start {
         return true;
     }
     if words::word_at(capture, 20) != 0 {
         return true;
     }
-    words::word_at(capture, 0) != EVENTS as u32 + 8 * n
+    words::word_at(capture, 0) != start + 8 * n
 }
 
-// The settings, as words.
+// The settings, as words; 0 for those of sleep where there is none.
 pub fn setting_words(capture: &[u8]) -> Settings
-    requires { ⌜ 80 ≤ length (now capture) ⌝ }
-    ensures { λ r. ⌜ r ≡ settingWords (now (capture .entry)) ⌝ }
+    requires { ⌜ eventsStart (countIn (now capture)) ≤ length (now capture) ⌝ }
+    ensures { λ r. ⌜ r ≡ padded (settingWords (now (capture .entry))) ⌝ }
 {
-    let mut loaded = [0u32; COUNT];
-    for i in 0..COUNT {
+    let mut loaded = [0u32; SLEEPING];
+    let n = settings_count(capture) as usize;
+    for i in 0..n {
         loaded[i] = words::word_at(capture, SETTINGS + 4 * i);
     }
     loaded
@@ -89,10 +148,11 @@ pub fn setting_words(capture: &[u8]) -> Settings
 
 // The bytes from where the events start; event i stands at 8 i in them.
 pub fn event_bytes(capture: &[u8]) -> &[u8]
-    requires { ⌜ 80 ≤ length (now capture) ⌝ }
+    requires { ⌜ eventsStart (countIn (now capture)) ≤ length (now capture) ⌝ }
     ensures { λ r. ⌜ now r ≡ eventBytes (now (capture .entry)) ⌝ }
 {
-    &capture[EVENTS..]
+    let start = events_start(capture) as usize;
+    &capture[start..]
 }
 
 // The cycle of event i in those bytes.
@@ -111,10 +171,10 @@ pub fn pins_at(bytes: &[u8], i: usize) -> u32
 }
 
 // An event may have these words where `next` is the first cycle that is above the one before.
-fn event_fits(next: u32, cycle: u32, pins: u32) -> bool
-    ensures { λ r. ⌜ r ≡ fitsFrom next cycle pins ⌝ }
+fn event_fits(limit: u32, next: u32, cycle: u32, pins: u32) -> bool
+    ensures { λ r. ⌜ r ≡ fitsFrom limit next cycle pins ⌝ }
 {
-    if PINS <= pins {
+    if limit <= pins {
         return false;
     }
     if LAST_CYCLE < cycle {
@@ -130,36 +190,36 @@ fn both(a: bool, b: bool) -> bool
 }
 
 // Told of a capture without a branch for each event, as most are: cycles that rise are not too large if the last is not.
-fn all_fit(bytes: &[u8], n: usize) -> bool
+fn all_fit(limit: u32, bytes: &[u8], n: usize) -> bool
     requires { ⌜ (n ≤ 8000) × (8 * n ≤ length (now bytes)) ⌝ }
-    ensures { λ r. ⌜ (r ≡ true → badEvent 20 (now (bytes .entry)) n ≡ none) ⌝ }
+    ensures { λ r. ⌜ (r ≡ true → badEvent limit (now (bytes .entry)) n ≡ none) ⌝ }
 {
     if n == 0 {
         return true;
     }
-    let mut fine = pins_at(bytes, 0) < PINS;
+    let mut fine = pins_at(bytes, 0) < limit;
     let mut last = cycle_at(bytes, 0);
     for i in 1..n {
         let t = cycle_at(bytes, i);
         let w = pins_at(bytes, i);
-        fine = both(fine, both(last < t, w < PINS));
+        fine = both(fine, both(last < t, w < limit));
         last = t;
     }
     both(fine, last <= LAST_CYCLE)
 }
 
-fn lowest_bad_event(bytes: &[u8], n: usize) -> Found
+fn lowest_bad_event(limit: u32, bytes: &[u8], n: usize) -> Found
     requires { ⌜ (n ≤ 8000) × (8 * n ≤ length (now bytes)) ⌝ }
-    ensures { λ r. ⌜ placeOf r ≡ badEvent 20 (now (bytes .entry)) n ⌝ }
+    ensures { λ r. ⌜ placeOf r ≡ badEvent limit (now (bytes .entry)) n ⌝ }
 {
-    if all_fit(bytes, n) {
+    if all_fit(limit, bytes, n) {
         return Found::Nothing;
     }
     let mut next = 0;
     'events: for i in 0..n {
         let cycle = cycle_at(bytes, i);
         let pins = pins_at(bytes, i);
-        if event_fits(next, cycle, pins) {
+        if event_fits(limit, next, cycle, pins) {
             next = cycle + 1;
             continue 'events;
         }
@@ -185,12 +245,13 @@ pub fn open(capture: &[u8]) -> Checked
         };
     }
     let loaded = setting_words(capture);
-    let setting = settings::lowest_bad(&loaded);
+    let settings = settings_count(capture) as usize;
+    let setting = settings::lowest_bad(&loaded, settings);
     if let Found::At(place) = setting {
         return Checked::Refused { number: 3, place };
     }
     let n = event_count(capture) as usize;
-    let Found::At(place) = lowest_bad_event(event_bytes(capture), n) else {
+    let Found::At(place) = lowest_bad_event(pin_limit(capture), event_bytes(capture), n) else {
         return Checked::Fine;
     };
     Checked::Refused { number: 4, place }

@@ -62,7 +62,7 @@ READER = 38
 abbrev pub WRITER : ℕ
 WRITER = 39
 
--- rule 15, once sleep was left; asleep, the first cycle at which rule 14 is broken, and 0 awake; 1 in self refresh
+-- rule 15, awake; asleep, the first cycle at which rule 14 is broken, and 0 awake; 1 in self refresh
 abbrev pub WAKE : ℕ
 WAKE = 40
 
@@ -294,13 +294,13 @@ modeSetAfter s d t = set d BUSY (t + s .tMRD)
 
 -- asleep the refresh clock stands where OVERDUE is not looked at
 unfoldable pub enterAfter : List ℕ → List ℕ
-enterAfter d = set (set d ASLEEP (at d OVERDUE)) OVERDUE 0
+enterAfter d = set (set (set d ASLEEP (at d OVERDUE)) OVERDUE 0) WAKE 0
 
 unfoldable pub lowAfter : List ℕ → ℕ → List ℕ
 lowAfter d t = cond (ltb t (at d ASLEEP)) d (enterAfter d)
 
 unfoldable pub selfAfter : List ℕ → List ℕ
-selfAfter d = set (set (set d ASLEEP FAR) OVERDUE 0) SELF 1
+selfAfter d = set (set (set (set d ASLEEP FAR) OVERDUE 0) WAKE 0) SELF 1
 
 -- NOP and DESELECT with CKE high leave sleep: power-down, and self refresh
 unfoldable pub powerUpAfter : Settings → List ℕ → ℕ → List ℕ

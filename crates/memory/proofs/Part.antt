@@ -37,7 +37,7 @@ record Kind (writes : Bool) (c : Command) : Type 0 where
 
 -- READ or WRITE, as the request says
 kind : (writes : Bool) (bank address : ℕ) (auto : Bool) →
-    Kind writes (record { op = cond writes WRITE READ; bank = bank; address = address; A10 = auto })
+    Kind writes (record { op = cond writes WRITE READ; bank = bank; address = address; A10 = auto; low = false })
 kind true bank address auto = record { burst = refl; mode = refl; same = refl }
 kind false bank address auto = record { burst = refl; mode = refl; same = refl }
 

@@ -51,7 +51,7 @@ activeCommand s q = command ACTIVE (cellBank s (firstCell q)) (cellRow s (firstC
 -- with or without auto precharge
 abbrev pub burstCommand : Settings → ℕ → ℕ → Bool → Command
 burstCommand s q address auto =
-    record { op = cond (asksWrite q) WRITE READ; bank = cellBank s (firstCell q); address = address; A10 = auto }
+    record { op = cond (asksWrite q) WRITE READ; bank = cellBank s (firstCell q); address = address; A10 = auto; low = false }
 
 module _ (s : Settings) (f : Sized s) where
   pub column-back : (c : ℕ) → c < 2 ^ s .columnBits → columnOf s (columnPins true c) ≡ c

@@ -12,7 +12,7 @@ use lib.ListN.{length, length-append, length-map, length-reverse, getD}
 use Rattle.reading.specs.Search.{find, lowest, given}
 use Rattle.reading.specs.Search as search
 use Rattle.reading.specs.Settings.{Settings, settingsOf, settingFits, badSetting}
-use Rattle.reading.specs.Capture.{Event, eventCount, settingWords, eventBytes, eventAt, eventsOf, lengthFits, headerFits, pinBits, eventFits, badEvent}
+use Rattle.reading.specs.Capture.{Event, eventCount, settingWords, eventBytes, eventAt, eventsOf, lengthFits, headerFits, pinLimit, eventFits, badEvent}
 use Rattle.reading.specs.Commands.{READ, WRITE, among, commandOf}
 use Rattle.reading.specs.Bursts.{Burst, beatCell, burstCells}
 use Rattle.reading.specs.Part.{Part, start, step, run, cutBy, burstGiven}
@@ -74,24 +74,24 @@ bad-setting : (ws : List ℕ) (place : ℕ) → length ws ≤ 14 → badSetting 
 unfolding badSetting
 bad-setting ws place l e = omega (arith, below (λ i. not (settingFits i (getD ws i 0))) (length ws) place e)
 
-bad-event : (bits : ℕ) (bytes : List ℕ) (n place : ℕ) → n ≤ 8000 → badEvent bits bytes n ≡ some place → Value place
+bad-event : (bits : ℕ) (bytes : List ℕ) (n place : ℕ) → n ≤ 8000 → badEvent limit bytes n ≡ some place → Value place
 unfolding badEvent
-bad-event bits bytes n place l e = omega (arith, below (λ i. not (eventFits bits bytes i)) n place e)
+bad-event bits bytes n place l e = omega (arith, below (λ i. not (eventFits limit bytes i)) n place e)
 
 -- what holds of small refusals, and of what follows when there are at most 8,000 events, holds
 pub on-accepted : {A : Type 0} (P : Answer A → Type 0) (capture : List ℕ) (rest : Answer A) →
     ((number place : ℕ) → Number number → Value place → P (refused number place)) → (eventCount capture ≤ 8000 → P rest) → P (accepted capture rest)
 unfolding accepted
 on-accepted {A} P capture rest refusing going-on =
-    go (given 0 (not (lengthFits capture))) (given 0 (not (headerFits capture))) (badSetting (settingWords capture)) (badEvent (pinBits capture) (eventBytes capture) (eventCount capture))
+    go (given 0 (not (lengthFits capture))) (given 0 (not (headerFits capture))) (badSetting (settingWords capture)) (badEvent (pinLimit capture) (eventBytes capture) (eventCount capture))
     refl refl refl refl
   where
     go : (a b c d : Option ℕ) → given 0 (not (lengthFits capture)) ≡ a → given 0 (not (headerFits capture)) ≡ b → badSetting (settingWords capture) ≡ c →
-        badEvent (pinBits capture) (eventBytes capture) (eventCount capture) ≡ d → P (unless 1 a (unless 2 b (unless 3 c (unless 4 d rest))))
+        badEvent (pinLimit capture) (eventBytes capture) (eventCount capture) ≡ d → P (unless 1 a (unless 2 b (unless 3 c (unless 4 d rest))))
     go (some place) b c d p q r s = refusing 1 place (omega arith) (at-zero (not (lengthFits capture)) place p)
     go none (some place) c d p q r s = refusing 2 place (omega arith) (at-zero (not (headerFits capture)) place q)
     go none none (some place) d p q r s = refusing 3 place (omega arith) (bad-setting (settingWords capture) place (omega (arith, words-count capture)) r)
-    go none none none (some place) p q r s = refusing 4 place (omega arith) (bad-event (pinBits capture) (eventBytes capture) (eventCount capture) place (few capture p q) s)
+    go none none none (some place) p q r s = refusing 4 place (omega arith) (bad-event (pinLimit capture) (eventBytes capture) (eventCount capture) place (few capture p q) s)
     go none none none none p q r s = going-on (few capture p q)
 
 -- ---- the judge

@@ -1,7 +1,7 @@
 // Pin words: what the pins of an event ask for, and the pins that ask for a command.
 ghost use mathlib.Core.Path.{_≡_};
 ghost use Prim.Native.Nat.{_<_};
-ghost use Rattle.pins.specs.Pins.{codeOf, wideCodeOf, bankOf, addressOf, tenOf};
+ghost use Rattle.pins.specs.Pins.{codeOf, wideCodeOf, bankOf, addressOf, tenOf, lowOf};
 
 // The command pins as a number: CS#, RAS#, CAS#, WE#, CS# the lowest. The odd ones are DESELECT.
 pub const ACTIVE: u32 = 12;
@@ -60,4 +60,11 @@ pub fn ten(w: u32) -> bool
     ensures { λ r. ⌜ r ≡ tenOf w ⌝ }
 {
     w / 1024 % 2 == 1
+}
+
+// CKE is low.
+pub fn low(w: u32) -> bool
+    ensures { λ r. ⌜ r ≡ lowOf w ⌝ }
+{
+    w / 1_048_576 % 2 == 1
 }

@@ -1,26 +1,26 @@
 -- A schedule written as a whole capture is accepted, holds the settings and the events, and is judged clean.
 use Prim.Native.Nat.{ℕ, zero, suc, _+_, _-_, _*_, _^_, _≤_, _<_}
-use mathlib.Core.Bool.{Bool, true, false, not, _&&_}
+use mathlib.Core.Bool.{Bool, true, false, cond, not, _&&_}
 use mathlib.Core.List.{List, [], _∷_, _++_, map, append-nil}
 use mathlib.Core.Option.{none}
 use mathlib.Core.Path.{_≡_, refl, sym, ap, _∙_}
 use native.Mathlib.Nat.{add-zero, zero-add, add-suc, suc-add}
 use native.Mathlib.Omega.{arith}
-use lib.Dec.{leb, eqb·suc-zero}
-use lib.ListN.{length, getD, length-append, List·getD-append}
+use lib.Dec.{leb, eqb, eqb·suc-zero}
+use lib.ListN.{length, getD, drop, length-append, List·getD-append}
 use lib.Seq.{getD-append-add}
-use borrow.Author.Tests.{leb-true, le-leb, lt-ltb, le-ltb, eq-eqb, not-false}
+use borrow.Author.Tests.{leb-true, le-leb, lt-ltb, le-ltb, eq-eqb}
 use Rattle.reading.specs.Search.{every, find, count}
 use Rattle.reading.specs.Words.{wordAt, bytesOf}
-use Rattle.reading.specs.Settings.{Limits, limits, settingsOf, settingFits, badSetting}
-use Rattle.reading.specs.Capture.{Event, headerWord, eventCount, settingWords, eventBytes, eventAt, eventsOf, lengthFits, headerFits, lastCycle, eventFits, badEvent}
+use Rattle.reading.specs.Settings.{Limits, settingsCount, sleepingCount, limits, settingsOf, settingFits, badSetting}
+use Rattle.reading.specs.Capture.{Event, settingsStart, eventsStart, captureSize, headerWord, countIn, eventCount, settingWords, eventBytes, eventAt, eventsOf}
+use Rattle.reading.specs.Capture.{lengthFits, headerFits, pinLimit, lastCycle, eventFits, badEvent}
 use Rattle.reading.specs.Verdict.{clean, verdictOf}
 use Rattle.reading.specs.Schedule.{badRequest, freeFrom, planned, scheduleOf, eventWords, captureOf}
 use Rattle.reading.specs.Answers.{Answer, Report, answered, accepted, verdictIn, judgeAnswer}
 use Rattle.reading.proofs.Meaning.{eventOf}
 use Rattle.words.proofs.Words.{bytesOf-length, word-drop, word-of-bytes}
-use Rattle.words.proofs.Search.{none-below}
-use Rattle.settings.proofs.Fitting.{rowAt, at-most}
+use Rattle.settings.proofs.Fitting.{rowAt, at-most, in-range}
 use Rattle.plan.proofs.Ranged.{ranged}
 use Rattle.plan.proofs.Reached.{Rises}
 use Rattle.plan.proofs.Ready.{Planned, few-requests, schedule-planned}
@@ -99,8 +99,7 @@ pins-word (e ∷ es) (suc i) = let k : 2 * suc i + 1 ≡ suc (suc (2 * i + 1)) =
 
 pub settings-fit : (ws : List ℕ) → length ws ≡ 14 → badSetting ws ≡ none → (i : ℕ) → i < 14 → settingFits i (getD ws i 0) ≡ true
 unfolding badSetting
-settings-fit ws fourteen good i l =
-    not-false (settingFits i (getD ws i 0)) (none-below (λ j. not (settingFits j (getD ws j 0))) (length ws) good i (omega (arith, fourteen)))
+settings-fit ws fourteen good i l = in-range ws (length ws) good i (omega (arith, fourteen))
 
 -- clean, all events judged
 abbrev pub allClean : List Event → Report
@@ -116,13 +115,16 @@ module _ (ws : List ℕ) (es : List Event) (fourteen : length ws ≡ 14) where
   all-length : length all ≡ 20 + 2 * length es
   all-length = omega (arith, length-append (header es ++ ws) (eventWords es), length-append (header es) ws, words-length es)
 
-  pub size : length (captureOf ws es) ≡ 80 + 8 * length es
+  pub in-words : captureOf ws es ≡ bytesOf all
   unfolding captureOf
-  size = omega (arith, bytesOf-length all, all-length)
+  in-words =
+      ap (λ (n : ℕ). bytesOf ((captureSize n (length es) ∷ n ∷ settingsStart ∷ length es ∷ eventsStart n ∷ 0 ∷ []) ++ ws ++ eventWords es)) fourteen
+
+  pub size : length (captureOf ws es) ≡ 80 + 8 * length es
+  size = ap length in-words ∙ omega (arith, bytesOf-length all, all-length)
 
   word : (i : ℕ) → i < length all → getD all i 0 < 2 ^ 32 → wordAt (captureOf ws es) (4 * i) ≡ getD all i 0
-  unfolding captureOf
-  word i l k = ap (λ (x : List ℕ). wordAt x (4 * i)) (sym (append-nil (bytesOf all))) ∙ word-of-bytes all [] i l k
+  word i l k = ap (λ (x : List ℕ). wordAt x (4 * i)) (in-words ∙ sym (append-nil (bytesOf all))) ∙ word-of-bytes all [] i l k
 
   head : (i : ℕ) → i < 6 → getD all i 0 < 2 ^ 32 → headerWord (captureOf ws es) i ≡ getD all i 0
   head i l k = word i (omega (arith, all-length)) k
@@ -134,6 +136,15 @@ module _ (ws : List ℕ) (es : List Event) (fourteen : length ws ≡ 14) (good :
 
   abbrev W : List ℕ
   W = all ws es fourteen
+
+  said : headerWord C 1 ≡ settingsCount
+  said = head ws es fourteen 1 (omega arith) (omega arith)
+
+  pub held : countIn C ≡ settingsCount
+  held = ap (λ (n : ℕ). cond (eqb n sleepingCount) sleepingCount settingsCount) said
+
+  pub awake-pins : pinLimit C ≡ 2 ^ 20
+  awake-pins = ap (λ (n : ℕ). cond (eqb n sleepingCount) (2 ^ 21) (2 ^ 20)) said
 
   pub counts : eventCount C ≡ length es
   counts = head ws es fourteen 3 (omega arith) (omega arith)
@@ -152,7 +163,7 @@ module _ (ws : List ℕ) (es : List Event) (fourteen : length ws ≡ 14) (good :
 
   pub settings-back : settingWords C ≡ ws
   unfolding settingWords
-  settings-back = counted (λ i. wordAt C (24 + 4 * i)) 0 0 14 ws fourteen (λ i l. rw (zero-add i) (setting-word i l))
+  settings-back = rw held (counted (λ i. wordAt C (24 + 4 * i)) 0 0 14 ws fourteen (λ i l. rw (zero-add i) (setting-word i l)))
 
   -- events
   event-word : (j v : ℕ) → getD (eventWords es) j 0 ≡ v → j < 2 * length es → v < 2 ^ 32 → wordAt (eventBytes C) (4 * j) ≡ v
@@ -160,7 +171,7 @@ module _ (ws : List ℕ) (es : List Event) (fourteen : length ws ≡ 14) (good :
       let m : 80 + 4 * j ≡ 4 * (20 + j) = omega arith in
       let n : 20 ≡ length (header es ++ ws) = omega (arith, length-append (header es) ws) in
       let f : getD W (20 + j) 0 ≡ v = ap (λ (x : ℕ). getD W (x + j) 0) n ∙ getD-append-add (header es ++ ws) (eventWords es) j 0 ∙ e in
-      word-drop 80 C (4 * j) ∙ ap (wordAt C) m ∙ word ws es fourteen (20 + j) (omega (arith, all-length ws es fourteen)) (rw f k) ∙ f
+      ap (λ (n : ℕ). wordAt (drop (eventsStart n) C) (4 * j)) held ∙ word-drop 80 C (4 * j) ∙ ap (wordAt C) m ∙ word ws es fourteen (20 + j) (omega (arith, all-length ws es fourteen)) (rw f k) ∙ f
 
   cycle-back : (i : ℕ) → i < length es → eventAt (eventBytes C) i .cycle ≡ eventOf es i .cycle
   cycle-back i l =
@@ -179,7 +190,7 @@ module _ (ws : List ℕ) (es : List Event) (fourteen : length ws ≡ 14) (good :
       (counted (eventAt (eventBytes C)) (record { cycle = 0; pins = 0 }) 0 (length es) es refl
       (λ i l. rw (zero-add i) (λ u. record { cycle = cycle-back i l u; pins = pins-back i l u })))
 
-  event-fits : (i : ℕ) → i < length es → eventFits 20 (eventBytes C) i ≡ true
+  event-fits : (i : ℕ) → i < length es → eventFits (2 ^ 20) (eventBytes C) i ≡ true
   unfolding eventFits
   event-fits zero l =
       let w = within 0 es rises 0 l in
@@ -202,6 +213,7 @@ module _ (ws : List ℕ) (es : List Event) (fourteen : length ws ≡ 14) (good :
   unfolding lengthFits
   right-length =
       rw (
+        held,
         head ws es fourteen 0 (omega arith) (omega arith),
         size ws es fourteen,
         le-leb 80 (80 + 8 * length es) (omega arith),
@@ -213,7 +225,8 @@ module _ (ws : List ℕ) (es : List Event) (fourteen : length ws ≡ 14) (good :
   unfolding headerFits
   right-header =
       rw (
-        head ws es fourteen 1 (omega arith) (omega arith),
+        held,
+        said,
         head ws es fourteen 2 (omega arith) (omega arith),
         counts,
         head ws es fourteen 4 (omega arith) (omega arith),
@@ -223,13 +236,13 @@ module _ (ws : List ℕ) (es : List Event) (fourteen : length ws ≡ 14) (good :
         eq-eqb (80 + 8 * length es) (80 + 8 * length es) refl,
       )
 
-  right-events : badEvent 20 (eventBytes C) (eventCount C) ≡ none
+  right-events : badEvent (2 ^ 20) (eventBytes C) (eventCount C) ≡ none
   unfolding badEvent
-  right-events = rw counts (nowhere (λ i. not (eventFits 20 (eventBytes C) i)) 0 (length es) (λ i l. rw (zero-add i) (ap not (event-fits i l))))
+  right-events = rw counts (nowhere (λ i. not (eventFits (2 ^ 20) (eventBytes C) i)) 0 (length es) (λ i l. rw (zero-add i) (ap not (event-fits i l))))
 
   pub captured : {A : Type 0} (rest : Answer A) → accepted C rest ≡ rest
   unfolding accepted
-  captured rest = rw (right-length, right-header, settings-back, good, right-events)
+  captured rest = rw (right-length, right-header, settings-back, good, awake-pins, right-events)
 
   pub captured-verdict : verdictIn C ≡ verdictOf (settingsOf ws) es
   unfolding verdictIn

@@ -5,6 +5,7 @@ pub mod Passing
 pub mod Near
 pub mod Sending
 pub mod Reached
+pub mod Awake
 pub mod Placed
 pub mod Ready
 pub mod Captured

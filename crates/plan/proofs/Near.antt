@@ -12,8 +12,8 @@ use Rattle.reading.specs.Search.{lesser, later}
 use Rattle.reading.specs.Mode.{h, CL}
 use Rattle.reading.specs.Settings.{Settings}
 use Rattle.reading.proofs.Cuts.{All, nil, cons}
-use Rattle.deadlines.specs.Deadlines.{OPENED, AGAIN, OTHER, REST, COLUMN, CLOSE, WRITTEN, LOCKED, BUSY, DUE, BUS, READS, WRITES, END, READER, WRITER, at}
-use Rattle.deadlines.specs.Deadlines.{Wait, otherBank, soonest, paceOf, startOf, activeAfter, autoAfter, readAfter, cutWrite, newWrite, writeAfter, refreshAfter}
+use Rattle.deadlines.specs.Deadlines.{OPENED, AGAIN, OTHER, REST, COLUMN, CLOSE, WRITTEN, LOCKED, BUSY, OVERDUE, BUS, READS, WRITES, END, READER, WRITER, at}
+use Rattle.deadlines.specs.Deadlines.{Wait, otherBank, soonest, overdueFrom, paceOf, startOf, activeAfter, autoAfter, readAfter, cutWrite, newWrite, writeAfter, refreshAfter}
 use Rattle.bridge.proofs.Bursts.{lesser-left}
 use Rattle.plan.specs.Soonest.{activeSoonest, readSoonest, writeSoonest, burstSoonest, refreshSoonest}
 use Rattle.plan.proofs.Ranged.{Ranged}
@@ -23,7 +23,7 @@ abbrev pub wait : ℕ
 wait = 20100
 
 pub record Near (free : ℕ) (d : List ℕ) : Type 0 where
-  pub by : (j : ℕ) → (j ≡ DUE → ⊥) → at d j ≤ free + wait
+  pub by : (j : ℕ) → (j ≡ OVERDUE → ⊥) → at d j ≤ free + wait
 
 h-small : (m : ℕ) → h m ≤ 64
 h-small m =
@@ -51,8 +51,8 @@ module _ {n : ℕ} {d : List ℕ} (near : Near n d) where
   near-set : (i v : ℕ) → v ≤ n + wait → Near n (set d i v)
   near-set i v l = record { by = λ j u. stored d i v j (n + wait) l (near .by j u) }
 
-  near-due : (v : ℕ) → Near n (set d DUE v)
-  near-due v = record { by = λ j u. rw (getD-set-other d DUE j v 0 u) (near .by j u) }
+  near-overdue : (v : ℕ) → Near n (set d OVERDUE v)
+  near-overdue v = record { by = λ j u. rw (getD-set-other d OVERDUE j v 0 u) (near .by j u) }
 
   near-on : (m : ℕ) → n ≤ m → Near m d
   near-on m l = record { by = λ j u. omega (arith, near .by j u) }
@@ -72,7 +72,7 @@ module _ (s : Settings) (g : Ranged s) {n : ℕ} {d : List ℕ} (near : Near n d
 
   pub near-refresh : Near (suc t) (refreshAfter s d t)
   unfolding refreshAfter
-  near-refresh = near-due (near-set now BUSY (t + s .tRFC) (omega (arith, g .tRFC))) (t + s .GAP)
+  near-refresh = near-overdue (near-set now BUSY (t + s .tRFC) (omega (arith, g .tRFC))) (overdueFrom s t)
 
   module _ (b : ℕ) (lb : b < 4) where
     pub near-active : Near (suc t) (activeAfter s d t b)
@@ -112,8 +112,8 @@ module _ (s : Settings) (g : Ranged s) {n : ℕ} {d : List ℕ} (near : Near n d
 pub near-start : (s : Settings) → Ranged s → Near 0 (startOf s)
 unfolding startOf
 near-start s g =
-    let d₀ : Near 0 (replicate 40 0) = record { by = λ j u. nothing 40 j } in
-    let d₁ = near-due d₀ (s .GAP + 0) in
+    let d₀ : Near 0 (replicate 43 0) = record { by = λ j u. nothing 43 j } in
+    let d₁ = near-overdue d₀ (overdueFrom s 0) in
     let d₂ = near-set d₁ READER 4 (omega arith) in
     let d₃ = near-set d₂ LOCKED (s .tRAS + s .tRP) (omega (arith, g .tRAS, g .tRP)) in
     let d₄ = near-set d₃ (LOCKED + 1) (s .tRAS + s .tRP) (omega (arith, g .tRAS, g .tRP)) in

@@ -12,6 +12,7 @@ use Rattle.reading.specs.Words.{bit}
 use Rattle.reading.specs.Settings.{Settings}
 use Rattle.reading.specs.Capture.{Event}
 use Rattle.reading.specs.Commands.{READ, WRITE, AUTO-REFRESH, Command}
+use Rattle.reading.specs.Sleep.{sleepAtStart}
 use Rattle.reading.specs.Part.{Bank, Part, idleFrom, partAfter}
 use Rattle.reading.specs.Rules.{placing}
 use Rattle.reading.specs.Schedule.{asksWrite, firstCell, cellBank, cellRow, cellColumn, requestFits, activePins, columnPins, burstPins, refreshPins, freeFrom, placed, send}
@@ -29,6 +30,7 @@ use Rattle.plan.proofs.Passing.{passed, carried-passes, active-passed, 
 use Rattle.plan.proofs.Near.{Near, near-active, near-read, near-write, near-refresh, active-most, burst-most, refresh-most}
 use Rattle.plan.proofs.Sending.{later-first, later-second, Goes, goes-free, goes-soonest}
 use Rattle.plan.proofs.Reached.{Reached, Sent, part-is, sent}
+use Rattle.plan.proofs.Awake.{awake, awake-now, awake-clock}
 
 -- all banks are idle; bank b alone is open
 abbrev pub Idle : Settings → List Event → Type 0
@@ -66,11 +68,11 @@ module _ (s : Settings) (p : Part) (b a : ℕ) (lb : b < 4) (own : p .banks b .o
   burst-passed u false = read-passed s p u b a true lb own
 
   module _ (from t : ℕ) (l : from ≤ t) (g : Sound from p) where
-    burst-leaves : (write : Bool) → burstSoonest write (laid X) b ≤ t →
+    burst-leaves : p .sleep .asleep ≡ false → (write : Bool) → burstSoonest write (laid X) b ≤ t →
         laid (summary s (partAfter s p t (bursts write))) ≡ burstAfter write s (laid X) (p .mode) t b
     unfolding readSoonest writeSoonest
-    burst-leaves true k = write-next s p from t l g b a true lb (le-trans (waited (writeWaits (laid X) b) 3) k)
-    burst-leaves false k = read-next s p from t l g b a true lb (le-trans (waited (readWaits (laid X) b) 3) k)
+    burst-leaves up true k = write-next s p from t l g up b a true lb (le-trans (waited (writeWaits (laid X) b) 3) k)
+    burst-leaves up false k = read-next s p from t l g up b a true lb (le-trans (waited (readWaits (laid X) b) 3) k)
 
     burst-sound : (write : Bool) → burstSoonest write (laid X) b ≤ t → Sound (suc t) (partAfter s p t (bursts write))
     unfolding readSoonest writeSoonest
@@ -86,9 +88,9 @@ module _ (s : Settings) (p : Part) (b a : ℕ) (lb : b < 4) (own : p .banks b .o
   burst-mode t true = refl
   burst-mode t false = refl
 
-  burst-clock : (t : ℕ) (write : Bool) → partAfter s p t (bursts write) .clock ≡ p .clock
-  burst-clock t true = refl
-  burst-clock t false = refl
+  burst-clock : p .sleep ≡ sleepAtStart → (t : ℕ) (write : Bool) → partAfter s p t (bursts write) .clock ≡ p .clock
+  burst-clock up t true = awake-clock s p up t (bursts true)
+  burst-clock up t false = awake-clock s p up t (bursts false)
 
   burst-shuts : ((i : ℕ) → eqb i b ≡ false → p .banks i .opened ≡ false) → (t : ℕ) (write : Bool) (i : ℕ) → partAfter s p t (bursts write) .banks i .opened ≡ false
   burst-shuts others t true i = shut _ (p .banks i) (eqb i b) (others i)
@@ -123,7 +125,7 @@ module _ {s : Settings} (g : Ranged s) {es : List Event} (r : Reached s es) wher
         let c = does AUTO-REFRESH 0 0 false in
         let l = goes-free refresh-goes in
         sent r refreshPins c refresh-carried refresh-goes refresh-small refl (kept-plain s p free t l (r .sound) c refl refl)
-        (refresh-next s p free t l (r .sound) 0 0 false (le-trans (waited (refreshWaits d) 0) (goes-soonest refresh-goes)))
+        (refresh-next s p free t l (r .sound) (awake-now r) 0 0 false (le-trans (waited (refreshWaits d) 0) (goes-soonest refresh-goes)))
         (near-refresh s g (r .near) t l)
 
     pub refresh-idle : Idle s (send placing s es refreshPins)
@@ -158,7 +160,7 @@ module _ {s : Settings} (g : Ranged s) {es : List Event} (r : Reached s es) wher
           let l = goes-free active-goes in
           sent r (activePins s q) (activeCommand s q) (active-carried s (g .sized) q fits) active-goes (active-small s g q fits) refl
           (kept-plain s p free t l (r .sound) (activeCommand s q) refl refl)
-          (active-next s p free t l (r .sound) bank row (eqb (bit 10 row) 1) lb)
+          (active-next s p free t l (r .sound) (awake-now r) bank row (eqb (bit 10 row) 1) lb)
           (near-active s g (r .near) t l bank lb)
 
       active-is : partOf s (send placing s es (activePins s q)) ≡ partAfter s p (placed placing s es (activePins s q)) (activeCommand s q)
@@ -172,7 +174,8 @@ module _ {s : Settings} (g : Ranged s) {es : List Event} (r : Reached s es) wher
           }
 
       pub active-ticks : partOf s (send placing s es (activePins s q)) .clock ≡ p .clock
-      active-ticks = ap (λ (x : Part). x .clock) active-is
+      active-ticks =
+          ap (λ (x : Part). x .clock) active-is ∙ awake-clock s p (awake r) (placed placing s es (activePins s q)) (activeCommand s q)
 
     -- READ or WRITE, with its bank open
     module _ (o : Opened s es bank) where
@@ -198,7 +201,8 @@ module _ {s : Settings} (g : Ranged s) {es : List Event} (r : Reached s es) wher
           sent r (burstPins true s q) (bursts s p bank address lb (o .own) write) (burst-carried s (g .sized) q fits) burst-goes (burst-small s g q fits)
           (burst-mode s p bank address lb (o .own) t write)
           (burst-sound s p bank address lb (o .own) free t l (r .sound) write (goes-soonest burst-goes))
-          (burst-leaves s p bank address lb (o .own) free t l (r .sound) write (goes-soonest burst-goes) ∙ ap (λ (m : ℕ). burstAfter write s d m t bank) (r .mode))
+          (burst-leaves s p bank address lb (o .own) free t l (r .sound) (awake-now r) write (goes-soonest burst-goes)
+          ∙ ap (λ (m : ℕ). burstAfter write s d m t bank) (r .mode))
           (subst (λ (m : ℕ). Near (suc t) (burstAfter write s d m t bank)) (r .mode) (burst-near s p bank address lb (o .own) free t l (r .sound) g (r .near) write))
 
       burst-is : partOf s (send placing s es (burstPins true s q)) ≡ partAfter s p (placed placing s es (burstPins true s q)) (bursts s p bank address lb (o .own) write)
@@ -209,4 +213,6 @@ module _ {s : Settings} (g : Ranged s) {es : List Event} (r : Reached s es) wher
           ap (λ (x : Part). x .banks i .opened) burst-is ∙ burst-shuts s p bank address lb (o .own) (o .others) (placed placing s es (burstPins true s q)) write i
 
       pub burst-ticks : partOf s (send placing s es (burstPins true s q)) .clock ≡ p .clock
-      burst-ticks = ap (λ (x : Part). x .clock) burst-is ∙ burst-clock s p bank address lb (o .own) (placed placing s es (burstPins true s q)) write
+      burst-ticks =
+          ap (λ (x : Part). x .clock) burst-is
+          ∙ burst-clock s p bank address lb (o .own) (awake r) (placed placing s es (burstPins true s q)) write

@@ -48,6 +48,7 @@ pub record Sent (s : Settings) (es : List Event) (pins soonest : ℕ) (d : List 
   pub cycle : placed placing s es pins ≡ later (freeFrom 0 es) soonest
   pub not-before : freeFrom 0 es ≤ placed placing s es pins
   pub soon : placed placing s es pins ≤ freeFrom 0 es + wait
+  pub small : pins < 2 ^ 20
   pub passed : passes placing s (partOf s es) pins (placed placing s es pins) ≡ true
   pub leaves : deadlinesOf s (send placing s es pins) ≡ d
   pub reached : Reached s (send placing s es pins)
@@ -69,6 +70,7 @@ module _ {s : Settings} {es : List Event} (r : Reached s es) (pins : ℕ) (c : C
         cycle = goes-at w;
         not-before = goes-free w;
         soon = goes-soon w;
+        small = small;
         passed = goes-passes w;
         leaves = left;
         reached =

@@ -1,53 +1,66 @@
 -- A schedule between two requests; the schedule of requests that fit is clean, short, and rises.
-use Prim.Native.Nat.{ℕ, suc, _+_, _*_, _≤_}
+use Prim.Native.Nat.{ℕ, suc, _+_, _*_, _≤_, _<_}
 use mathlib.Core.Bool.{Bool, true, false, cond, not}
 use mathlib.Core.List.{List, [], _∷_}
 use mathlib.Core.Option.{Option, none, some}
 use mathlib.Core.Path.{_≡_, refl, sym, ap, _∙_, subst}
 use native.Mathlib.Omega.{arith}
-use lib.Dec.{leb, ltb, leb·zero}
+use lib.Dec.{ltb}
 use lib.ListN.{length, getD}
-use borrow.Author.Tests.{leb-true, le-leb, ltb-false, not-false}
+use borrow.Author.Tests.{le-leb, lt-ltb, ltb-true, ltb-false, not-false}
 use Rattle.reading.specs.Search.{later, lowest}
 use Rattle.reading.specs.Settings.{Settings}
-use Rattle.reading.specs.RefreshClock.{clockAtStart}
+use Rattle.reading.specs.RefreshClock.{clockAtStart, inTime}
 use Rattle.reading.specs.Capture.{Event, lastCycle}
+use Rattle.reading.specs.Commands.{commandOf}
 use Rattle.reading.specs.Verdict.{clean, verdictOf, judgeBy, verdictBy}
 use Rattle.reading.specs.Rules.{placing}
 use Rattle.reading.specs.Schedule.{asksWrite, requestFits, badRequest, firstCell, cellBank, activePins, burstPins, refreshPins}
 use Rattle.reading.specs.Schedule.{freeFrom, placed, send, sendAll, sendRequest, sendRefresh, refreshInTime, served, planned, whenServed, scheduleFrom, scheduleBy, scheduleOf}
 use Rattle.memory.specs.Serving.{EachFits}
 use Rattle.words.proofs.Search.{none-below}
-use Rattle.deadlines.specs.Deadlines.{DUE, at, soonest, activeAfter, refreshAfter}
+use Rattle.deadlines.specs.Deadlines.{OVERDUE, at, soonest, activeAfter, refreshAfter}
 use Rattle.plan.specs.Soonest.{activeSoonest, burstSoonest, refreshSoonest}
-use Rattle.bridge.specs.Summary.{dueBy}
+use Rattle.bridge.specs.Summary.{overdueBy}
+use Rattle.bridge.proofs.Sleeping as sleeping
 use Rattle.plan.specs.Behind.{partOf, deadlinesOf, burstAfter}
 use Rattle.plan.proofs.Ranged.{Ranged}
 use Rattle.plan.proofs.Sending.{free-sent, last-sent, length-sent, clean-sent}
 use Rattle.plan.proofs.Reached.{Rises, Reached, Sent, start-reached}
+use Rattle.plan.proofs.Awake.{Sleepless, cke-high, awake-asked, awake-allowed, awake, awake-now, sleepless}
 use Rattle.plan.proofs.Placed.{Idle, Opened, refresh-sent, refresh-idle, active-sent, active-opens, active-ticks, burst-sent, burst-idle, burst-ticks}
 
--- the last cycle that rule 14 lets through
-abbrev pub dueOf : Settings → List Event → ℕ
-dueOf s es = dueBy s (partOf s es .clock)
+-- the first cycle at which rule 14 is broken
+abbrev pub overdueOf : Settings → List Event → ℕ
+overdueOf s es = overdueBy s (partOf s es .clock)
 
-in-time : (s : Settings) (es : List Event) → refreshInTime placing s es ≡ leb (placed placing s es refreshPins) (dueOf s es)
+in-time : (s : Settings) (es : List Event) → refreshInTime placing s es ≡ ltb (placed placing s es refreshPins) (overdueOf s es)
 unfolding refreshInTime sendRefresh sendAll
-in-time s es = ap (λ (t : ℕ). leb t (dueOf s es)) (last-sent s es refreshPins)
+in-time s es =
+    ap (inTime s (partOf s es .clock)) (last-sent s es refreshPins)
+    ∙ sleeping.in-time-is (placed placing s es refreshPins) (partOf s es .clock .since + s .GAP)
 
-pub in-time-le : (s : Settings) (es : List Event) → refreshInTime placing s es ≡ true → placed placing s es refreshPins ≤ dueOf s es
-in-time-le s es k = leb-true (placed placing s es refreshPins) (dueOf s es) (sym (in-time s es) ∙ k)
+in-time-lt : (s : Settings) (es : List Event) → refreshInTime placing s es ≡ true → placed placing s es refreshPins < overdueOf s es
+in-time-lt s es k = ltb-true (placed placing s es refreshPins) (overdueOf s es) (sym (in-time s es) ∙ k)
 
 -- the test of a schedule, by the deadlines
 pub in-time-is : {s : Settings} → Ranged s → {es : List Event} → Reached s es → Idle s es →
-    refreshInTime placing s es ≡ leb (later (freeFrom 0 es) (refreshSoonest (deadlinesOf s es))) (at (deadlinesOf s es) DUE)
+    refreshInTime placing s es ≡ ltb (later (freeFrom 0 es) (refreshSoonest (deadlinesOf s es))) (at (deadlinesOf s es) OVERDUE)
 unfolding deadlinesOf
-in-time-is {s} g {es} r idle = in-time s es ∙ ap (λ (t : ℕ). leb t (dueOf s es)) (refresh-sent g r idle .cycle)
+in-time-is {s} g {es} r idle =
+    in-time s es
+    ∙ ap (λ (t : ℕ). ltb t (overdueOf s es)) (refresh-sent g r idle .cycle)
+    ∙ sym (ap (λ (asleep : Bool). ltb (later (freeFrom 0 es) (refreshSoonest (deadlinesOf s es))) (cond asleep 0 (overdueOf s es))) (awake-now r))
 
 -- a command in time for rule 14
-timely-clean : {s : Settings} {es : List Event} {pins soonest : ℕ} {d : List ℕ} → Sent s es pins soonest d → verdictOf s es ≡ clean →
-    placed placing s es pins ≤ dueOf s es → verdictOf s (send placing s es pins) ≡ clean
-timely-clean {s} {es} {pins} w c l = clean-sent s es pins c (w .passed) (le-leb (placed placing s es pins) (dueOf s es) l)
+timely-clean : {s : Settings} {es : List Event} {pins soonest : ℕ} {d : List ℕ} → Reached s es → Sent s es pins soonest d → verdictOf s es ≡ clean →
+    placed placing s es pins < overdueOf s es → verdictOf s (send placing s es pins) ≡ clean
+timely-clean {s} {es} {pins} r w c l =
+    let p = partOf s es in
+    let t = placed placing s es pins in
+    let in-time : inTime s (p .clock) t ≡ true = le-leb t (p .clock .since + s .GAP) (omega arith) in
+    clean-sent s es pins c (w .passed) (awake-asked s p (awake r) t (commandOf pins) ∙ in-time)
+    (awake-allowed s p (awake r) t (commandOf pins) (cke-high pins (w .small)))
 
 -- between requests: all banks are idle, all events are clean, and an AUTO REFRESH placed next comes in time
 pub record Ready (s : Settings) (es : List Event) : Type 0 where
@@ -64,7 +77,7 @@ start-ready s g =
       reached = r;
       idle = λ i. refl;
       judged = refl;
-      timely = in-time-is g r (λ i. refl) ∙ leb·zero (dueBy s clockAtStart);
+      timely = in-time-is g r (λ i. refl) ∙ lt-ltb 0 (overdueBy s clockAtStart) (omega arith);
     }
 
 module _ (s : Settings) (g : Ranged s) (q : ℕ) (fits : requestFits s q ≡ true) (es : List Event) (r : Reached s es) (idle : Idle s es) where
@@ -95,9 +108,9 @@ module _ (s : Settings) (g : Ranged s) (q : ℕ) (fits : requestFits s q ≡ tru
   unfolding sendRequest sendAll
   request-idle = burst-idle g (first-sent .reached) q fits o
 
-  same-due : dueOf s (sendRequest placing s es q) ≡ dueOf s es
+  same-overdue : overdueOf s (sendRequest placing s es q) ≡ overdueOf s es
   unfolding sendRequest sendAll
-  same-due = ap (dueBy s) (burst-ticks g (first-sent .reached) q fits o ∙ active-ticks g r q fits idle)
+  same-overdue = ap (overdueBy s) (burst-ticks g (first-sent .reached) q fits o ∙ active-ticks g r q fits idle)
 
   request-length : length (sendRequest placing s es q) ≡ suc (suc (length es))
   unfolding sendRequest sendAll
@@ -107,15 +120,15 @@ module _ (s : Settings) (g : Ranged s) (q : ℕ) (fits : requestFits s q ≡ tru
   request-ready : verdictOf s es ≡ clean → refreshInTime placing s (sendRequest placing s es q) ≡ true → Ready s (sendRequest placing s es q)
   unfolding sendRequest sendAll
   request-ready c k =
-      let last : placed placing s alone refreshPins ≤ dueOf s es = omega (arith, in-time-le s alone k, same-due) in
-      let burst : placed placing s opened (burstPins true s q) ≤ dueOf s es =
+      let last : placed placing s alone refreshPins < overdueOf s es = omega (arith, in-time-lt s alone k, same-overdue) in
+      let burst : placed placing s opened (burstPins true s q) < overdueOf s es =
       omega (arith, last, refresh-sent g request-reached request-idle .not-before, free-sent s opened (burstPins true s q)) in
-      let active : placed placing s es (activePins s q) ≤ dueOf s es = omega (arith, burst, second-sent .not-before, free-sent s es (activePins s q)) in
-      let due : dueOf s opened ≡ dueOf s es = ap (dueBy s) (active-ticks g r q fits idle) in
+      let active : placed placing s es (activePins s q) < overdueOf s es = omega (arith, burst, second-sent .not-before, free-sent s es (activePins s q)) in
+      let due : overdueOf s opened ≡ overdueOf s es = ap (overdueBy s) (active-ticks g r q fits idle) in
       record {
         reached = request-reached;
         idle = request-idle;
-        judged = timely-clean second-sent (timely-clean first-sent c active) (omega (arith, burst, due));
+        judged = timely-clean (first-sent .reached) second-sent (timely-clean r first-sent c active) (omega (arith, burst, due));
         timely = k;
       }
 
@@ -155,7 +168,7 @@ module _ (s : Settings) (g : Ranged s) where
           (record {
             ready =
                 request-ready s g q fits first (ahead .reached) (refresh-idle g (y .reached) (y .idle))
-                (timely-clean ahead (y .judged) (in-time-le s es (y .timely))) m;
+                (timely-clean (y .reached) ahead (y .judged) (in-time-lt s es (y .timely))) m;
             few = omega (arith, request-length s g q fits first (ahead .reached) (refresh-idle g (y .reached) (y .idle)), length-sent s es refreshPins);
           })
       go false k false m f = let z : _≡_ {A = ℕ} 0 1 = cc in absurd (omega arith)
@@ -186,6 +199,7 @@ pub record Planned (s : Settings) (qs : List ℕ) (es : List Event) : Type 0 whe
   pub few : length es ≤ 3 * length qs
   pub rises : Rises 0 es
   pub early : freeFrom 0 es ≤ lastCycle
+  pub never-sleeps : Sleepless s es
 
 module _ (s : Settings) (qs : List ℕ) (good : badRequest s qs ≡ none) where
   parted : (b : Bool) (x : Option ℕ) → cond b (some 2000) x ≡ none → (b ≡ false) × (x ≡ none)
@@ -211,4 +225,5 @@ module _ (s : Settings) (qs : List ℕ) (good : badRequest s qs ≡ none) where
         few = omega arith;
         rises = y .reached .rises;
         early = omega (arith, y .reached .early, few-requests);
+        never-sleeps = sleepless (y .reached);
       }

@@ -1,7 +1,7 @@
 -- Worked cases: pin words and captures as a person would write them, and what is said of a capture.
 -- The cases stand below in Cases/: each list is one statement, and holds by computation.
 use Prim.Native.Nat.{ℕ, _+_, _*_}
-use mathlib.Core.List.{List, [], _∷_, map}
+use mathlib.Core.List.{List, [], _∷_, _++_, map}
 use mathlib.Core.Path.{_≡_}
 use lib.ListN.{length}
 use Rattle.reading.specs.Words.{wordAt, wordBytes, bytesOf}
@@ -21,6 +21,7 @@ mod Limits
 mod Bytes
 mod Schedules
 mod Memories
+mod Sleeping
 
 -- pin words, put together by adding: a command, a bank, A10, column or row pins
 abbrev ACTIVE : ℕ
@@ -65,6 +66,14 @@ at t w = record { cycle = t; pins = w }
 -- the settings of document 01's cases
 abbrev usual : List ℕ
 usual = 1 ∷ 13 ∷ 10 ∷ 0x32 ∷ 3 ∷ 3 ∷ 7 ∷ 10 ∷ 2 ∷ 3 ∷ 1 ∷ 12 ∷ 2 ∷ 1000 ∷ []
+
+-- with tXP 2 and tXSR 20
+abbrev sleeping : List ℕ
+sleeping = usual ++ (2 ∷ 20 ∷ [])
+
+-- CKE low
+abbrev LOW : ℕ
+LOW = 0x100000
 
 -- the cells of an uncut burst of four that starts with its block
 abbrev four : ℕ → List ℕ

@@ -7,7 +7,7 @@ use lib.ListN.{length, drop}
 use lib.Dec.{ltb, eqb}
 use Rattle.reading.specs.Search.{given}
 use Rattle.reading.specs.Settings.{Settings, settingsCount, settingsOf, badSetting}
-use Rattle.reading.specs.Capture.{Event, eventCount, settingWords, eventBytes, eventsOf, lengthFits, headerFits, pinBits, badEvent}
+use Rattle.reading.specs.Capture.{Event, eventCount, settingWords, eventBytes, eventsOf, lengthFits, headerFits, pinLimit, badEvent}
 use Rattle.reading.specs.Verdict.{Verdict, clean, broken, verdictOf, judgedOf}
 use Rattle.reading.specs.Cells.{burstsOf, cellsOf}
 use Rattle.reading.specs.Schedule.{Schedule, planned, late, badRequest, scheduleOf, captureOf}
@@ -32,7 +32,7 @@ accepted capture rest =
     unless 1 (given 0 (not (lengthFits capture)))
     (unless 2 (given 0 (not (headerFits capture)))
     (unless 3 (badSetting (settingWords capture))
-    (unless 4 (badEvent (pinBits capture) (eventBytes capture) (eventCount capture)) rest)))
+    (unless 4 (badEvent (pinLimit capture) (eventBytes capture) (eventCount capture)) rest)))
 
 -- ---- judging
 

@@ -73,17 +73,17 @@ headerFits capture =
 abbrev pub lastCycle : ℕ
 lastCycle = 2000000000
 
--- how many of a pin word's bits stand for pins, CKE among them where there is sleep; the others are zero
-abbrev pub pinBits : List ℕ → ℕ
-pinBits capture = cond (eqb (headerWord capture 1) sleepingCount) 21 20
+-- pin words are below this: bits above the pins are zero, and CKE is a pin where there is sleep
+abbrev pub pinLimit : List ℕ → ℕ
+pinLimit capture = cond (eqb (headerWord capture 1) sleepingCount) (2 ^ 21) (2 ^ 20)
 
 -- the cycle is not too large and above the one before
 abbrev pub cycleFits : List ℕ → ℕ → Bool
 cycleFits bytes i = leb (eventAt bytes i .cycle) lastCycle && (eqb i 0 || ltb (eventAt bytes (i - 1) .cycle) (eventAt bytes i .cycle))
 
 unfoldable pub eventFits : ℕ → List ℕ → ℕ → Bool
-eventFits bits bytes i = ltb (eventAt bytes i .pins) (2 ^ bits) && cycleFits bytes i
+eventFits limit bytes i = ltb (eventAt bytes i .pins) limit && cycleFits bytes i
 
 -- the lowest of n events that does not fit
 unfoldable pub badEvent : ℕ → List ℕ → ℕ → Option ℕ
-badEvent bits bytes n = lowest (λ i. not (eventFits bits bytes i)) n
+badEvent limit bytes n = lowest (λ i. not (eventFits limit bytes i)) n

@@ -7,7 +7,7 @@ use lib.ListN.{length, getD}
 use lib.Dec.{ltb, eqb}
 use Rattle.reading.specs.Search.{every, lowest}
 use Rattle.reading.specs.Words.{bit, bytesOf}
-use Rattle.reading.specs.Settings.{Settings, settingsCount}
+use Rattle.reading.specs.Settings.{Settings}
 use Rattle.reading.specs.Capture.{Event, settingsStart, eventsStart, captureSize, lastCycle}
 use Rattle.reading.specs.RefreshClock.{inTime}
 use Rattle.reading.specs.Commands.{ACTIVE, READ, WRITE, AUTO-REFRESH, commandOf, pinsOf}
@@ -135,5 +135,5 @@ eventWords (e ∷ es) = e .cycle ∷ e .pins ∷ eventWords es
 unfoldable pub captureOf : List ℕ → List Event → List ℕ
 captureOf settings es =
     bytesOf
-    ((captureSize settingsCount (length es)
-    ∷ settingsCount ∷ settingsStart ∷ length es ∷ eventsStart settingsCount ∷ 0 ∷ []) ++ settings ++ eventWords es)
+    ((captureSize (length settings) (length es)
+    ∷ length settings ∷ settingsStart ∷ length es ∷ eventsStart (length settings) ∷ 0 ∷ []) ++ settings ++ eventWords es)

@@ -1,6 +1,6 @@
 -- Lists that are filled from the front, element by element.
-use Prim.Native.Nat.{ℕ, zero, suc, _+_, _*_, _≤_, _<_}
-use mathlib.Core.List.{List, [], _∷_, _++_, append-nil}
+use Prim.Native.Nat.{ℕ, zero, suc, _+_, _-_, _*_, _≤_, _<_}
+use mathlib.Core.List.{List, [], _∷_, _++_}
 use mathlib.Core.Path.{_≡_, refl, sym, ap, _∙_}
 use native.Mathlib.Nat.{zero-add}
 use native.Mathlib.Numerals.{add-one}
@@ -8,10 +8,11 @@ use native.Mathlib.Omega.{arith}
 use lib.ListN.{length, set, getD, take, drop, replicate, length-set, length-take}
 use lib.Seq.{sets, sets-eq, length-sets, take-suc, drop-cons}
 use Rattle.reading.specs.Words.{wordBytes, bytesOf}
-use Rattle.reading.specs.Settings.{settingsCount}
+use Rattle.reading.specs.Settings.{settingsCount, sleepingCount}
 use Rattle.reading.specs.Capture.{Event}
 use Rattle.reading.specs.Schedule.{eventWords}
 use Rattle.words.proofs.Words.{sets-words}
+use Rattle.settings.specs.Meaning.{padded}
 
 pub none-behind : {A : Type 0} (l : List A) (i : ℕ) → length l ≤ i → drop i l ≡ []
 none-behind [] zero h = refl
@@ -27,15 +28,20 @@ front vs l h = sets-eq vs l 0 (omega arith) ∙ ap (λ (k : ℕ). vs ++ drop k l
 
 pub record Loading (settings s : List ℕ) (i : ℕ) : Type 0 where
   pub within : i ≤ settingsCount
-  pub full : length s ≡ settingsCount
-  pub same : sets s i (drop i settings) ≡ settings
+  pub full : length s ≡ sleepingCount
+  pub same : sets s i (drop i settings) ≡ padded settings
 
-pub begins : (settings : List ℕ) → length settings ≡ settingsCount → Loading settings (replicate settingsCount 0) 0
+pub begins : (settings : List ℕ) → length settings ≡ settingsCount → Loading settings (replicate sleepingCount 0) 0
+unfolding padded
 begins settings h =
+    let zeros : List ℕ = replicate sleepingCount 0 in
     record {
       within = omega arith;
       full = refl;
-      same = front settings (replicate settingsCount 0) (omega arith) ∙ ap (λ (k : ℕ). settings ++ drop k (replicate settingsCount 0)) h ∙ append-nil settings;
+      same =
+          front settings zeros (omega arith)
+          ∙ ap (λ (k : ℕ). settings ++ drop k zeros) h
+          ∙ sym (ap (λ (k : ℕ). settings ++ replicate (sleepingCount - k) 0) h);
     }
 
 module _ {settings s : List ℕ} {i : ℕ} (h : length settings ≡ settingsCount) (x : Loading settings s i) where
@@ -47,7 +53,7 @@ module _ {settings s : List ℕ} {i : ℕ} (h : length settings ≡ settingsCoun
         same = rw (add-one i) (sym (ap (sets s i) (drop-cons settings i 0 (omega arith))) ∙ x .same);
       }
 
-  pub ends : settingsCount ≤ i → s ≡ settings
+  pub ends : settingsCount ≤ i → s ≡ padded settings
   ends l = sym (ap (sets s i) (none-behind settings i (omega arith))) ∙ x .same
 
 -- ---- words in a row

@@ -11,7 +11,7 @@ use lib.Seq.{sets, length-sets, take-append-le, take-length}
 use borrow.Author.Tests.{eqb-true, ltb-false}
 use Rattle.reading.specs.Search.{given}
 use Rattle.reading.specs.Words.{bytesOf}
-use Rattle.reading.specs.Settings.{settingsCount, settingsOf, badSetting}
+use Rattle.reading.specs.Settings.{Settings, settingsCount, settingsOf, outOfRange, badSetting}
 use Rattle.reading.specs.Capture.{Event}
 use Rattle.reading.specs.Schedule.{Schedule, planned, late, badRequest, scheduleOf, eventWords, captureOf}
 use Rattle.reading.specs.Answers.{Answer, refused, answered, unless, Outcome, leaves, whenPlanned, fitting, scheduleOutcome}
@@ -19,9 +19,10 @@ use Rattle.words.specs.Found.{placeOf}
 use Rattle.words.specs.declared.Found.{Found}
 use Rattle.words.specs.declared.Found.the-variants.{Nothing, At}
 use Rattle.settings.specs.Meaning as settings
-use Rattle.settings.specs.Meaning.{checked}
+use Rattle.settings.specs.Meaning.{checked, padded}
 use Rattle.settings.specs.declared.Checked.{Checked}
 use Rattle.settings.specs.declared.Checked.the-variants as check
+use Rattle.settings.proofs.Padded.{padded-settings, padded-range}
 use Rattle.memory.specs.Serving.{Sized}
 use Rattle.plan.proofs.Captured.{words-length, settings-fit}
 use Rattle.plan.proofs.Ranged.{ranged}
@@ -85,7 +86,14 @@ right ws r e f =
     let (x, y) = fine-so (given 0 (not (eqb (length ws) settingsCount))) (badSetting ws) (sym (ap settings.means f) ∙ e) in
     record { count = right-count (length ws) x; each = y }
 
-module _ {ws : List ℕ} (fit : Right ws) {s : List ℕ} (same : s ≡ ws) where
+module _ {ws : List ℕ} (fit : Right ws) {s : List ℕ} (loaded : s ≡ padded ws) where
+  same : settingsOf s ≡ settingsOf ws
+  same = ap settingsOf loaded ∙ padded-settings ws
+
+  in-range : outOfRange s settingsCount ≡ none
+  unfolding badSetting
+  in-range = ap (λ (x : List ℕ). outOfRange x settingsCount) loaded ∙ padded-range ws settingsCount ∙ ap (outOfRange ws) (sym (fit .count)) ∙ fit .each
+
   pub sized : Sized (settingsOf s)
   sized = rw same (ranged ws (settings-fit ws (fit .count) (fit .each)) .sized)
 
@@ -97,24 +105,24 @@ module _ {ws : List ℕ} (fit : Right ws) {s : List ℕ} (same : s ≡ ws) where
 
     pub unserved : {r : Found} {i : ℕ} → placeOf r ≡ badRequest (settingsOf s) qs → r ≡ At i → Ends (scheduleOutcome ws qs out) (Refused 5 i) out
     unserved {r} {i} e k =
-        let b : badRequest (settingsOf ws) qs ≡ some i = sym (ap (λ (x : List ℕ). badRequest (settingsOf x) qs) same) ∙ sym e ∙ ap placeOf k in
+        let b : badRequest (settingsOf ws) qs ≡ some i = sym (ap (λ (x : Settings). badRequest x qs) same) ∙ sym e ∙ ap placeOf k in
         rw (onward, b) (refl, refl)
 
     module _ {r : Found} (e : placeOf r ≡ badRequest (settingsOf s) qs) (k : r ≡ Nothing) where
       pub asked-fine : badRequest (settingsOf ws) qs ≡ none
-      asked-fine = sym (ap (λ (x : List ℕ). badRequest (settingsOf x) qs) same) ∙ sym e ∙ ap placeOf k
+      asked-fine = sym (ap (λ (x : Settings). badRequest x qs) same) ∙ sym e ∙ ap placeOf k
 
       pub plannable : (w : List ℕ) → length w ≡ 12000 → Plannable s qs w
       plannable w l =
           let few = few-requests (settingsOf ws) qs asked-fine in
-          rw same (record { fourteen = fit .count; right = fit .each; fine = asked-fine; room = omega arith })
+          record { right = in-range; fine = ap (λ (x : Settings). badRequest x qs) same ∙ asked-fine; room = omega arith }
 
       -- ---- refusal 6
 
       module _ {w w′ : List ℕ} {t : Planned} (plans : t ≡ plannedAs (scheduleOf (settingsOf s) qs)) (fills : Noted (scheduleOf (settingsOf s) qs) w w′) where
         pub too-late : {i : ℕ} → t ≡ Late i → Ends (scheduleOutcome ws qs out) (Refused 6 i) out
         too-late {i} m =
-            let p : Late i ≡ plannedAs (scheduleOf (settingsOf ws) qs) = sym m ∙ plans ∙ ap (λ (x : List ℕ). plannedAs (scheduleOf (settingsOf x) qs)) same in
+            let p : Late i ≡ plannedAs (scheduleOf (settingsOf ws) qs) = sym m ∙ plans ∙ ap (λ (x : Settings). plannedAs (scheduleOf x qs)) same in
             rw (onward, asked-fine) (go (scheduleOf (settingsOf ws) qs) p)
           where
             go : (x : Schedule) → Late i ≡ plannedAs x → Ends (leaves (whenPlanned x (λ es. fitting out (captureOf ws es))) out) (Refused 6 i) out
@@ -131,7 +139,7 @@ module _ {ws : List ℕ} (fit : Right ws) {s : List ℕ} (same : s ≡ ws) where
 
         pub made : {n : ℕ} → t ≡ Events n → Made n
         made {n} m =
-            let p : Events n ≡ plannedAs (scheduleOf (settingsOf ws) qs) = sym m ∙ plans ∙ ap (λ (x : List ℕ). plannedAs (scheduleOf (settingsOf x) qs)) same in
+            let p : Events n ≡ plannedAs (scheduleOf (settingsOf ws) qs) = sym m ∙ plans ∙ ap (λ (x : Settings). plannedAs (scheduleOf x qs)) same in
             let f : Noted (scheduleOf (settingsOf ws) qs) w w′ = rw same at fills in
             go (scheduleOf (settingsOf ws) qs) refl p f
           where
@@ -166,8 +174,7 @@ module _ {ws : List ℕ} (fit : Right ws) {s : List ℕ} (same : s ≡ ws) where
           long = captured.size ws (made m .es) (fit .count) ∙ ap size (sym (made m .counted))
 
           whole : bytesOf (head n ++ ws ++ take (2 * n) w′) ≡ cap
-          unfolding captureOf
-          whole i = bytesOf (head (made m .counted i) ++ ws ++ words-back i)
+          whole = (λ i. bytesOf (head (made m .counted i) ++ ws ++ words-back i)) ∙ sym (captured.in-words ws (made m .es) (fit .count))
 
           outcome-is : scheduleOutcome ws qs out ≡ leaves (unless 7 (given (size n) (ltb (length out) (size n))) (answered cap)) out
           outcome-is =

@@ -11,11 +11,12 @@ use types.Run.{OneOf}
 use denote.Enum.Declared.{tagOf}
 use lib.ListN.{length, getD, drop, length-append}
 use lib.Seq.{sets, length-sets, drop-cons}
-use Rattle.reading.specs.Settings.{Settings, settingsOf}
+use Rattle.reading.specs.Settings.{Settings, settingsCount, settingsOf}
 use Rattle.reading.specs.Capture.{Event}
 use Rattle.reading.specs.Rules.{placing}
 use Rattle.reading.specs.Schedule.{planned, late, firstCell, cellBank, requestFits, freeFrom, served, whenServed, scheduleFrom, scheduleBy, scheduleOf, eventWords}
 use Rattle.words.proofs.Runs.{sets-append}
+use Rattle.settings.proofs.Fitting.{in-range}
 use Rattle.deadlines.specs.Deadlines.{BUSY, at}
 use Rattle.deadlines.specs.Deadlines as all
 use Rattle.bridge.specs.Summary.{Held, summary}
@@ -25,7 +26,7 @@ use Rattle.requests.specs.Asked.{Asked}
 use Rattle.plan.specs.Behind.{partOf, deadlinesOf}
 use Rattle.plan.proofs.Ranged.{Ranged, ranged}
 use Rattle.memory.proofs.Pins.{bank-small}
-use Rattle.plan.proofs.Captured.{words-length, settings-fit}
+use Rattle.plan.proofs.Captured.{words-length}
 use Rattle.plan.proofs.Ready.{Ready, start-ready, Served, served-ready, few-requests, requests-fit}
 use Rattle.turns.specs.declared.Placed.{Placed}
 use Rattle.turns.specs.declared.Placed.the-variants as turn
@@ -71,7 +72,7 @@ module _ (ws qs w₀ : List ℕ) where
 
   module _ (p : Plannable ws qs w₀) where
     g : Ranged s
-    g = ranged ws (settings-fit ws (p .fourteen) (p .right))
+    g = ranged ws (in-range ws settingsCount (p .right))
 
     abbrev X : List Event → Held
     X es = summary s (partOf s es)

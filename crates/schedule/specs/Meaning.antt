@@ -9,7 +9,7 @@ use lib.ListN.{length, take}
 use lib.Seq.{sets}
 use Rattle.reading.specs.Words.{bytesOf}
 use Rattle.reading.specs.Settings as reading
-use Rattle.reading.specs.Settings.{settingsCount, settingsOf, badSetting}
+use Rattle.reading.specs.Settings.{settingsCount, settingsOf, outOfRange}
 use Rattle.reading.specs.Capture.{Event, settingsStart, eventsStart, captureSize}
 use Rattle.reading.specs.Schedule.{Schedule, planned, late, badRequest, eventWords}
 use Rattle.reading.specs.Answers.{Answer, refused, answered}
@@ -41,8 +41,7 @@ pub record Notable (s : reading.Settings) (words : List ℕ) (n events q : ℕ) 
 
 -- nothing is refused, and there is room for the events
 pub record Plannable (settings requests words : List ℕ) : Type 0 where
-  pub fourteen : length settings ≡ settingsCount
-  pub right : badSetting settings ≡ none
+  pub right : outOfRange settings settingsCount ≡ none
   pub fine : badRequest (settingsOf settings) requests ≡ none
   pub room : 6 * length requests ≤ length words
 

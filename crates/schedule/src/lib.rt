@@ -3,6 +3,7 @@ use deadlines::sums;
 use requests::REFRESH_PINS;
 use settings::COUNT;
 use settings::Checked;
+use settings::SLEEPING;
 use settings::Settings;
 use settings::places::MODE;
 use turns::Placed;
@@ -16,6 +17,7 @@ ghost use Rattle.reading.specs.Words.{bytesOf};
 ghost use Rattle.reading.specs.Settings.{settingsCount, settingsOf};
 ghost use Rattle.reading.specs.Schedule.{scheduleOf, eventWords};
 ghost use Rattle.reading.specs.Answers.{scheduleOutcome};
+ghost use Rattle.settings.specs.Meaning.{padded};
 ghost use Rattle.turns.specs.Events.{requestEvents, behindEvents};
 ghost use Rattle.schedule.specs.Meaning.{means, plannedAs, Noted, Plannable, Notable, Writable, written, writing};
 
@@ -41,12 +43,12 @@ const SETTINGS: u32 = capture::SETTINGS as u32;
 
 const EVENTS: u32 = capture::EVENTS as u32;
 
-// The settings as an array.
+// All settings, of the fourteen words that a schedule takes; those of sleep are 0.
 fn fourteen(settings: &[u32]) -> Settings
     requires { ⌜ length (now settings) ≡ settingsCount ⌝ }
-    ensures { λ r. ⌜ r ≡ now (settings .entry) ⌝ }
+    ensures { λ r. ⌜ r ≡ padded (now (settings .entry)) ⌝ }
 {
-    let mut s = [0u32; COUNT];
+    let mut s = [0u32; SLEEPING];
     'settings: for i in 0..COUNT {
         s[i] = settings[i];
     }

@@ -10,7 +10,7 @@ use lib.ListN.{length, getD}
 use lib.Dec.{leb, eqb}
 use Rattle.reading.specs.Search.{given, implies}
 use Rattle.reading.specs.Mode.{modeWord}
-use Rattle.reading.specs.Settings.{Limits, limits, settingFits, badSetting}
+use Rattle.reading.specs.Settings.{Limits, limits, settingFits, outOfRange, badSetting}
 use Rattle.reading.specs.Answers.{answered, unless}
 use Rattle.words.proofs.Search.{none-below}
 use Rattle.settings.specs.Meaning.{checked}
@@ -39,6 +39,9 @@ mode-valid w h = parts 3 w h .1
 
 -- ---- a list of settings that is not refused
 
+pub in-range : (ws : List ℕ) (n : ℕ) → outOfRange ws n ≡ none → (i : ℕ) → i < n → settingFits i (getD ws i 0) ≡ true
+in-range ws n good i l = not-false _ (none-below (λ j. not (settingFits j (getD ws j 0))) n good i l)
+
 pub record Fitting (ws : List ℕ) : Type 0 where
   pub count : length ws ≡ 14
   pub fits : (i : ℕ) → i < 14 → settingFits i (getD ws i 0) ≡ true
@@ -55,5 +58,5 @@ fitting ws h =
     let fourteen : length ws ≡ 14 = eqb-true (length ws) 14 (not-false (eqb (length ws) 14) (clear .0)) in
     record {
       count = fourteen;
-      fits = λ i l. not-false _ (none-below (λ j. not (settingFits j (getD ws j 0))) (length ws) (clear .1) i (omega (arith, fourteen)));
+      fits = λ i l. in-range ws (length ws) (clear .1) i (omega (arith, fourteen));
     }

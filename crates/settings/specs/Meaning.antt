@@ -1,11 +1,11 @@
 -- What this crate's types mean in document 01.
-use Prim.Native.Nat.{ℕ}
+use Prim.Native.Nat.{ℕ, _-_}
 use mathlib.Core.Bool.{not}
-use mathlib.Core.List.{List}
-use lib.ListN.{length}
+use mathlib.Core.List.{List, _++_}
+use lib.ListN.{length, replicate}
 use lib.Dec.{eqb}
 use Rattle.reading.specs.Search.{given}
-use Rattle.reading.specs.Settings.{badSetting}
+use Rattle.reading.specs.Settings.{sleepingCount, badSetting}
 use Rattle.reading.specs.Answers.{Answer, refused, answered, unless}
 use Rattle.settings.specs.declared.Checked.{Checked}
 use Rattle.settings.specs.declared.Checked.the-variants.{Fine, Refused}
@@ -20,3 +20,7 @@ unfoldable pub checked : List ℕ → Answer (Unit {0})
 checked ws =
     unless 2 (given 0 (not (eqb (length ws) 14)))
     (unless 3 (badSetting ws) (answered tt))
+
+-- all of them, from a list of words: those that it does not have are 0
+unfoldable pub padded : List ℕ → List ℕ
+padded ws = ws ++ replicate (sleepingCount - length ws) 0

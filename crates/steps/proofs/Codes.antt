@@ -1,4 +1,4 @@
--- A step does what its command does: one law for each way that the four command pins can stand.
+-- A step does what its command does: one law for each way that the four command pins, and CKE, can stand.
 use Prim.Native.Nat.{ℕ}
 use mathlib.Core.Bool.{Bool, true, false, cond}
 use mathlib.Core.List.{List}
@@ -7,10 +7,10 @@ use mathlib.Core.Path.{_≡_, refl}
 use lib.Dec.{eqb}
 use borrow.Author.Tests.{ne-eqb}
 use Rattle.reading.specs.Settings.{Settings}
-use Rattle.deadlines.specs.Deadlines.{dueBreaks, activeBreaks, readBreaks, writeBreaks, terminateBreaks, closeBreaks, closeAllBreaks, refreshBreaks, modeBreaks}
-use Rattle.deadlines.specs.Deadlines.{paceOf, activeAfter, readAfter, writeAfter, cutRead, closeAfter, closeAllAfter, refreshAfter, modeSetAfter}
-use Rattle.pins.specs.Pins.{codeOf, bankOf, addressOf, tenOf}
-use Rattle.steps.specs.Steps.{ruleOf, leftBy, stepBreaks, stepAfter, paceAfter}
+use Rattle.deadlines.specs.Deadlines.{quietBreaks, lowBreaks, selfBreaks, activeBreaks, readBreaks, writeBreaks, terminateBreaks, closeBreaks, closeAllBreaks, refreshBreaks, modeBreaks}
+use Rattle.deadlines.specs.Deadlines.{paceOf, quietAfter, lowAfter, selfAfter, activeAfter, readAfter, writeAfter, cutRead, closeAfter, closeAllAfter, refreshAfter, modeSetAfter}
+use Rattle.pins.specs.Pins.{codeOf, bankOf, addressOf, tenOf, lowOf, quietCode}
+use Rattle.steps.specs.Steps.{ruleOf, leftBy, unlessLower, highBreaks, stepBreaks, stepAfter, paceAfter}
 
 module _ (s : Settings) (d m : List ℕ) (t w : ℕ) where
   -- which rule a step breaks, the deadlines after it, and h and CL
@@ -19,38 +19,40 @@ module _ (s : Settings) (d m : List ℕ) (t w : ℕ) where
     pub leaves : stepAfter s d m t w ≡ after
     pub sets : paceAfter m w ≡ pace
 
-  pub active : {b a : ℕ} → b ≡ bankOf w → a ≡ addressOf w → codeOf w ≡ 12 → Does (activeBreaks s d t b a) (activeAfter s d t b) m
-  unfolding stepBreaks stepAfter paceAfter
-  active f g e = record { breaks = rw (f, g, e); leaves = rw (f, e); sets = rw e }
+  -- ---- with CKE high
 
-  pub read : {b : ℕ} {a : Bool} → b ≡ bankOf w → a ≡ tenOf w → codeOf w ≡ 10 → Does (readBreaks d t b) (readAfter s d m t b a) m
+  pub active : {b a : ℕ} → b ≡ bankOf w → a ≡ addressOf w → lowOf w ≡ false → codeOf w ≡ 12 → Does (activeBreaks s d t b a) (activeAfter s d t b) m
   unfolding stepBreaks stepAfter paceAfter
-  read f g e = record { breaks = rw (f, e); leaves = rw (f, g, e); sets = rw e }
+  active f g n e = record { breaks = rw (f, g, n, e); leaves = rw (f, n, e); sets = rw e }
 
-  pub write : {b : ℕ} {a : Bool} → b ≡ bankOf w → a ≡ tenOf w → codeOf w ≡ 2 → Does (writeBreaks d t b) (writeAfter s d m t b a) m
+  pub read : {b : ℕ} {a : Bool} → b ≡ bankOf w → a ≡ tenOf w → lowOf w ≡ false → codeOf w ≡ 10 → Does (readBreaks d t b) (readAfter s d m t b a) m
   unfolding stepBreaks stepAfter paceAfter
-  write f g e = record { breaks = rw (f, e); leaves = rw (f, g, e); sets = rw e }
+  read f g n e = record { breaks = rw (f, n, e); leaves = rw (f, g, n, e); sets = rw e }
 
-  pub close-all : codeOf w ≡ 4 → tenOf w ≡ true → Does (closeAllBreaks d t) (closeAllAfter s d m t) m
+  pub write : {b : ℕ} {a : Bool} → b ≡ bankOf w → a ≡ tenOf w → lowOf w ≡ false → codeOf w ≡ 2 → Does (writeBreaks d t b) (writeAfter s d m t b a) m
   unfolding stepBreaks stepAfter paceAfter
-  close-all e a = record { breaks = rw (e, a); leaves = rw (e, a); sets = rw e }
+  write f g n e = record { breaks = rw (f, n, e); leaves = rw (f, g, n, e); sets = rw e }
 
-  pub close : {b : ℕ} → b ≡ bankOf w → codeOf w ≡ 4 → tenOf w ≡ false → Does (closeBreaks d t b) (closeAfter s d m t b) m
+  pub close-all : lowOf w ≡ false → codeOf w ≡ 4 → tenOf w ≡ true → Does (closeAllBreaks d t) (closeAllAfter s d m t) m
   unfolding stepBreaks stepAfter paceAfter
-  close f e a = record { breaks = rw (f, e, a); leaves = rw (f, e, a); sets = rw e }
+  close-all n e a = record { breaks = rw (n, e, a); leaves = rw (n, e, a); sets = rw e }
 
-  pub terminate : codeOf w ≡ 6 → Does (terminateBreaks s d t) (cutRead d m t true) m
+  pub close : {b : ℕ} → b ≡ bankOf w → lowOf w ≡ false → codeOf w ≡ 4 → tenOf w ≡ false → Does (closeBreaks d t b) (closeAfter s d m t b) m
   unfolding stepBreaks stepAfter paceAfter
-  terminate e = record { breaks = rw e; leaves = rw e; sets = rw e }
+  close f n e a = record { breaks = rw (f, n, e, a); leaves = rw (f, n, e, a); sets = rw e }
 
-  pub refresh : codeOf w ≡ 8 → Does (refreshBreaks d t) (refreshAfter s d t) m
+  pub terminate : lowOf w ≡ false → codeOf w ≡ 6 → Does (terminateBreaks s d t) (cutRead d m t true) m
   unfolding stepBreaks stepAfter paceAfter
-  refresh e = record { breaks = rw e; leaves = rw e; sets = rw e }
+  terminate n e = record { breaks = rw (n, e); leaves = rw (n, e); sets = rw e }
 
-  pub mode-set : {b a : ℕ} → b ≡ bankOf w → a ≡ addressOf w → codeOf w ≡ 0 →
+  pub refresh : lowOf w ≡ false → codeOf w ≡ 8 → Does (refreshBreaks d t) (refreshAfter s d t) m
+  unfolding stepBreaks stepAfter paceAfter
+  refresh n e = record { breaks = rw (n, e); leaves = rw (n, e); sets = rw e }
+
+  pub mode-set : {b a : ℕ} → b ≡ bankOf w → a ≡ addressOf w → lowOf w ≡ false → codeOf w ≡ 0 →
       Does (modeBreaks d t b a) (modeSetAfter s d t) (cond (eqb b 0) (paceOf a) m)
   unfolding stepBreaks stepAfter paceAfter
-  mode-set f g e = record { breaks = rw (f, g, e); leaves = rw e; sets = rw (f, g, e) }
+  mode-set f g n e = record { breaks = rw (f, g, n, e); leaves = rw (n, e); sets = rw (f, g, e) }
 
   -- none of the seven
   pub record Quiet (q : ℕ) : Type 0 where
@@ -62,9 +64,9 @@ module _ (s : Settings) (d m : List ℕ) (t w : ℕ) where
     pub no-refresh : q ≡ 8 → ⊥
     pub no-mode-set : q ≡ 0 → ⊥
 
-  pub quiet : {q : ℕ} → q ≡ codeOf w → Quiet q → Does (dueBreaks d t) d m
+  pub quiet : {q : ℕ} → q ≡ codeOf w → lowOf w ≡ false → Quiet q → Does (quietBreaks d t) (quietAfter s d t) m
   unfolding stepBreaks stepAfter paceAfter
-  quiet {q} e n =
+  quiet {q} e l n =
       let e₁ = ne-eqb q 12 (n .no-active) in
       let e₂ = ne-eqb q 10 (n .no-read) in
       let e₃ = ne-eqb q 2 (n .no-write) in
@@ -73,10 +75,38 @@ module _ (s : Settings) (d m : List ℕ) (t w : ℕ) where
       let e₆ = ne-eqb q 8 (n .no-refresh) in
       let e₇ = ne-eqb q 0 (n .no-mode-set) in
       record {
-        breaks = rw (← e, e₁, e₂, e₃, e₄, e₅, e₆, e₇);
-        leaves = rw (← e, e₁, e₂, e₃, e₄, e₅, e₆, e₇);
+        breaks = rw (← e, l, e₁, e₂, e₃, e₄, e₅, e₆, e₇);
+        leaves = rw (← e, l, e₁, e₂, e₃, e₄, e₅, e₆, e₇);
         sets = rw (← e, e₇);
       }
+
+  -- ---- with CKE low
+
+  pub low-quiet : {q : ℕ} → q ≡ codeOf w → lowOf w ≡ true → Quiet q → Does (lowBreaks s d t) (lowAfter d t) m
+  unfolding stepBreaks stepAfter paceAfter
+  low-quiet {q} e l n =
+      let e₁ = ne-eqb q 12 (n .no-active) in
+      let e₂ = ne-eqb q 10 (n .no-read) in
+      let e₃ = ne-eqb q 2 (n .no-write) in
+      let e₄ = ne-eqb q 4 (n .no-close) in
+      let e₅ = ne-eqb q 6 (n .no-terminate) in
+      let e₆ = ne-eqb q 8 (n .no-refresh) in
+      let e₇ = ne-eqb q 0 (n .no-mode-set) in
+      record {
+        breaks = rw (← e, l, e₁, e₂, e₃, e₄, e₅, e₆, e₇);
+        leaves = rw (← e, l, e₆);
+        sets = rw (← e, e₇);
+      }
+
+  pub low-refresh : lowOf w ≡ true → codeOf w ≡ 8 → Does (selfBreaks s d t) (selfAfter d) m
+  unfolding stepBreaks stepAfter paceAfter
+  low-refresh l e = record { breaks = rw (l, e); leaves = rw (l, e); sets = rw e }
+
+  -- a command that may not come: whatever it would leave
+  pub low-command : lowOf w ≡ true → eqb (codeOf w) 8 ≡ false → quietCode (codeOf w) ≡ false →
+      Does (unlessLower (highBreaks s d t w)) (lowAfter d t) (paceAfter m w)
+  unfolding stepBreaks stepAfter
+  low-command l e n = record { breaks = rw (l, n, e); leaves = rw (l, e); sets = refl }
 
   -- so a function that answers and leaves what its command does meets the step's contract
   abbrev pub Meets : Option ℕ → List ℕ → List ℕ → Type 0

@@ -1,13 +1,13 @@
--- A request's turn by the sixteen cycles is its turn by the forty deadlines, of which they are taken.
+-- A request's turn by the sixteen cycles is its turn by the deadlines, of which they are taken.
 use Prim.Native.Nat.{ℕ, zero, suc, _+_, _%_, _≤_, _<_}
 use mathlib.Core.Bool.{Bool, true, false, cond}
 use mathlib.Core.List.{List, [], _∷_}
 use mathlib.Core.Path.{_≡_, refl, sym, ap, _∙_}
 use native.Mathlib.Nat.{le-refl}
 use native.Mathlib.Omega.{arith}
-use lib.Dec.{leb, eqb}
+use lib.Dec.{leb, ltb, eqb}
 use lib.ListN.{set}
-use borrow.Author.Tests.{leb-true, leb-false, le-leb, eq-eqb, ne-eqb, eqb-true, eqb-false}
+use borrow.Author.Tests.{ltb-true, ltb-false, lt-ltb, eq-eqb, ne-eqb, eqb-true, eqb-false}
 use Rattle.reading.specs.Search.{later}
 use Rattle.reading.specs.Mode.{h, CL}
 use Rattle.reading.specs.Settings.{Settings}
@@ -46,15 +46,22 @@ later-group a b c =
     (omega (arith, above b c, above a (later b c))) in
     omega (arith, l, k)
 
-leb-same : (a b c : ℕ) → (a ≤ c → b ≤ c) → (b ≤ c → a ≤ c) → leb a c ≡ leb b c
-leb-same a b c f g = go (leb a c) refl
+later-below : (a b c : ℕ) → a < c → b < c → later a b < c
+later-below a b c l k = go (leb a b)
   where
-    go : (v : Bool) → leb a c ≡ v → v ≡ leb b c
-    go true e = sym (le-leb b c (f (leb-true a c e)))
-    go false e = by (leb b c) refl
+    go : (v : Bool) → cond v b a < c
+    go true = k
+    go false = l
+
+ltb-same : (a b c : ℕ) → (a < c → b < c) → (b < c → a < c) → ltb a c ≡ ltb b c
+ltb-same a b c f g = go (ltb a c) refl
+  where
+    go : (v : Bool) → ltb a c ≡ v → v ≡ ltb b c
+    go true e = sym (lt-ltb b c (f (ltb-true a c e)))
+    go false e = by (ltb b c) refl
       where
-        by : (w : Bool) → leb b c ≡ w → false ≡ w
-        by true k = absurd (omega (arith, leb-false a c e, g (leb-true b c k)))
+        by : (w : Bool) → ltb b c ≡ w → false ≡ w
+        by true k = absurd (omega (arith, ltb-false a c e, g (ltb-true b c k)))
         by false k = refl
 
 -- ---- bank b's entry replaced
@@ -65,12 +72,15 @@ put f b v i = cond (eqb i b) v (f i)
 put-own : (f : ℕ → ℕ) (b v : ℕ) → put f b v b ≡ v
 put-own f b v = rw (eq-eqb b b refl)
 
-put-most : (f : ℕ → ℕ) (b v i m : ℕ) → f i ≤ m → v ≤ m → put f b v i ≤ m
-put-most f b v i m l k = go (eqb i b)
+put-either : (P : ℕ → Type 0) (f : ℕ → ℕ) (b v i : ℕ) → P (f i) → P v → P (put f b v i)
+put-either P f b v i l k = go (eqb i b)
   where
-    go : (w : Bool) → cond w v (f i) ≤ m
+    go : (w : Bool) → P (cond w v (f i))
     go true = k
     go false = l
+
+put-most : (f : ℕ → ℕ) (b v i m : ℕ) → f i ≤ m → v ≤ m → put f b v i ≤ m
+put-most f b v i m = put-either (λ n. n ≤ m) f b v i
 
 -- the latest of four and one more
 abbrev over : (ℕ → ℕ) → ℕ → ℕ
@@ -94,10 +104,10 @@ over-last : (f : ℕ → ℕ) (z : ℕ) → z ≤ over f z
 over-last f z =
     omega (arith, above (f 0) (later (f 1) (later (f 2) (later (f 3) z))), above (f 1) (later (f 2) (later (f 3) z)), above (f 2) (later (f 3) z), above (f 3) z)
 
-over-most : (f : ℕ → ℕ) (z m : ℕ) → ((i : ℕ) → i < 4 → f i ≤ m) → z ≤ m → over f z ≤ m
-over-most f z m l k =
-    later-most _ _ m (l 0 (omega arith))
-    (later-most _ _ m (l 1 (omega arith)) (later-most _ _ m (l 2 (omega arith)) (later-most _ _ m (l 3 (omega arith)) k)))
+over-below : (f : ℕ → ℕ) (z m : ℕ) → ((i : ℕ) → i < 4 → f i < m) → z < m → over f z < m
+over-below f z m l k =
+    later-below _ _ m (l 0 (omega arith))
+    (later-below _ _ m (l 1 (omega arith)) (later-below _ _ m (l 2 (omega arith)) (later-below _ _ m (l 3 (omega arith)) k)))
 
 -- ---- rule 7: what the other banks ask of bank i
 
@@ -161,8 +171,8 @@ taken d (suc (suc (suc (suc b)))) l = absurd (omega arith)
 
 -- between requests: the next AUTO REFRESH is in time, and what earlier commands ask is bounded by the next free cycle
 pub record Fair (s : Settings) (d : List ℕ) (free : ℕ) : Type 0 where
-  pub rests : (i : ℕ) → i < 4 → at d (all.REST + i) ≤ at d all.DUE
-  pub bus : at d all.BUS ≤ at d all.DUE
+  pub rests : (i : ℕ) → i < 4 → at d (all.REST + i) < at d all.OVERDUE
+  pub bus : at d all.BUS < at d all.OVERDUE
   pub others : (i : ℕ) → i < 4 → at d (all.OTHER + i) ≤ free + s .tRRD
   pub reads : at d all.READS ≤ free + h (s .mode)
   pub writes : at d all.WRITES ≤ free + h (s .mode)
@@ -240,11 +250,11 @@ landed-is true s m u b y l =
 landed-is false s m u b y l = auto-laid (readGiven (record { bus = u + CL m + h m; reads = u + h m; reader = 4 }) y) (u + h m + s .tRP) b l
 
 -- a list of sixteen
-listed : (x₀ x₁ x₂ x₃ x₄ x₅ x₆ x₇ due bus : ℕ) {a b : ℕ → ℕ} {r w v y : ℕ} → ((i : ℕ) → a i ≡ b i) → r ≡ v → w ≡ y →
-    (x₀ ∷ x₁ ∷ x₂ ∷ x₃ ∷ x₄ ∷ x₅ ∷ x₆ ∷ x₇ ∷ a 0 ∷ a 1 ∷ a 2 ∷ a 3 ∷ r ∷ w ∷ due ∷ bus ∷ []) ≡
-    (x₀ ∷ x₁ ∷ x₂ ∷ x₃ ∷ x₄ ∷ x₅ ∷ x₆ ∷ x₇ ∷ b 0 ∷ b 1 ∷ b 2 ∷ b 3 ∷ v ∷ y ∷ due ∷ bus ∷ [])
-listed x₀ x₁ x₂ x₃ x₄ x₅ x₆ x₇ due bus e p q i =
-    x₀ ∷ x₁ ∷ x₂ ∷ x₃ ∷ x₄ ∷ x₅ ∷ x₆ ∷ x₇ ∷ e 0 i ∷ e 1 i ∷ e 2 i ∷ e 3 i ∷ p i ∷ q i ∷ due ∷ bus ∷ []
+listed : (x₀ x₁ x₂ x₃ x₄ x₅ x₆ x₇ overdue bus : ℕ) {a b : ℕ → ℕ} {r w v y : ℕ} → ((i : ℕ) → a i ≡ b i) → r ≡ v → w ≡ y →
+    (x₀ ∷ x₁ ∷ x₂ ∷ x₃ ∷ x₄ ∷ x₅ ∷ x₆ ∷ x₇ ∷ a 0 ∷ a 1 ∷ a 2 ∷ a 3 ∷ r ∷ w ∷ overdue ∷ bus ∷ []) ≡
+    (x₀ ∷ x₁ ∷ x₂ ∷ x₃ ∷ x₄ ∷ x₅ ∷ x₆ ∷ x₇ ∷ b 0 ∷ b 1 ∷ b 2 ∷ b 3 ∷ v ∷ y ∷ overdue ∷ bus ∷ [])
+listed x₀ x₁ x₂ x₃ x₄ x₅ x₆ x₇ overdue bus e p q i =
+    x₀ ∷ x₁ ∷ x₂ ∷ x₃ ∷ x₄ ∷ x₅ ∷ x₆ ∷ x₇ ∷ e 0 i ∷ e 1 i ∷ e 2 i ∷ e 3 i ∷ p i ∷ q i ∷ overdue ∷ bus ∷ []
 
 -- a bank's tRAS and tRP since its own ACTIVE
 own-locked : (own : Bool) (l k c r : ℕ) → cond own (later (cond own l k) c) r ≡ cond own (later l c) r
@@ -281,7 +291,7 @@ module _ (s : Settings) (g : Ranged s) (x : Held) (f t u : ℕ) (fair : Fair s (
   settled : (b : ℕ) → b < 4 → (i : ℕ) → apartIn (put others b (t + s .tRRD)) i ≡ cond (eqb i b) (apartIn others i) (t + s .tRRD)
   settled b lb i = apart-after others (t + s .tRRD) low b lb i
 
-  -- when the forty let a READ, and a WRITE, through: before, and after
+  -- when the deadlines let a READ, and a WRITE, through: before, and after
   abbrev read-at : ℕ
   read-at = later (x .write .end) (x .read .reads)
 
@@ -330,13 +340,13 @@ module _ (s : Settings) (g : Ranged s) (x : Held) (f t u : ℕ) (fair : Fair s (
     own : (write : Bool) → after write b ≡ Rest write
     own write = rests-are write b ∙ put-own rests b (Rest write)
 
-    rests-most : (write : Bool) → Rest write ≤ x .due → (i : ℕ) → i < 4 → after write i ≤ x .due
-    rests-most write k i li =
-        rw (rests-are write i) (put-most rests b (Rest write) i (x .due) (omega (arith, stands x i li .rest, fair .rests i li)) k)
+    rests-below : (write : Bool) → Rest write < x .sleep .overdue → (i : ℕ) → i < 4 → after write i < x .sleep .overdue
+    rests-below write k i li =
+        rw (rests-are write i) (put-either (λ n. n < x .sleep .overdue) rests b (Rest write) i (omega (arith, stands x i li .rest, fair .rests i li)) k)
 
-    bus-most : (write : Bool) → Bus write ≤ x .due → bus write ≤ x .due
-    bus-most true k = fair .bus
-    bus-most false k = k
+    bus-below : (write : Bool) → Bus write < x .sleep .overdue → bus write < x .sleep .overdue
+    bus-below true k = fair .bus
+    bus-below false k = k
 
     bus-least : (write : Bool) → Bus write ≤ bus write
     bus-least true = omega arith
@@ -347,22 +357,23 @@ module _ (s : Settings) (g : Ranged s) (x : Held) (f t u : ℕ) (fair : Fair s (
     behind-burst false = omega (arith, above (t + s .tRAS + s .tRP) (u + h m + s .tRP), g .least-tRP)
 
     kept-at : (write : Bool) → Placed write →
-        leb (later (u + 1) (later (x .busy) (over (after write) (bus write)))) (x .due) ≡ leb (later (Rest write) (Bus write)) (x .due)
+        ltb (later (u + 1) (later (x .busy) (over (after write) (bus write)))) (x .sleep .overdue) ≡
+        ltb (later (Rest write) (Bus write)) (x .sleep .overdue)
     kept-at write k =
         let z : ℕ = over (after write) (bus write) in
-        leb-same (later (u + 1) (later (x .busy) z)) (later (Rest write) (Bus write)) (x .due)
+        ltb-same (later (u + 1) (later (x .busy) z)) (later (Rest write) (Bus write)) (x .sleep .overdue)
         (λ j.
-        later-most (Rest write) (Bus write) (x .due)
+        later-below (Rest write) (Bus write) (x .sleep .overdue)
         (omega (arith, above (u + 1) (later (x .busy) z), above (x .busy) z, over-own (after write) (bus write) b lb, own write))
         (omega (arith, above (u + 1) (later (x .busy) z), above (x .busy) z, over-last (after write) (bus write), bus-least write)))
         (λ j.
-        let rest : Rest write ≤ x .due = omega (arith, above (Rest write) (Bus write)) in
-        let free : Bus write ≤ x .due = omega (arith, above (Rest write) (Bus write)) in
-        later-most (u + 1) (later (x .busy) z) (x .due) (omega (arith, behind-burst write))
-        (later-most (x .busy) z (x .due) (omega (arith, behind-burst write, not-before write k))
-        (over-most (after write) (bus write) (x .due) (rests-most write rest) (bus-most write free))))
+        let rest : Rest write < x .sleep .overdue = omega (arith, above (Rest write) (Bus write)) in
+        let free : Bus write < x .sleep .overdue = omega (arith, above (Rest write) (Bus write)) in
+        later-below (u + 1) (later (x .busy) z) (x .sleep .overdue) (omega (arith, behind-burst write))
+        (later-below (x .busy) z (x .sleep .overdue) (omega (arith, behind-burst write, not-before write k))
+        (over-below (after write) (bus write) (x .sleep .overdue) (rests-below write rest) (bus-below write free))))
 
-    pub kept-same : (write : Bool) → Placed write → inTime (laid (After b write)) (u + 1) ≡ leb (later (Rest write) (Bus write)) (x .due)
+    pub kept-same : (write : Bool) → Placed write → inTime (laid (After b write)) (u + 1) ≡ ltb (later (Rest write) (Bus write)) (x .sleep .overdue)
     unfolding inTime plan.refreshSoonest soonest
     kept-same true k = kept-at true k
     kept-same false k = kept-at false k
@@ -371,19 +382,19 @@ module _ (s : Settings) (g : Ranged s) (x : Held) (f t u : ℕ) (fair : Fair s (
     others-most write k i li =
         put-most others b (t + s .tRRD) i (u + 1 + s .tRRD) (omega (arith, low i li, not-before write k)) (omega (arith, not-before write k))
 
-    pub fair-after : (write : Bool) → Placed write → later (Rest write) (Bus write) ≤ x .due → Fair s (laid (After b write)) (u + 1)
+    pub fair-after : (write : Bool) → Placed write → later (Rest write) (Bus write) < x .sleep .overdue → Fair s (laid (After b write)) (u + 1)
     fair-after true k j =
         record {
-          rests = λ i li. rw (stands (After b true) i li .rest) (rests-most true (omega (arith, above (Rest true) (Bus true))) i li);
-          bus = bus-most true (omega (arith, above (Rest true) (Bus true)));
+          rests = λ i li. rw (stands (After b true) i li .rest) (rests-below true (omega (arith, above (Rest true) (Bus true))) i li);
+          bus = bus-below true (omega (arith, above (Rest true) (Bus true)));
           others = λ i li. rw (stands (After b true) i li .other) (others-most true k i li);
           reads = omega (arith, fair .reads, not-before true k);
           writes = omega arith;
         }
     fair-after false k j =
         record {
-          rests = λ i li. rw (stands (After b false) i li .rest) (rests-most false (omega (arith, above (Rest false) (Bus false))) i li);
-          bus = bus-most false (omega (arith, above (Rest false) (Bus false)));
+          rests = λ i li. rw (stands (After b false) i li .rest) (rests-below false (omega (arith, above (Rest false) (Bus false))) i li);
+          bus = bus-below false (omega (arith, above (Rest false) (Bus false)));
           others = λ i li. rw (stands (After b false) i li .other) (others-most false k i li);
           reads = omega arith;
           writes = omega (arith, fair .writes, not-before false k);

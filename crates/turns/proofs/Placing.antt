@@ -6,13 +6,13 @@ use mathlib.Core.List.{List}
 use mathlib.Core.Path.{_≡_, sym, ap, _∙_}
 use native.Mathlib.Numerals.{add-one}
 use native.Mathlib.Omega.{arith}
-use lib.Dec.{leb}
+use lib.Dec.{ltb}
 use Rattle.reading.specs.Search.{later}
 use Rattle.reading.specs.Settings.{Settings}
 use Rattle.reading.specs.Capture.{Event}
 use Rattle.reading.specs.Rules.{placing}
 use Rattle.reading.specs.Schedule.{asksWrite, firstCell, cellBank, requestFits, activePins, burstPins, refreshPins, freeFrom, placed, send, sendAll, sendRequest, refreshInTime}
-use Rattle.deadlines.specs.Deadlines.{DUE, at, paceOf, activeAfter, refreshAfter}
+use Rattle.deadlines.specs.Deadlines.{OVERDUE, at, paceOf, activeAfter, refreshAfter}
 use Rattle.plan.specs.Soonest.{burstSoonest, refreshSoonest}
 use Rattle.plan.specs.Behind.{deadlinesOf}
 use Rattle.plan.proofs.Ranged.{Ranged}
@@ -82,5 +82,5 @@ module _ (s : Settings) (g : Ranged s) (es : List Event) (r : Reached s es) (idl
     pub tried-kept : triedKept s (deadlinesOf s es) (freeFrom 0 es) q ≡ refreshInTime placing s (sendRequest placing s es q)
     unfolding triedKept inTime
     tried-kept =
-        (λ i. leb (later (sym tried-free i) (refreshSoonest (tried-after i))) (at (tried-after i) DUE))
+        (λ i. ltb (later (sym tried-free i) (refreshSoonest (tried-after i))) (at (tried-after i) OVERDUE))
         ∙ sym (in-time-is g (request-reached s g q fits es r idle) (request-idle s g q fits es r idle))

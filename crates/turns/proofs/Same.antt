@@ -1,4 +1,4 @@
--- A turn by the sixteen cycles that are taken of forty deadlines is the turn by those deadlines, and leaves the sixteen of
+-- A turn by the sixteen cycles that are taken of the deadlines is the turn by those deadlines, and leaves the sixteen of
 -- what that leaves.
 use Prim.Native.Nat.{ℕ, suc, _+_, _%_, _^_, _≤_, _<_}
 use mathlib.Core.Bool.{Bool, true, false, cond}
@@ -7,15 +7,15 @@ use mathlib.Core.Path.{_≡_, refl, sym, ap, _∙_, subst}
 use native.Mathlib.Nat.{mod-eq-of-lt}
 use native.Mathlib.Numerals.{add-one}
 use native.Mathlib.Omega.{arith}
-use lib.Dec.{leb}
+use lib.Dec.{ltb}
 use lib.ListN.{set}
-use borrow.Author.Tests.{leb-true}
+use borrow.Author.Tests.{ltb-true}
 use Rattle.reading.specs.Search.{later}
 use Rattle.reading.specs.Settings.{Settings}
 use Rattle.reading.specs.Schedule.{asksWrite, firstCell, cellBank}
 use Rattle.deadlines.specs.Deadlines.{paceOf, at, refreshAfter}
 use Rattle.deadlines.specs.Deadlines as all
-use Rattle.bridge.specs.Summary.{Held, laid}
+use Rattle.bridge.specs.Summary.{SleepHeld, Held, laid}
 use Rattle.bridge.proofs.Laid.{stands, timed, active-laid}
 use Rattle.plan.specs.Soonest as plan
 use Rattle.plan.proofs.Ranged.{Ranged}
@@ -115,7 +115,7 @@ module _ (s : Settings) (g : Ranged s) (x : Held) (q : ℕ) (lb : cellBank s (fi
   pub kept-by : by.kept s m k F w b ≡ triedKept s d f q
   unfolding by.kept by.rested triedKept betweenOf
   kept-by =
-      (λ i. leb (later (restAfter w s m (active-by i) (burst-by i)) (busAfter w m (burst-by i))) (x .due))
+      (λ i. ltb (later (restAfter w s m (active-by i) (burst-by i)) (busAfter w m (burst-by i))) (x .sleep .overdue))
       ∙ sym (kept-same s g x f t u fair f-before idle b lb w placed)
       ∙ ap (λ (z : List ℕ). inTime z (u + 1)) (sym after-is)
 
@@ -132,8 +132,8 @@ module _ (s : Settings) (g : Ranged s) (x : Held) (q : ℕ) (lb : cellBank s (fi
   pub fair-on : triedKept s (laid x) f q ≡ true → Fair s (triedAfter s (laid x) f q) (burstAt s (laid x) f q + 1)
   unfolding triedKept
   fair-on e =
-      let j : later (restAfter w s m t u) (busAfter w m u) ≤ x .due =
-      leb-true _ _ (sym (kept-same s g x f t u fair f-before idle b lb w placed) ∙ ap (λ (z : List ℕ). inTime z (u + 1)) (sym after-is) ∙ e) in
+      let j : later (restAfter w s m t u) (busAfter w m u) < x .sleep .overdue =
+      ltb-true _ _ (sym (kept-same s g x f t u fair f-before idle b lb w placed) ∙ ap (λ (z : List ℕ). inTime z (u + 1)) (sym after-is) ∙ e) in
       rw after-is (fair-after s g x f t u fair f-before idle b lb w placed j)
 
   pub idle-on : x .busy ≤ burstAt s (laid x) f q + 1
@@ -185,8 +185,12 @@ module _ (s : Settings) (g : Ranged s) (x : Held) (q : ℕ) (lb : cellBank s (fi
   unfolding by.refreshAt refreshAt cycleFor
   refresh-by = ap (λ (z : ℕ). z % 2 ^ 32) (refresh-same D f free)
 
+  -- the refresh clock counts from it
+  abbrev ticking : SleepHeld
+  ticking = record { overdue = all.overdueFrom s r; wake = x .sleep .wake; asleep = x .sleep .asleep; self = x .sleep .self }
+
   abbrev x₁ : Held
-  x₁ = timed (r + s .tRFC) (r + s .GAP) x
+  x₁ = timed (r + s .tRFC) ticking x
 
   fair₁ : Fair s (laid x₁) (r + 1)
   fair₁ =
@@ -210,7 +214,7 @@ module _ (s : Settings) (g : Ranged s) (x : Held) (q : ℕ) (lb : cellBank s (fi
 
   refreshed-by : by.refreshed s K f q ≡ betweenOf (laid x₁)
   unfolding by.refreshed betweenOf
-  refreshed-by = ap (λ (z : ℕ). set (betweenOf D) by.DUE (z + s .GAP)) refresh-by
+  refreshed-by = ap (λ (z : ℕ). set (betweenOf D) by.OVERDUE (all.overdueFrom s z)) refresh-by
 
   -- its cycles, alone and behind it
   abbrev W : Bool

@@ -6,12 +6,12 @@ use mathlib.Core.Path.{_≡_, sym, ap, _∙_}
 use lib.ListN.{set}
 use Rattle.reading.specs.Settings.{Settings}
 use Rattle.reading.specs.Schedule.{asksWrite, firstCell, cellBank}
-use Rattle.deadlines.specs.Deadlines.{paceOf}
+use Rattle.deadlines.specs.Deadlines.{paceOf, overdueFrom}
 use Rattle.turns.specs.declared.Tried.{Tried}
 use Rattle.turns.specs.declared.Placed.the-variants.{Alone, Behind, Late}
 use Rattle.turns.specs.Turns.{Turn, told}
 use Rattle.turns.specs.Turning.{cycleFor}
-use Rattle.turns.specs.Between.{DUE, refreshSoonest, trying, taking, refreshAt, refreshed, alone, behind, serving, servedAfter}
+use Rattle.turns.specs.Between.{OVERDUE, refreshSoonest, trying, taking, refreshAt, refreshed, alone, behind, serving, servedAfter}
 
 module _ (s : Settings) (k : List ℕ) (free q : ℕ) {m : List ℕ} (mm : m ≡ paceOf (s .mode)) {w : Bool} (ww : w ≡ asksWrite q)
     {b : ℕ} (bb : b ≡ cellBank s (firstCell q)) {r : Tried} (tried : r ≡ trying s m k free w b) where
@@ -31,15 +31,16 @@ module _ (s : Settings) (k : List ℕ) (free q : ℕ) {m : List ℕ} (mm : m ≡
       )
 
   -- with an AUTO REFRESH before it
-  module _ (e : r .kept ≡ false) {refresh : ℕ} (at : refresh ≡ cycleFor free (refreshSoonest k)) {due : ℕ} (next : due ≡ refresh + s .GAP)
-      {from : ℕ} (on : from ≡ refresh + s .tRFC) {r₂ : Tried} (tried₂ : r₂ ≡ trying s m (set k DUE due) from w b) where
+  module _ (e : r .kept ≡ false) {refresh : ℕ} (at : refresh ≡ cycleFor free (refreshSoonest k))
+      {overdue : ℕ} (next : overdue ≡ overdueFrom s refresh)
+      {from : ℕ} (on : from ≡ refresh + s .tRFC) {r₂ : Tried} (tried₂ : r₂ ≡ trying s m (set k OVERDUE overdue) from w b) where
     at-is : refresh ≡ refreshAt s k free q
     unfolding refreshAt
     at-is = at
 
-    k-is : set k DUE due ≡ refreshed s k free q
+    k-is : set k OVERDUE overdue ≡ refreshed s k free q
     unfolding refreshed
-    k-is = ap (set k DUE) (next ∙ ap (λ (t : ℕ). t + s .GAP) at-is)
+    k-is = ap (set k OVERDUE) (next ∙ ap (overdueFrom s) at-is)
 
     r₂-is : r₂ ≡ behind s k free q
     r₂-is = tried₂ ∙ (λ i. trying s (mm i) (k-is i) ((on ∙ ap (λ (t : ℕ). t + s .tRFC) at-is) i) (ww i) (bb i))
@@ -57,7 +58,7 @@ module _ (s : Settings) (k : List ℕ) (free q : ℕ) {m : List ℕ} (mm : m ≡
     unfolding turn
     by-kept g = sym (ap (λ (x : Bool). cond x (Behind refresh (r₂ .active) (r₂ .burst)) Late) g) ∙ ap told turn-is
 
-    module _ {k₂ : List ℕ} (f : k₂ ≡ taking s m (set k DUE due) w b r₂) where
+    module _ {k₂ : List ℕ} (f : k₂ ≡ taking s m (set k OVERDUE overdue) w b r₂) where
       left-is : k₂ ≡ servedAfter s k free q
       unfolding servedAfter
       left-is = rw (kept-as e) (f ∙ (λ i. taking s (mm i) (k-is i) (ww i) (bb i) (r₂-is i)))

@@ -1,15 +1,15 @@
--- Between two requests all banks are idle, and sixteen cycles k are enough of the forty deadlines. Here is which they are,
+-- Between two requests all banks are idle, and sixteen cycles k are enough of the deadlines. Here is which they are,
 -- and a request's turn by them and the next free cycle.
 use Prim.Native.Nat.{ℕ, _+_}
 use mathlib.Core.Bool.{Bool, true, false, cond}
 use mathlib.Core.List.{List, [], _∷_}
 use lib.ListN.{set, replicate}
-use lib.Dec.{leb}
+use lib.Dec.{ltb}
 use Rattle.reading.specs.Search.{later}
 use Rattle.reading.specs.Settings.{Settings}
 use Rattle.reading.specs.Schedule.{asksWrite, firstCell, cellBank}
 use Rattle.deadlines.specs.Deadlines as all
-use Rattle.deadlines.specs.Deadlines.{PAIRS, LATENCY, at, otherBank, paceOf, dueAtStart, dueAfterRefresh}
+use Rattle.deadlines.specs.Deadlines.{PAIRS, LATENCY, at, otherBank, paceOf, overdueFrom}
 use Rattle.turns.specs.declared.Tried.{Tried}
 use Rattle.turns.specs.Turns.{Turn}
 use Rattle.turns.specs.Turning.{cycleFor}
@@ -31,8 +31,8 @@ READ-FROM = 12
 abbrev pub WRITE-FROM : ℕ
 WRITE-FROM = 13
 
-abbrev pub DUE : ℕ
-DUE = 14
+abbrev pub OVERDUE : ℕ
+OVERDUE = 14
 
 abbrev pub BUS : ℕ
 BUS = 15
@@ -41,16 +41,16 @@ BUS = 15
 abbrev pub apart : List ℕ → ℕ → ℕ
 apart d b = later (otherBank d b 0) (later (otherBank d b 1) (later (otherBank d b 2) (otherBank d b 3)))
 
--- the sixteen of forty deadlines d
+-- the sixteen of deadlines d
 unfoldable pub betweenOf : List ℕ → List ℕ
 betweenOf d =
     at d all.REST ∷ at d (all.REST + 1) ∷ at d (all.REST + 2) ∷ at d (all.REST + 3)
     ∷ at d all.AGAIN ∷ at d (all.AGAIN + 1) ∷ at d (all.AGAIN + 2) ∷ at d (all.AGAIN + 3)
     ∷ apart d 0 ∷ apart d 1 ∷ apart d 2 ∷ apart d 3
-    ∷ later (at d all.END) (at d all.READS) ∷ later (at d all.BUS) (at d all.WRITES) ∷ at d all.DUE ∷ at d all.BUS ∷ []
+    ∷ later (at d all.END) (at d all.READS) ∷ later (at d all.BUS) (at d all.WRITES) ∷ at d all.OVERDUE ∷ at d all.BUS ∷ []
 
 unfoldable pub startOf : Settings → List ℕ
-startOf s = set (replicate 16 0) DUE (dueAtStart s)
+startOf s = set (replicate 16 0) OVERDUE (overdueFrom s 0)
 
 -- ---- when a command may be given
 
@@ -84,7 +84,7 @@ module _ (s : Settings) (m k : List ℕ) (free : ℕ) (write : Bool) (b : ℕ) w
   rested = restAfter write s m activeAt burstAt
 
   unfoldable pub kept : Bool
-  kept = leb (later rested (busAfter write m burstAt)) (at k DUE)
+  kept = ltb (later rested (busAfter write m burstAt)) (at k OVERDUE)
 
   abbrev pub trying : Tried
   trying = record { active = activeAt; burst = burstAt; rest = rested; kept = kept }
@@ -113,7 +113,7 @@ module _ (s : Settings) (k : List ℕ) (free q : ℕ) where
   refreshAt = cycleFor free (refreshSoonest k)
 
   unfoldable pub refreshed : List ℕ
-  refreshed = set k DUE (dueAfterRefresh s refreshAt)
+  refreshed = set k OVERDUE (overdueFrom s refreshAt)
 
   abbrev pub alone : Tried
   alone = trying s (paceOf (s .mode)) k free (asksWrite q) (cellBank s (firstCell q))

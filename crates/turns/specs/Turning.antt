@@ -1,13 +1,13 @@
--- One request's turn in the schedule, by the forty deadlines d of the part and the next free cycle. The code has the same
+-- One request's turn in the schedule, by the deadlines d of the part and the next free cycle. The code has the same
 -- turn from fewer cycles: Between.
 use Prim.Native.Nat.{ℕ, _+_, _%_, _^_}
 use mathlib.Core.Bool.{Bool, true, false, cond}
 use mathlib.Core.List.{List}
-use lib.Dec.{leb}
+use lib.Dec.{ltb}
 use Rattle.reading.specs.Search.{later}
 use Rattle.reading.specs.Settings.{Settings}
 use Rattle.reading.specs.Schedule.{asksWrite, firstCell, cellBank}
-use Rattle.deadlines.specs.Deadlines.{DUE, at, paceOf, activeAfter, readAfter, writeAfter, refreshAfter}
+use Rattle.deadlines.specs.Deadlines.{OVERDUE, at, paceOf, activeAfter, readAfter, writeAfter, refreshAfter}
 use Rattle.plan.specs.Soonest.{activeSoonest, burstSoonest, refreshSoonest}
 use Rattle.turns.specs.Turns.{Turn}
 
@@ -17,7 +17,7 @@ cycleFor free soonest = later free soonest % 2 ^ 32
 
 -- an AUTO REFRESH placed next comes at most GAP after the last one
 unfoldable pub inTime : List ℕ → ℕ → Bool
-inTime d free = leb (later free (refreshSoonest d)) (at d DUE)
+inTime d free = ltb (later free (refreshSoonest d)) (at d OVERDUE)
 
 -- READ or WRITE with auto precharge, of bank b at t
 abbrev pub burstLeaves : Bool → Settings → List ℕ → List ℕ → ℕ → ℕ → List ℕ

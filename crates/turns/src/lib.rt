@@ -44,7 +44,7 @@ const READ_FROM: usize = 12;
 
 const WRITE_FROM: usize = 13;
 
-const DUE: usize = 14;
+const OVERDUE: usize = 14;
 
 const BUS: usize = 15;
 
@@ -133,7 +133,7 @@ fn request(s: &Settings, k: &Between, pace: &Pace, free: u64, write: bool, b: us
     let burst = cycle_for(after(active, s[T_RCD]), burst_soonest(write, k));
     let rest = rest_after(write, s, pace, active, burst);
     let last = latest(rest, bus_after(write, pace, burst));
-    let kept = last <= k[DUE];
+    let kept = last < k[OVERDUE];
     Tried {
         active,
         burst,
@@ -180,12 +180,12 @@ fn take(s: &Settings, k: &mut Between, pace: &Pace, write: bool, b: usize, tried
     burst_after(write, s, k, pace, tried.burst);
 }
 
-// Before the first request: nothing has happened, and the first AUTO REFRESH is due after GAP.
+// Before the first request: nothing has happened, and the refresh clock counts from cycle 0.
 pub fn start(s: &Settings) -> Between
     ensures { λ r. ⌜ r ≡ is.startOf (settingsOf (now (s .entry))) ⌝ }
 {
     let mut k = [0u64; KEPT];
-    k[DUE] = clock::due_at_start(s);
+    k[OVERDUE] = clock::overdue_from(s, 0);
     k
 }
 
@@ -207,7 +207,7 @@ pub fn serve(s: &Settings, k: &mut Between, pace: &Pace, free: u64, q: u32) -> P
         };
     }
     let refresh = cycle_for(free, refresh_soonest(&*k));
-    k[DUE] = clock::due_after_refresh(s, refresh);
+    k[OVERDUE] = clock::overdue_from(s, refresh);
     let behind = request(s, &*k, pace, after(refresh, s[T_RFC]), write, b);
     take(s, k, pace, write, b, behind);
     if !behind.kept {

@@ -12,7 +12,7 @@ use borrow.Author.Tests.{ne-eqb}
 use Rattle.reading.specs.Search.{given}
 use Rattle.reading.specs.Words.{bytesOf}
 use Rattle.reading.specs.Settings.{settingFits, badSetting}
-use Rattle.reading.specs.Capture.{headerWord, eventCount, captureSize, mostEvents, settingWords, eventBytes, lengthFits, headerFits, pinBits, badEvent}
+use Rattle.reading.specs.Capture.{headerWord, eventCount, captureSize, mostEvents, settingWords, eventBytes, lengthFits, headerFits, pinLimit, badEvent}
 use Rattle.reading.specs.Answers.{Answer, refused, unless, accepted}
 use Rattle.reading.proofs.Cases.{NOP, at, usual, refuses, touches, said, Case, case, bytes, Hold}
 
@@ -120,6 +120,6 @@ module _ {A : Type 0} (capture : List ℕ) (rest : Answer A) where
       eventCount capture ≡ 8000 →
       headerWord capture 4 ≡ 80 →
       headerWord capture 5 ≡ 0 →
-      accepted capture rest ≡ unless 3 (badSetting (settingWords capture)) (unless 4 (badEvent (pinBits capture) (eventBytes capture) 8000) rest)
+      accepted capture rest ≡ unless 3 (badSetting (settingWords capture)) (unless 4 (badEvent (pinLimit capture) (eventBytes capture) 8000) rest)
   unfolding accepted lengthFits headerFits
   longest l total settings from events onwards zeros = rw (l, total, settings, from, events, onwards, zeros)

@@ -42,8 +42,8 @@ refresh-soonest-requires c κs = search needs
 cycle-for-requires : tie.Need-cycle-for-requires
 cycle-for-requires c κs = search needs
 
-due-after-refresh-requires : tie.Need-due-after-refresh-requires
-due-after-refresh-requires c κs = search needs
+overdue-from-requires : tie.Need-overdue-from-requires
+overdue-from-requires c κs = search needs
 
 element-write-k : tie.Need-element-write-k
 element-write-k c = search needs
@@ -74,7 +74,7 @@ returns-2 c =
     served-late (settingsOf (start .args .s .now)) (start .args .k .now) (start .args .free) (start .args .q) (start .pre .1)
     (chosen .before .before .before .asks-write .ensures) (banked .bank .ensures) (chosen .before .request .ensures) (chosen .if1 .left)
     (refreshed .cycle-for .ensures ∙ ap (cycleFor (start .args .free)) (refreshed .before .refresh-soonest .ensures))
-    (taken .before .before .before .before .before .before .due-after-refresh .ensures) (taken .before .before .before .after .ensures)
+    (taken .before .before .before .before .before .before .overdue-from .ensures) (taken .before .before .before .after .ensures)
     (taken .before .before .request2 .ensures) (taken .take2 .ensures) (not-true _ (c .if2 .taken))
 
 returns-3 : tie.Need-returns-3
@@ -87,7 +87,7 @@ returns-3 c =
     served-behind (settingsOf (start .args .s .now)) (start .args .k .now) (start .args .free) (start .args .q) (start .pre .1)
     (chosen .before .before .before .asks-write .ensures) (banked .bank .ensures) (chosen .before .request .ensures) (chosen .if1 .left)
     (refreshed .cycle-for .ensures ∙ ap (cycleFor (start .args .free)) (refreshed .before .refresh-soonest .ensures))
-    (taken .before .before .before .before .before .before .due-after-refresh .ensures) (taken .before .before .before .after .ensures)
+    (taken .before .before .before .before .before .before .overdue-from .ensures) (taken .before .before .before .after .ensures)
     (taken .before .before .request2 .ensures) (taken .take2 .ensures) (not-false _ (c .if2 .left))
 
 pub serve-spec : {M : Type 1} → statement M
@@ -102,7 +102,7 @@ serve-spec =
     returns
     refresh-soonest-requires
     cycle-for-requires
-    due-after-refresh-requires
+    overdue-from-requires
     element-write-k
     element-copy-out-after
     after-requires

@@ -3,15 +3,15 @@ use borrow.Author.Needs.{needs}
 use Rattle.turns.proofs.start.Statement.{statement}
 use Rattle.turns.proofs.start.Tie as tie
 
-due-at-start-requires : tie.Need-due-at-start-requires
-due-at-start-requires c κs = search needs
+overdue-from-requires : tie.Need-overdue-from-requires
+overdue-from-requires c κs = search needs
 
 array-write-k : tie.Need-array-write-k
 array-write-k c = search needs
 
 returns : tie.Need-returns
 unfolding startOf
-returns c = rw (c .due-at-start .ensures)
+returns c = rw (c .overdue-from .ensures)
 
 pub start-spec : {M : Type 1} → statement M
-start-spec = tie.close (tie.spec due-at-start-requires array-write-k returns)
+start-spec = tie.close (tie.spec overdue-from-requires array-write-k returns)

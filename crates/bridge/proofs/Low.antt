@@ -1,0 +1,171 @@
+-- With CKE low: the lowest broken rule of a part is the one that its deadlines show.
+use Prim.Native.Nat.{ℕ, _+_, _<_}
+use mathlib.Core.Bool.{Bool, true, false, cond, not, _&&_, _||_, or-true}
+use mathlib.Core.Option.{Option, none, some}
+use mathlib.Core.Path.{_≡_, refl, sym, ap, _∙_}
+use native.Mathlib.Omega.{arith}
+use lib.Dec.{leb, ltb, eqb, leb·zero}
+use borrow.Author.Tests.{leb-true, leb-false, le-leb, lt-leb, lt-ltb, ne-eqb}
+use Rattle.reading.specs.Search.{implies, after}
+use Rattle.reading.specs.Settings.{Settings}
+use Rattle.reading.specs.RefreshClock.{Clock, inTime}
+use Rattle.reading.specs.Commands.{Op, AUTO-REFRESH, NOP, DESELECT, Command, is, quiet}
+use Rattle.reading.specs.Bursts.{Burst, dataEnd}
+use Rattle.reading.specs.Sleep.{rested}
+use Rattle.reading.specs.Part.{Part, lastWrite}
+use Rattle.reading.specs.Rules.{rule1, rule2, rule3, rule4, rule5, rule6, rule7, rule8, rule9, rule10, rule11, rule12, rule13, rule14, rule15, afterData, rules, lowestBroken}
+use Rattle.deadlines.specs.Deadlines.{FAR, orElse, enterBreaks, lowBreaks, selfBreaks}
+use Rattle.steps.specs.Steps.{unlessLower}
+use Rattle.bridge.specs.Summary.{SleepHeld, ended, laid, summary, sleepHeld, overdueBy}
+use Rattle.bridge.proofs.Tests.{num, num-cond, after-is, cleared-is, leb-later}
+use Rattle.bridge.proofs.Rules.{does, doesLow, says, refresh-agrees}
+use Rattle.bridge.proofs.Sleeping.{in-time-is, never, sleepOf}
+
+-- ---- rules 1 to 14, and what comes last
+
+module _ (s : Settings) (p : Part) (t : ℕ) where
+  abbrev upTo14 : Command → ℕ → ℕ
+  upTo14 c rest =
+      orElse (rule1 s p t c) 1 (orElse (rule2 s p t c) 2 (orElse (rule3 s p t c) 3 (orElse (rule4 s p t c) 4 (orElse (rule5 s p t c) 5 (orElse (rule6 s p t c) 6 (orElse (rule7 s p t c) 7 (orElse (rule8 s p t c) 8 (orElse (rule9 s p t c) 9 (orElse (rule10 s p t c) 10 (orElse (rule11 s p t c) 11 (orElse (rule12 s p t c) 12 (orElse (rule13 s p t c) 13 (orElse (rule14 s p t c) 14 rest)))))))))))))
+
+  chain-is : (c : Command) → num (lowestBroken rules s p t c) ≡ upTo14 c (orElse (rule15 s p t c) 15 0)
+  chain-is c = simp num-cond
+
+-- what a rule, if there is one, is followed by
+abbrev sealed : ℕ → ℕ → ℕ
+sealed rule rest = cond (eqb rule 0) rest rule
+
+sealed-chain : (k1 k2 k3 k4 k5 k6 k7 k8 k9 k10 k11 k12 k13 k14 w e : Bool) →
+    sealed (orElse k1 1 (orElse k2 2 (orElse k3 3 (orElse k4 4 (orElse k5 5 (orElse k6 6 (orElse k7 7 (orElse k8 8 (orElse k9 9 (orElse k10 10 (orElse k11 11 (orElse k12 12 (orElse k13 13 (orElse k14 14 (orElse w 15 0))))))))))))))) (orElse e 15 0) ≡
+    orElse k1 1 (orElse k2 2 (orElse k3 3 (orElse k4 4 (orElse k5 5 (orElse k6 6 (orElse k7 7 (orElse k8 8 (orElse k9 9 (orElse k10 10 (orElse k11 11 (orElse k12 12 (orElse k13 13 (orElse k14 14 (orElse w 15 (orElse e 15 0)))))))))))))))
+sealed-chain false k2 k3 k4 k5 k6 k7 k8 k9 k10 k11 k12 k13 k14 w e = refl
+sealed-chain true false k3 k4 k5 k6 k7 k8 k9 k10 k11 k12 k13 k14 w e = refl
+sealed-chain true true false k4 k5 k6 k7 k8 k9 k10 k11 k12 k13 k14 w e = refl
+sealed-chain true true true false k5 k6 k7 k8 k9 k10 k11 k12 k13 k14 w e = refl
+sealed-chain true true true true false k6 k7 k8 k9 k10 k11 k12 k13 k14 w e = refl
+sealed-chain true true true true true false k7 k8 k9 k10 k11 k12 k13 k14 w e = refl
+sealed-chain true true true true true true false k8 k9 k10 k11 k12 k13 k14 w e = refl
+sealed-chain true true true true true true true false k9 k10 k11 k12 k13 k14 w e = refl
+sealed-chain true true true true true true true true false k10 k11 k12 k13 k14 w e = refl
+sealed-chain true true true true true true true true true false k11 k12 k13 k14 w e = refl
+sealed-chain true true true true true true true true true true false k12 k13 k14 w e = refl
+sealed-chain true true true true true true true true true true true false k13 k14 w e = refl
+sealed-chain true true true true true true true true true true true true false k14 w e = refl
+sealed-chain true true true true true true true true true true true true true false w e = refl
+sealed-chain true true true true true true true true true true true true true true true e = refl
+sealed-chain true true true true true true true true true true true true true true false e = refl
+
+-- ---- a command that may not come
+
+module _ (s : Settings) (p : Part) (t : ℕ) where
+  abbrev high : Op → ℕ → ℕ → Bool → ℕ → ℕ
+  high o b a ten rest = upTo14 s p t (does o b a ten) rest
+
+  -- rule 4 is asked of it as with CKE high; the others do not look at CKE
+  same-rules : (o : Op) (b a : ℕ) (ten : Bool) → quiet (does o b a ten) ≡ false → (rest : ℕ) →
+      upTo14 s p t (doesLow o b a ten) rest ≡ upTo14 s p t (does o b a ten) rest
+  same-rules o b a ten n rest = rw (n, or-true (not (p .sleep .asleep)))
+
+  none-allowed : (a : Bool) → cond a false false ≡ false
+  none-allowed true = refl
+  none-allowed false = refl
+
+  pub command-agrees : (o : Op) (b a : ℕ) (ten : Bool) → quiet (does o b a ten) ≡ false → is AUTO-REFRESH (does o b a ten) ≡ false →
+      num (lowestBroken rules s p t (doesLow o b a ten)) ≡ unlessLower (says s p t o b a ten)
+  command-agrees o b a ten n r =
+      let c = does o b a ten in
+      let low : rule15 s p t (doesLow o b a ten) ≡ false = rw (n, r) (none-allowed (p .sleep .asleep)) in
+      chain-is s p t (doesLow o b a ten) ∙ ap (λ (v : Bool). upTo14 s p t (doesLow o b a ten) (orElse v 15 0)) low
+      ∙ same-rules o b a ten n 15
+      ∙ broken c
+      ∙ ap (λ (v : ℕ). sealed v 15) (sym (chain-is s p t c))
+    where
+      broken : (c : Command) → upTo14 s p t c 15 ≡ sealed (upTo14 s p t c (orElse (rule15 s p t c) 15 0)) 15
+      broken c =
+          never-kept (rule15 s p t c)
+          ∙ sym (sealed-chain (rule1 s p t c) (rule2 s p t c) (rule3 s p t c) (rule4 s p t c) (rule5 s p t c) (rule6 s p t c) (rule7 s p t c)
+          (rule8 s p t c) (rule9 s p t c) (rule10 s p t c) (rule11 s p t c) (rule12 s p t c) (rule13 s p t c) (rule14 s p t c) (rule15 s p t c) false)
+        where
+          never-kept : (w : Bool) → upTo14 s p t c 15 ≡ upTo14 s p t c (orElse w 15 15)
+          never-kept true = refl
+          never-kept false = refl
+
+-- ---- NOP and DESELECT
+
+end-is : (o : Option Burst) (w t : ℕ) → afterData 0 o t ≡ leb (ended o w) (t + w)
+end-is none w t = sym (leb·zero (t + w))
+end-is (some x) w t = go (leb (dataEnd x + 0) t) refl
+  where
+    go : (v : Bool) → leb (dataEnd x + 0) t ≡ v → v ≡ leb (dataEnd x + w) (t + w)
+    go true e = sym (le-leb (dataEnd x + w) (t + w) (omega (arith, leb-true (dataEnd x + 0) t e)))
+    go false e = sym (lt-leb (dataEnd x + w) (t + w) (omega (arith, leb-false (dataEnd x + 0) t e)))
+
+not-zero : (n : ℕ) → eqb (n + 1) 0 ≡ false
+not-zero n = ne-eqb (n + 1) 0 (λ e. omega arith)
+
+module _ (s : Settings) (k : Clock) (t : ℕ) (early : t < FAR) where
+  abbrev entered : SleepHeld → Bool → Bool → Bool → ℕ
+  entered h busy bus end =
+      orElse busy 4 (orElse (ltb t (h .overdue)) 14 (orElse bus 15 (orElse end 15 (orElse (leb (h .wake) t) 15 0))))
+
+  -- asleep they are asked for rule 14 alone; awake they enter
+  low-is : (a v : Bool) (left : Option ℕ) (busy bus end : Bool) →
+      orElse (implies (not a || false) busy) 4
+      (orElse (implies (not (a && v)) (inTime s k t)) 14
+      (orElse (cond a true ((bus && end) && after (cond v (s .tXSR) (s .tXP)) left t)) 15 0)) ≡
+      cond (ltb t (sleepHeld s k (sleepOf a v left) .asleep)) 0
+      (cond (eqb (sleepHeld s k (sleepOf a v left) .asleep) 0) (entered (sleepHeld s k (sleepOf a v left)) busy bus end) 14)
+  low-is true true left busy bus end = rw (lt-ltb t FAR early)
+  low-is true false left busy bus end = rw (in-time-is t (k .since + s .GAP), not-zero (k .since + s .GAP)) (go (ltb t (k .since + s .GAP + 1)))
+    where
+      go : (v : Bool) → orElse v 14 0 ≡ cond v 0 14
+      go true = refl
+      go false = refl
+  low-is false v left busy bus end =
+      rw (never t, in-time-is t (k .since + s .GAP), after-is (cond v (s .tXSR) (s .tXP)) left t)
+      (go busy (ltb t (k .since + s .GAP + 1)) bus end _)
+    where
+      go : (b i u e w : Bool) → orElse b 4 (orElse i 14 (orElse ((u && e) && w) 15 0)) ≡ orElse b 4 (orElse i 14 (orElse u 15 (orElse e 15 (orElse w 15 0))))
+      go false i u e w = refl
+      go true false u e w = refl
+      go true true false e w = refl
+      go true true true false w = refl
+      go true true true true w = refl
+
+module _ (s : Settings) (p : Part) (t : ℕ) (early : t < FAR) where
+  pub low-agrees : (b a : ℕ) (ten : Bool) → num (lowestBroken rules s p t (doesLow NOP b a ten)) ≡ lowBreaks s (laid (summary s p)) t
+  unfolding lowBreaks enterBreaks
+  low-agrees b a ten =
+      simp num-cond (rw (low-is s (p .clock) t early (p .sleep .asleep) (p .sleep .self) (p .sleep .left), end-is (lastWrite p) (s .tWTR) t)
+      (simp (leb-later, after-is, cleared-is)))
+
+  pub low-deselect-agrees : (b a : ℕ) (ten : Bool) →
+      num (lowestBroken rules s p t (doesLow DESELECT b a ten)) ≡ lowBreaks s (laid (summary s p)) t
+  unfolding lowBreaks enterBreaks
+  low-deselect-agrees b a ten =
+      simp num-cond (rw (low-is s (p .clock) t early (p .sleep .asleep) (p .sleep .self) (p .sleep .left), end-is (lastWrite p) (s .tWTR) t)
+      (simp (leb-later, after-is, cleared-is)))
+
+  -- ---- AUTO REFRESH
+
+  -- rule 12 asked for the read's end before rule 15 does
+  self-last : (u i a e w : Bool) →
+      orElse u 12 (orElse i 14 (orElse (cond a false ((u && e) && w)) 15 0)) ≡ orElse u 12 (orElse i 14 (orElse (cond a false w) 15 (orElse e 15 0)))
+  self-last false i a e w = refl
+  self-last true false a e w = refl
+  self-last true true true e w = refl
+  self-last true true false true true = refl
+  self-last true true false true false = refl
+  self-last true true false false true = refl
+  self-last true true false false false = refl
+
+  pub self-agrees : (b a : ℕ) (ten : Bool) → num (lowestBroken rules s p t (doesLow AUTO-REFRESH b a ten)) ≡ selfBreaks s (laid (summary s p)) t
+  unfolding selfBreaks
+  self-agrees b a ten =
+      let c = does AUTO-REFRESH b a ten in
+      chain-is s p t (doesLow AUTO-REFRESH b a ten) ∙ same-rules s p t AUTO-REFRESH b a ten refl _
+      ∙ ap (λ (v : ℕ). orElse (rule3 s p t c) 3 (orElse (rule4 s p t c) 4 (orElse (rule5 s p t c) 5 v)))
+      (self-last (rule12 s p t c) (rule14 s p t c) (p .sleep .asleep) (afterData 0 (lastWrite p) t) (rested s (p .sleep) t))
+      ∙ sym (sealed-chain true true (rule3 s p t c) (rule4 s p t c) (rule5 s p t c) true true true true true true (rule12 s p t c) true
+      (rule14 s p t c) (rule15 s p t c) (afterData 0 (lastWrite p) t))
+      ∙ (λ i. sealed ((sym (chain-is s p t c) ∙ refresh-agrees s p t early b a ten) i) (orElse (end-is (lastWrite p) (s .tWTR) t i) 15 0))

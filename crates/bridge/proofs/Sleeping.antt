@@ -1,0 +1,126 @@
+-- Rules 14 and 15 of the part are comparisons with the places of sleep.
+use Prim.Native.Nat.{ℕ, _+_, _<_}
+use mathlib.Core.Bool.{Bool, true, false, cond, not, _&&_, _||_, or-false}
+use mathlib.Core.Option.{Option, none, some}
+use mathlib.Core.Path.{_≡_, refl, sym, ap, _∙_}
+use native.Mathlib.Omega.{arith}
+use lib.Dec.{leb, ltb}
+use borrow.Author.Tests.{leb-true, leb-false, lt-ltb, le-ltb}
+use Rattle.reading.specs.Search.{implies, after}
+use Rattle.reading.specs.Settings.{Settings}
+use Rattle.reading.specs.RefreshClock.{Clock, clockAfterRefresh, clockAfterSleep, inTime}
+use Rattle.reading.specs.Sleep.{Sleep, rested}
+use Rattle.deadlines.specs.Deadlines.{FAR, orElse, overdueFrom, quietAfter, leaveAfter, powerUpAfter, wakeAfter, lowAfter, enterAfter, selfAfter}
+use Rattle.bridge.specs.Summary.{SleepHeld, Held, laid, from, overdueBy, sleepHeld}
+use Rattle.bridge.proofs.Laid.{timed}
+use Rattle.bridge.proofs.Tests.{after-is}
+
+-- in time is before the first cycle that is too late
+pub in-time-is : (t due : ℕ) → leb t due ≡ ltb t (due + 1)
+in-time-is t due = go (leb t due) refl
+  where
+    go : (v : Bool) → leb t due ≡ v → v ≡ ltb t (due + 1)
+    go true e = sym (lt-ltb t (due + 1) (omega (arith, leb-true t due e)))
+    go false e = sym (le-ltb t (due + 1) (omega (arith, leb-false t due e)))
+
+pub never : (t : ℕ) → ltb t 0 ≡ false
+never t = le-ltb t 0 (omega arith)
+
+-- rules 14 and 15 by the places
+abbrev timelyBy : SleepHeld → ℕ → Bool
+timelyBy h t = ltb t (h .overdue) || ltb t (h .asleep)
+
+module _ (s : Settings) (k : Clock) (x : Sleep) (t : ℕ) (early : t < FAR) where
+  abbrev h : SleepHeld
+  h = sleepHeld s k x
+
+  abbrev asked : Bool
+  asked = implies (not (x .asleep && x .self)) (inTime s k t)
+
+  timely-is : asked ≡ timelyBy h t
+  timely-is = go (x .asleep) (x .self)
+    where
+      go : (a v : Bool) →
+          implies (not (a && v)) (leb t (k .since + s .GAP)) ≡
+          (ltb t (cond a 0 (overdueBy s k)) || ltb t (cond a (cond v FAR (overdueBy s k)) 0))
+      go true true = rw (never t, lt-ltb t FAR early)
+      go true false = rw (never t) (in-time-is t (k .since + s .GAP))
+      go false v = rw (never t) (in-time-is t (k .since + s .GAP) ∙ sym (or-false (ltb t (overdueBy s k))))
+
+  pub quiet-is : orElse asked 14 (orElse (cond (x .asleep) true true) 15 0) ≡ orElse (timelyBy h t) 14 0
+  quiet-is = rw timely-is (ap (λ (v : Bool). orElse (timelyBy h t) 14 (orElse v 15 0)) (go (x .asleep)))
+    where
+      go : (a : Bool) → cond a true true ≡ true
+      go true = refl
+      go false = refl
+
+  -- of a command that waits
+  pub last-is : orElse asked 14 (orElse (cond (x .asleep) false (rested s x t)) 15 0) ≡
+      orElse (timelyBy h t) 14 (orElse (ltb t (h .overdue) && leb (h .wake) t) 15 0)
+  last-is = rw (timely-is, after-is (cond (x .self) (s .tXSR) (s .tXP)) (x .left) t) (go (x .asleep) (cond (x .self) FAR (overdueBy s k)) (leb (h .wake) t))
+    where
+      go : (a : Bool) (far : ℕ) (w : Bool) →
+          orElse (ltb t (cond a 0 (overdueBy s k)) || ltb t (cond a far 0)) 14 (orElse (cond a false w) 15 0) ≡
+          orElse (ltb t (cond a 0 (overdueBy s k)) || ltb t (cond a far 0)) 14 (orElse (ltb t (cond a 0 (overdueBy s k)) && w) 15 0)
+      go true far w = rw (never t)
+      go false far w = rw (never t) (awake (ltb t (overdueBy s k)) w)
+        where
+          awake : (v w : Bool) → orElse (v || false) 14 (orElse w 15 0) ≡ orElse (v || false) 14 (orElse (v && w) 15 0)
+          awake true w = refl
+          awake false w = refl
+
+-- ---- what sleep leaves in the places
+
+abbrev pub slept : SleepHeld → Held → Held
+slept h x = timed (x .busy) h x
+
+abbrev pub sleepOf : Bool → Bool → Option ℕ → Sleep
+sleepOf a v left = record { asleep = a; self = v; left = left }
+
+module _ (s : Settings) (t : ℕ) (k : Clock) where
+  -- after an event with CKE high
+  abbrev risen : Bool → Bool → Option ℕ → SleepHeld
+  risen a v left = sleepHeld s (cond ((a && true) && v) (clockAfterSleep s t) k) (sleepOf false v (cond (a && true) (some t) left))
+
+  -- awake nothing changes
+  pub stays-laid : (a v : Bool) (left : Option ℕ) → a ≡ false → risen a v left ≡ sleepHeld s k (sleepOf a v left)
+  stays-laid true v left e = let z : _≡_ {A = ℕ} 0 1 = cc in absurd (omega arith)
+  stays-laid false v left e = refl
+
+  -- but for the refresh clock at an AUTO REFRESH
+  pub refresh-laid : (a v : Bool) (left : Option ℕ) → a ≡ false →
+      sleepHeld s (cond ((a && true) && v) (clockAfterSleep s t) (clockAfterRefresh s t k)) (sleepOf false v (cond (a && true) (some t) left)) ≡
+      record {
+        overdue = overdueFrom s t;
+        wake = sleepHeld s k (sleepOf a v left) .wake;
+        asleep = sleepHeld s k (sleepOf a v left) .asleep;
+        self = sleepHeld s k (sleepOf a v left) .self;
+      }
+  refresh-laid true v left e = let z : _≡_ {A = ℕ} 0 1 = cc in absurd (omega arith)
+  refresh-laid false v left e = refl
+
+  pub quiet-laid : (a v : Bool) (left : Option ℕ) (x : Held) → implies (not (a && v)) (inTime s k t) ≡ true →
+      laid (slept (risen a v left) x) ≡ quietAfter s (laid (slept (sleepHeld s k (sleepOf a v left)) x)) t
+  unfolding quietAfter leaveAfter powerUpAfter wakeAfter
+  quiet-laid true true left x e = rw (never t)
+  quiet-laid true false left x e = rw (never t)
+  quiet-laid false v left x e = rw (sym (in-time-is t (k .since + s .GAP)) ∙ e)
+
+  -- after an event with CKE low
+  abbrev fallen : Bool → Bool → Option ℕ → Bool → SleepHeld
+  fallen a v left refresh =
+      sleepHeld s (cond ((a && false) && v) (clockAfterSleep s t) k)
+      (sleepOf true (cond (not a) refresh v) (cond (not a) none (cond (a && false) (some t) left)))
+
+  pub low-laid : t < FAR → (a v : Bool) (left : Option ℕ) (x : Held) → implies (not (a && v)) (inTime s k t) ≡ true →
+      laid (slept (fallen a v left false) x) ≡ lowAfter (laid (slept (sleepHeld s k (sleepOf a v left)) x)) t
+  unfolding lowAfter enterAfter
+  low-laid early true true left x e = rw (lt-ltb t FAR early)
+  low-laid early true false left x e = rw (sym (in-time-is t (k .since + s .GAP)) ∙ e)
+  low-laid early false v left x e = rw (never t)
+
+  pub self-laid : (a v : Bool) (left : Option ℕ) (x : Held) → a ≡ false →
+      laid (slept (fallen a v left true) x) ≡ selfAfter (laid (slept (sleepHeld s k (sleepOf a v left)) x))
+  unfolding selfAfter
+  self-laid true v left x e = let z : _≡_ {A = ℕ} 0 1 = cc in absurd (omega arith)
+  self-laid false v left x e = refl
