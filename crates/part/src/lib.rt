@@ -5,12 +5,13 @@ use deadlines::places::ASLEEP;
 use deadlines::places::OVERDUE;
 use settings::Settings;
 ghost use mathlib.Core.Path.{_≡_};
-ghost use mathlib.Core.Bool.{true, cond};
+ghost use mathlib.Core.Bool.{true, false, cond};
 ghost use Prim.Native.Nat.{_<_};
 ghost use lib.Dec.{eqb};
 ghost use Rattle.reading.specs.Settings.{settingsOf};
 ghost use Rattle.deadlines.specs.Deadlines as is;
-ghost use Rattle.steps.specs.Steps.{ruleOf, leftBy, stepBreaks, stepAfter, paceAfter};
+ghost use Rattle.pins.specs.Pins.{codeOf, lowOf, quietCode};
+ghost use Rattle.steps.specs.Steps.{ruleOf, leftBy, unlessLower, highBreaks, Quiet, stepBreaks, stepAfter, paceAfter};
 ghost use Rattle.part.specs.Means.{means};
 
 // What an event answers: all rules are kept, or some are broken, of which this is the lowest.
@@ -212,7 +213,9 @@ fn refresh_low(s: &Settings, d: &mut Deadlines, t: u32) -> Answer
     Answer::Kept
 }
 
+// The rule that a command other than AUTO REFRESH would break with CKE high.
 fn command_breaks(s: &Settings, d: &Deadlines, t: u32, w: u32) -> u32
+    requires { ⌜ (quietCode (codeOf w) ≡ false) × (eqb (codeOf w) 8 ≡ false) ⌝ }
     ensures { λ r. ⌜ r ≡ highBreaks (settingsOf (now (s .entry))) (now (d .entry)) t w ⌝ }
 {
     match pins::code(w) {
@@ -231,6 +234,7 @@ fn command_breaks(s: &Settings, d: &Deadlines, t: u32, w: u32) -> u32
 }
 
 fn command_low(s: &Settings, d: &Deadlines, t: u32, w: u32) -> Answer
+    requires { ⌜ (quietCode (codeOf w) ≡ false) × (eqb (codeOf w) 8 ≡ false) ⌝ }
     ensures { λ r. ⌜ means r ≡ ruleOf (unlessLower (highBreaks (settingsOf (now (s .entry))) (now (d .entry)) t w)) ⌝ }
 {
     let rule = command_breaks(s, d, t, w);
@@ -238,6 +242,52 @@ fn command_low(s: &Settings, d: &Deadlines, t: u32, w: u32) -> Answer
         return Answer::Broke(rule);
     }
     Answer::Broke(15)
+}
+
+fn is_quiet(code: u32) -> bool
+    ensures { λ r. ⌜ r ≡ quietCode code ⌝ }
+{
+    match code {
+        pins::ACTIVE => false,
+        pins::READ => false,
+        pins::WRITE => false,
+        pins::PRECHARGE => false,
+        pins::TERMINATE => false,
+        pins::REFRESH => false,
+        pins::MODE_SET => false,
+        _ => true,
+    }
+}
+
+fn low(s: &Settings, d: &mut Deadlines, pace: &Pace, t: u32, w: u32) -> Answer
+    requires { ⌜ lowOf w ≡ true ⌝ }
+    ensures { λ r. ⌜ means r ≡ ruleOf (stepBreaks (settingsOf (now (s .entry))) (now (d .entry)) t w) ⌝ }
+    ensures { λ r.
+        ⌜ now (d .exit) ≡ leftBy (stepBreaks (settingsOf (now (s .entry))) (now (d .entry)) t w)
+        (stepAfter (settingsOf (now (s .entry))) (now (d .entry)) (now (pace .entry)) t w) (now (d .entry)) ⌝ }
+{
+    let code = pins::code(w);
+    if code == pins::REFRESH {
+        return refresh_low(s, d, t);
+    }
+    if is_quiet(code) {
+        return quiet_low(s, d, t);
+    }
+    command_low(s, &*d, t, w)
+}
+
+// DESELECT, and what has CKE low.
+fn seldom(s: &Settings, d: &mut Deadlines, pace: &Pace, t: u32, w: u32) -> Answer
+    requires { ⌜ (lowOf w ≡ false → Quiet (codeOf w)) ⌝ }
+    ensures { λ r. ⌜ means r ≡ ruleOf (stepBreaks (settingsOf (now (s .entry))) (now (d .entry)) t w) ⌝ }
+    ensures { λ r.
+        ⌜ now (d .exit) ≡ leftBy (stepBreaks (settingsOf (now (s .entry))) (now (d .entry)) t w)
+        (stepAfter (settingsOf (now (s .entry))) (now (d .entry)) (now (pace .entry)) t w) (now (d .entry)) ⌝ }
+{
+    if pins::low(w) {
+        return low(s, d, pace, t, w);
+    }
+    quiet(s, d, t)
 }
 
 // One event: what it answers by the deadlines kept of the events before it, and the deadlines with it. An event that
@@ -265,9 +315,8 @@ pub fn step(s: &Settings, d: &mut Deadlines, pace: &mut Pace, t: u32, w: u32) ->
         pins::TERMINATE => terminate(s, d, &*pace, t),
         pins::REFRESH => refresh(s, d, t),
         pins::MODE_SET => mode_set(s, d, pace, t, pins::bank(w), pins::address(w)),
-        1 | 3 | 5 | 7 | 9 | 11 | 13 | pins::NOP | 15 => quiet(s, d, t),
-        17 | 19 | 21 | 23 | 25 | 27 | 29 | pins::NOP_LOW | 31 => quiet_low(s, d, t),
-        pins::REFRESH_LOW => refresh_low(s, d, t),
-        _ => command_low(s, &*d, t, w),
+        pins::NOP => quiet(s, d, t),
+        pins::NOP_LOW => quiet_low(s, d, t),
+        _ => seldom(s, d, &*pace, t, w),
     }
 }

@@ -4,7 +4,7 @@ use mathlib.Core.Bool.{true, false}
 use mathlib.Core.Path.{_≡_, sym, ap, _∙_}
 use native.Mathlib.Nat.{div-div-eq-div-mul}
 use native.Mathlib.Omega.{arith}
-use borrow.Author.Tests.{eq-eqb, ne-eqb}
+use borrow.Author.Tests.{eq-eqb, ne-eqb, eqb-false}
 use Rattle.reading.specs.Commands.{opOf, commandOf}
 use Rattle.pins.specs.Pins.{codeOf, wideCodeOf, lowOf}
 
@@ -33,3 +33,13 @@ module _ (w : ℕ) where
 
   pub low-is : 16 ≤ wideCodeOf w → (codeOf w + 16 ≡ wideCodeOf w) × (lowOf w ≡ true)
   low-is h = (omega (arith, wide-is), eq-eqb (w / 1048576 % 2) 1 (omega (arith, wide-is)))
+
+  pub awake-code : lowOf w ≡ false → codeOf w ≡ wideCodeOf w
+  awake-code e = omega (arith, wide-is, eqb-false (w / 1048576 % 2) 1 e)
+
+  -- by a number
+  pub high-code : {k : ℕ} → wideCodeOf w ≡ k → k < 16 → (codeOf w ≡ k) × (lowOf w ≡ false)
+  high-code e l = let h = high-is (omega arith) in (h .0 ∙ e, h .1)
+
+  pub low-code : {k : ℕ} → wideCodeOf w ≡ k + 16 → (codeOf w ≡ k) × (lowOf w ≡ true)
+  low-code e = let h = low-is (omega arith) in (omega (arith, h .0), h .1)

@@ -1,13 +1,18 @@
-use mathlib.Core.Path.{sym, _∙_}
+use mathlib.Core.Bool.{false}
+use mathlib.Core.Path.{_≡_, refl, sym, ap, _∙_}
+use native.Mathlib.Omega.{arith}
 use Rattle.reading.specs.Settings.{settingsOf}
 use Rattle.steps.proofs.Codes as codes
-use Rattle.steps.proofs.Codes.{met, met-paced, met-quiet}
+use Rattle.pins.specs.Pins.{codeOf, lowOf, quietCode}
+use Rattle.pins.proofs.Pins.{high-code, low-code, awake-code}
+use Rattle.steps.specs.Steps.{Quiet}
+use Rattle.steps.proofs.Codes.{met, met-paced, quiet-is, paced}
 use borrow.Author.Needs.{needs}
 use Rattle.part.proofs.step.Statement.{statement}
 use Rattle.part.proofs.step.Tie as tie
 
-code-requires : tie.Need-code-requires
-code-requires c κs = search needs
+wide-code-requires : tie.Need-wide-code-requires
+wide-code-requires c κs = search needs
 
 bank-requires : tie.Need-bank-requires
 bank-requires c κs = search needs
@@ -48,9 +53,9 @@ returns c =
     let matched = asked .before .before in
     let coded = matched .before in
     let a = coded .before .args in
-    let is = sym (coded .code .ensures) ∙ matched .match .keys4 in
+    let is = high-code (a .w) (sym (coded .wide-code .ensures) ∙ matched .match .keys4) (omega arith) in
     let all = sym (asked .before .ten3 .ensures) ∙ asked .if1 .taken in
-    met-paced (codes.close-all (settingsOf (a .s .now)) (a .d .now) (a .pace .now) (a .t) (a .w) is all)
+    met-paced (codes.close-all (settingsOf (a .s .now)) (a .d .now) (a .pace .now) (a .t) (a .w) (is .1) (is .0) all)
     (c .close-all .ensures .0) (c .close-all .ensures .1)
 
 bank-requires-4 : tie.Need-bank-requires-4
@@ -77,14 +82,17 @@ mode-set-requires c κs = search needs
 quiet-requires : tie.Need-quiet-requires
 quiet-requires c κs = search needs
 
+quiet-low-requires : tie.Need-quiet-low-requires
+quiet-low-requires c κs = search needs
+
 returns-2 : tie.Need-returns-2
 returns-2 c =
     let banked = c .before .before in
     let matched = banked .before .before in
     let coded = matched .before in
     let a = coded .before .args in
-    let is = sym (coded .code .ensures) ∙ matched .match .keys1 in
-    met-paced (codes.active (settingsOf (a .s .now)) (a .d .now) (a .pace .now) (a .t) (a .w) (banked .bank .ensures .0) (c .before .address .ensures .0) is)
+    let is = high-code (a .w) (sym (coded .wide-code .ensures) ∙ matched .match .keys1) (omega arith) in
+    met-paced (codes.active (settingsOf (a .s .now)) (a .d .now) (a .pace .now) (a .t) (a .w) (banked .bank .ensures .0) (c .before .address .ensures .0) (is .1) (is .0))
     (c .active .ensures .0) (c .active .ensures .1)
 
 returns-3 : tie.Need-returns-3
@@ -93,8 +101,8 @@ returns-3 c =
     let matched = banked .before .before .before in
     let coded = matched .before in
     let a = coded .before .args in
-    let is = sym (coded .code .ensures) ∙ matched .match .keys2 in
-    met-paced (codes.read (settingsOf (a .s .now)) (a .d .now) (a .pace .now) (a .t) (a .w) (banked .bank2 .ensures .0) (c .before .ten .ensures) is)
+    let is = high-code (a .w) (sym (coded .wide-code .ensures) ∙ matched .match .keys2) (omega arith) in
+    met-paced (codes.read (settingsOf (a .s .now)) (a .d .now) (a .pace .now) (a .t) (a .w) (banked .bank2 .ensures .0) (c .before .ten .ensures) (is .1) (is .0))
     (c .read .ensures .0) (c .read .ensures .1)
 
 returns-4 : tie.Need-returns-4
@@ -103,8 +111,8 @@ returns-4 c =
     let matched = banked .before .before .before in
     let coded = matched .before in
     let a = coded .before .args in
-    let is = sym (coded .code .ensures) ∙ matched .match .keys3 in
-    met-paced (codes.write (settingsOf (a .s .now)) (a .d .now) (a .pace .now) (a .t) (a .w) (banked .bank3 .ensures .0) (c .before .ten2 .ensures) is)
+    let is = high-code (a .w) (sym (coded .wide-code .ensures) ∙ matched .match .keys3) (omega arith) in
+    met-paced (codes.write (settingsOf (a .s .now)) (a .d .now) (a .pace .now) (a .t) (a .w) (banked .bank3 .ensures .0) (c .before .ten2 .ensures) (is .1) (is .0))
     (c .write .ensures .0) (c .write .ensures .1)
 
 returns-5 : tie.Need-returns-5
@@ -113,9 +121,9 @@ returns-5 c =
     let matched = asked .before .before in
     let coded = matched .before in
     let a = coded .before .args in
-    let is = sym (coded .code .ensures) ∙ matched .match .keys4 in
+    let is = high-code (a .w) (sym (coded .wide-code .ensures) ∙ matched .match .keys4) (omega arith) in
     let one = sym (asked .before .ten3 .ensures) ∙ asked .if1 .left in
-    met-paced (codes.close (settingsOf (a .s .now)) (a .d .now) (a .pace .now) (a .t) (a .w) (c .before .bank4 .ensures .0) is one)
+    met-paced (codes.close (settingsOf (a .s .now)) (a .d .now) (a .pace .now) (a .t) (a .w) (c .before .bank4 .ensures .0) (is .1) (is .0) one)
     (c .close .ensures .0) (c .close .ensures .1)
 
 returns-6 : tie.Need-returns-6
@@ -123,8 +131,8 @@ returns-6 c =
     let matched = c .before .before .before in
     let coded = matched .before in
     let a = coded .before .args in
-    let is = sym (coded .code .ensures) ∙ matched .match .keys5 in
-    met-paced (codes.terminate (settingsOf (a .s .now)) (a .d .now) (a .pace .now) (a .t) (a .w) is)
+    let is = high-code (a .w) (sym (coded .wide-code .ensures) ∙ matched .match .keys5) (omega arith) in
+    met-paced (codes.terminate (settingsOf (a .s .now)) (a .d .now) (a .pace .now) (a .t) (a .w) (is .1) (is .0))
     (c .terminate .ensures .0) (c .terminate .ensures .1)
 
 returns-7 : tie.Need-returns-7
@@ -132,8 +140,8 @@ returns-7 c =
     let matched = c .before .before in
     let coded = matched .before in
     let a = coded .before .args in
-    let is = sym (coded .code .ensures) ∙ matched .match .keys6 in
-    met-paced (codes.refresh (settingsOf (a .s .now)) (a .d .now) (a .pace .now) (a .t) (a .w) is)
+    let is = high-code (a .w) (sym (coded .wide-code .ensures) ∙ matched .match .keys6) (omega arith) in
+    met-paced (codes.refresh (settingsOf (a .s .now)) (a .d .now) (a .pace .now) (a .t) (a .w) (is .1) (is .0))
     (c .refresh .ensures .0) (c .refresh .ensures .1)
 
 returns-8 : tie.Need-returns-8
@@ -142,33 +150,59 @@ returns-8 c =
     let matched = banked .before .before .before in
     let coded = matched .before in
     let a = coded .before .args in
-    let is = sym (coded .code .ensures) ∙ matched .match .keys7 in
-    met (codes.mode-set (settingsOf (a .s .now)) (a .d .now) (a .pace .now) (a .t) (a .w) (banked .bank5 .ensures .0) (c .before .address2 .ensures .0) is)
+    let is = high-code (a .w) (sym (coded .wide-code .ensures) ∙ matched .match .keys7) (omega arith) in
+    met (codes.mode-set (settingsOf (a .s .now)) (a .d .now) (a .pace .now) (a .t) (a .w) (banked .bank5 .ensures .0) (c .before .address2 .ensures .0) (is .1) (is .0))
     (c .mode-set .ensures .0) (c .mode-set .ensures .1 .0) (c .mode-set .ensures .1 .1)
 
 returns-9 : tie.Need-returns-9
 returns-9 c =
-    let coded = c .before .before .before in
+    let matched = c .before .before in
+    let coded = matched .before in
     let a = coded .before .args in
-    let no = c .before .before .match .rest in
-    met-quiet
-    (codes.quiet (settingsOf (a .s .now)) (a .d .now) (a .pace .now) (a .t) (a .w) (coded .code .ensures)
-    (record {
-      no-active = no .0 .0 .0 .0 .0 .0 .1;
-      no-read = no .0 .0 .0 .0 .0 .1;
-      no-write = no .0 .0 .0 .0 .1;
-      no-close = no .0 .0 .0 .1;
-      no-terminate = no .0 .0 .1;
-      no-refresh = no .0 .1;
-      no-mode-set = no .1;
-    }))
-    (c .quiet .ensures)
+    let is = high-code (a .w) (sym (coded .wide-code .ensures) ∙ matched .match .keys8) (omega arith) in
+    met-paced
+    (codes.quiet (settingsOf (a .s .now)) (a .d .now) (a .pace .now) (a .t) (a .w) refl (is .1) (quiet-is _ (ap quietCode (is .0))))
+    (c .quiet .ensures .0) (c .quiet .ensures .1)
+
+returns-10 : tie.Need-returns-10
+returns-10 c =
+    let matched = c .before .before in
+    let coded = matched .before in
+    let a = coded .before .args in
+    let is = low-code (a .w) (sym (coded .wide-code .ensures) ∙ matched .match .keys9) in
+    met-paced
+    (codes.low-quiet (settingsOf (a .s .now)) (a .d .now) (a .pace .now) (a .t) (a .w) refl (is .1) (quiet-is _ (ap quietCode (is .0))))
+    (c .quiet-low .ensures .0) (c .quiet-low .ensures .1)
+
+-- none of the seven commands with CKE high
+deselects : (c : tie.At-match-rest) → lowOf (c .before .before .args .w) ≡ false → Quiet (codeOf (c .before .before .args .w))
+deselects c n =
+    let no = c .match .rest in
+    let is = c .before .wide-code .ensures ∙ sym (awake-code (c .before .before .args .w) n) in
+    record {
+      no-active = λ e. no .0 .0 .0 .0 .0 .0 .0 .0 .1 (is ∙ e);
+      no-read = λ e. no .0 .0 .0 .0 .0 .0 .0 .1 (is ∙ e);
+      no-write = λ e. no .0 .0 .0 .0 .0 .0 .1 (is ∙ e);
+      no-close = λ e. no .0 .0 .0 .0 .0 .1 (is ∙ e);
+      no-terminate = λ e. no .0 .0 .0 .0 .1 (is ∙ e);
+      no-refresh = λ e. no .0 .0 .0 .1 (is ∙ e);
+      no-mode-set = λ e. no .0 .0 .1 (is ∙ e);
+    }
+
+seldom-requires : tie.Need-seldom-requires
+seldom-requires c κs = deselects (c .before .before)
+
+returns-11 : tie.Need-returns-11
+returns-11 c =
+    let rest = c .before .before .before in
+    let a = rest .before .before .args in
+    (c .seldom .ensures .0, (c .seldom .ensures .1, paced (settingsOf (a .s .now)) (a .d .now) (a .pace .now) (a .t) (a .w) (deselects rest)))
 
 pub step-spec : {M : Type 1} → statement M
 step-spec =
     tie.close
     (tie.spec
-    code-requires
+    wide-code-requires
     bank-requires
     address-requires
     active-requires
@@ -189,6 +223,8 @@ step-spec =
     address-requires-2
     mode-set-requires
     quiet-requires
+    quiet-low-requires
+    seldom-requires
     returns-2
     returns-3
     returns-4
@@ -196,4 +232,6 @@ step-spec =
     returns-6
     returns-7
     returns-8
-    returns-9)
+    returns-9
+    returns-10
+    returns-11)
