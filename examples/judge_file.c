@@ -12,7 +12,7 @@
 #include "morgazell.h"
 
 /* One byte more than the longest capture: a longer file is seen to be too long. */
-#define ROOM 64081
+#define ROOM 64089
 
 static uint8_t capture[ROOM];
 
@@ -20,6 +20,12 @@ static uint32_t word_at(size_t at)
 {
     return (uint32_t)capture[at] | (uint32_t)capture[at + 1] << 8 | (uint32_t)capture[at + 2] << 16
            | (uint32_t)capture[at + 3] << 24;
+}
+
+/* The settings end where the events begin; the second word counts them. */
+static size_t event_at(uint32_t event)
+{
+    return 24 + 4 * (size_t)word_at(4) + 8 * (size_t)event;
 }
 
 static int say(uint64_t answer)
@@ -30,7 +36,7 @@ static int say(uint64_t answer)
         return 2;
     }
     if (morgazell_rule(answer) != 0) {
-        uint32_t cycle = word_at(80 + 8 * (size_t)value);
+        uint32_t cycle = word_at(event_at(value));
         printf("Rule %u is broken by event %" PRIu32 " at cycle %" PRIu32 "; the events before it break none.\n",
                morgazell_rule(answer), value, cycle);
         return 1;

@@ -1,23 +1,24 @@
 /* Morgazell for C programs on x86-64 Linux: judging captures of Mobile DDR commands, listing the cells of their bursts,
- * writing schedules. Document 01 is the exact scope and rules; docs/RULES.md stands for it.
+ * writing schedules. docs/RULES.md is the exact scope and rules.
  *
  * Every call answers one number:
  *
- *     bits 56-63   the refusal, by its number in document 01; 0: not refused
- *     bits 48-55   the broken rule, 1 to 14; 0: none (only morgazell_judge gives one)
+ *     bits 56-63   the refusal, by its number below; 0: not refused
+ *     bits 48-55   the broken rule, 1 to 15; 0: none (only morgazell_judge gives one)
  *     bits 32-47   0
  *     bits  0-31   refused:           the place
  *                  a rule is broken:  the event, from 0; the events before it were judged and broke none
  *                  neither, a count:  events judged, cells written, bytes written
  *
  *     refusal  given when                                                     place
- *        1     the capture is under 80 or over 64,080 bytes, or not as long   0
+ *        1     the capture is under 80 or over 64,080 bytes, or where its     0
+ *              settings count is 16 under 88 or over 64,088, or not as long
  *              as it says
  *        2     the capture's header is wrong; a settings list not of 14       0
  *              words
  *        3     a setting is out of its range, or the mode word not valid      the lowest such setting
- *        4     pin bits 20-31 are set, or a cycle is too large or does not    the lowest such event
- *              rise
+ *        4     pin bits 20-31 are set, or 21-31 with 16 settings, or a        the lowest such event
+ *              cycle is too large or does not rise
  *        5     over 2,000 requests; else bits 27-30 of a request are set,     2,000; the lowest such request
  *              or the part lacks its cell
  *        6     refresh cannot be kept                                         the request
@@ -27,7 +28,8 @@
  * They are tried in this order and the first that applies is given. morgazell_judge can give 1 to 4, morgazell_cells
  * 1 to 4, 8 and 7, morgazell_schedule 2, 3, 5, 6 and 7.
  *
- * The cycle of a broken event is not in the number: it is the word at byte 80 + 8 * event of the capture.
+ * The cycle of a broken event is not in the number: it is the word at byte 80 + 8 * event of a capture of 14 settings, at
+ * byte 88 + 8 * event of one of 16.
  *
  * Memory. Lengths count elements of the pointer's type. A pointer may be NULL where its length is 0; else it points to
  * that many elements, aligned for their type (a capture, being bytes, may stand anywhere). `out` must not overlap an
@@ -47,7 +49,7 @@
 extern "C" {
 #endif
 
-/* What document 01 says of these bytes as a capture. */
+/* What the rules say of these bytes as a capture. */
 uint64_t morgazell_judge(const uint8_t *capture, size_t len);
 
 /* The cell numbers of every kept beat of a clean capture, in event order, from out[0] on; what lies behind them in the

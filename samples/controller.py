@@ -1,12 +1,12 @@
-"""A memory controller that keeps the rules of document 01, to make captures of plausible traffic.
+"""A memory controller that keeps the rules of docs/RULES.md, to make captures of plausible traffic.
 
 Every command goes out at the first cycle that the rules leave to it, or later. The controller runs every burst to its end
 except where it ends a read by BURST TERMINATE, and it waits tRC from ACTIVE to AUTO REFRESH as well, which some data
-sheets ask for and document 01 does not."""
+sheets ask for and the rules do not. Between frames it may put the part to sleep."""
 import random
 
-from captures import (A10, ACTIVE, AUTO_REFRESH, BURST_TERMINATE, DESELECT, MODE_REGISTER_SET, NOP, PRECHARGE, READ, WRITE,
-                      bank, burst_length, cas_latency, column)
+from captures import (A10, ACTIVE, AUTO_REFRESH, BURST_TERMINATE, DESELECT, LOW, MODE_REGISTER_SET, NOP, PRECHARGE, READ,
+                      WRITE, bank, burst_length, cas_latency, column)
 
 BANKS = range(4)
 
@@ -18,11 +18,12 @@ class Controller:
         self.events = []
         self.mode = part["mode"]
         self.next = 20  # the first cycle that is free on the command pins
-        self.ready = 0  # tRFC and tMRD are over
+        self.ready = 0  # tRFC and tMRD are over, and tXP or tXSR
         self.row_ready = 0  # tRRD is over
         self.read_ready = 0  # no burst, data or turn of the bus is in the way of a READ
         self.write_ready = 0
         self.reads_done = 0  # the data of every read has left the bus
+        self.writes_done = 0  # the data of every write is in
         self.row = [None] * 4  # the open row
         self.opened = [0] * 4  # its ACTIVE
         self.column_ready = [0] * 4  # tRCD is over
@@ -72,7 +73,7 @@ class Controller:
 
     def write(self, b, c, auto=False):
         t = self.send([self.column_ready[b], self.write_ready], WRITE | bank(b) | column(c) | A10 * auto)
-        end = t + 1 + self.h
+        end = self.writes_done = t + 1 + self.h
         self.read_ready = end + self.part["tWTR"]
         self.write_ready = t + self.h
         self.burst_ends(b, end + self.part["tWR"], auto)
@@ -110,8 +111,11 @@ class Controller:
         self.close_rows()
         t = self.send([self.reads_done, *self.open_ready], AUTO_REFRESH)
         self.ready = t + self.part["tRFC"]
-        self.refreshed, self.refresh_due = t, t + self.part["tREFI"]
+        self.refreshed_at(t)
         return t
+
+    def refreshed_at(self, cycle):
+        self.refreshed, self.refresh_due = cycle, cycle + self.part["tREFI"]
 
     def mode_set(self, word):
         self.close_rows()
@@ -119,6 +123,44 @@ class Controller:
         self.ready = t + self.part["tMRD"]
         self.mode = word
         return t
+
+    # ---- sleep
+
+    def power_down(self):
+        """Rows may stay open."""
+        return self.send([self.reads_done, self.writes_done], self.quiet() | LOW)
+
+    def self_refresh(self):
+        self.close_rows()
+        return self.send([self.reads_done, *self.open_ready], AUTO_REFRESH | LOW)
+
+    def stay(self, cycles):
+        """Asleep for some cycles; of a few of them the recorder keeps that CKE is low."""
+        end = self.next + cycles
+        while self.below(3) and self.next + cycles // 4 < end:
+            self.put(self.next + self.below(cycles // 4), self.quiet() | LOW)
+        self.next = end
+
+    def wake(self, wait):
+        t = self.put(self.next, self.quiet())
+        self.ready = t + wait
+        return t
+
+    def nap(self):
+        self.power_down()
+        self.stay(5 + self.below(self.part["tREFI"] // 2))
+        return self.wake(self.part["tXP"])
+
+    def hibernate(self):
+        """For longer than GAP now and then: the part refreshes itself."""
+        self.self_refresh()
+        self.stay(5 + self.below(2 * self.part["GAP"]))
+        t = self.wake(self.part["tXSR"])
+        self.refreshed_at(t)
+        return t
+
+    def quiet(self):
+        return DESELECT if self.below(2) else NOP
 
     # ---- traffic
 
@@ -155,7 +197,7 @@ class Controller:
         if self.below(20) == 0:
             self.next += self.below(self.part["tREFI"] // 3)
         if self.below(40) == 0:
-            self.put(self.next, DESELECT if self.below(2) else NOP)
+            self.put(self.next, self.quiet())
 
     def run(self, events):
         """Traffic until there are so many events, with an AUTO REFRESH every tREFI."""
@@ -164,3 +206,9 @@ class Controller:
                 self.auto_refresh()
             self.request()
             self.rest()
+
+    def frames(self, events, sleep):
+        """Frames of traffic with sleep between them, until there are so many events."""
+        while len(self.events) < events:
+            self.run(min(events, len(self.events) + 40 + self.below(40)))
+            sleep()

@@ -3,7 +3,7 @@
 
 The settings are those of real parts, from tests/data/part-settings.csv. What the report has to say of a sample is known
 from how it is made: the controller keeps every rule, and a fault is one command whose cycle or pins break one rule of
-document 01 and no lower one."""
+docs/RULES.md and no lower one."""
 import csv
 import os
 import sys
@@ -11,23 +11,24 @@ import sys
 HERE = os.path.dirname(os.path.abspath(__file__))
 TESTS = os.path.join(HERE, "..", "tests")
 sys.path.insert(0, TESTS)
-from captures import (ACTIVE, AUTO_REFRESH, PRECHARGE, READ, bank, broken_lines, capture, cas_latency, clean_lines, column,
-                      mode_word)
+from captures import (A10, ACTIVE, AUTO_REFRESH, LOW, NOP, PRECHARGE, READ, bank, broken_lines, capture, cas_latency,
+                      clean_lines, column, mode_word)
 from controller import Controller
 
 # The columns that are settings, in the order of document 01's table.
 SETTINGS = ["lane", "rowbits", "colbits", "mode", "tRCD", "tRP", "tRAS", "tRC", "tRRD", "tWR", "tWTR", "tRFC", "tMRD", "GAP"]
+WAKE = ["tXP", "tXSR"]
 
 
 def parts():
     with open(os.path.join(TESTS, "data", "part-settings.csv"), newline="") as f:
         rows = list(csv.DictReader(f))
-    numbers = SETTINGS + ["tREFI"]
+    numbers = SETTINGS + WAKE + ["tREFI"]
     return {(r["part"], r["grade"]): dict({name: int(r[name]) for name in numbers}, width=16 * int(r["lane"])) for r in rows}
 
 
-def settings_of(part):
-    return [part[name] for name in SETTINGS]
+def settings_of(part, names=SETTINGS):
+    return [part[name] for name in names]
 
 
 # ---- samples: each takes a part and a seed, and gives the bytes and the lines of the report
@@ -45,10 +46,14 @@ def with_fault(part, seed, fault, rule):
     """Traffic, a fault in the middle of it, and more traffic: the recorder does not know."""
     c = Controller(part, seed)
     c.run(200 + c.below(100))
+    return continued(c, fault, rule, SETTINGS)
+
+
+def continued(c, fault, rule, names):
     fault(c)
     at = len(c.events) - 1
     c.run(at + 40)
-    return capture(c.events, settings_of(part)), broken_lines(c.events, rule, at)
+    return capture(c.events, settings_of(c.part, names)), broken_lines(c.events, rule, at)
 
 
 def read_before_trcd(part, seed):
@@ -127,6 +132,102 @@ def stamps_of_16_bits(part, seed):
     return capture([(cycle % 65_536, pins) for cycle, pins in c.events], settings_of(part)), [f"refused 4 place {at}"]
 
 
+# ---- samples of a controller that puts the part to sleep between frames
+
+def clean_frames(part, seed, sleep):
+    c = Controller(part, seed)
+    c.frames(900, lambda: sleep(c))
+    c.mode_set(mode_word(8, True, cas_latency(part["mode"])))
+    c.frames(1800, lambda: sleep(c))
+    return capture(c.events, settings_of(part, SETTINGS + WAKE)), clean_lines(c.events)
+
+
+def clean_power_down(part, seed):
+    return clean_frames(part, seed, Controller.nap)
+
+
+def clean_self_refresh(part, seed):
+    """With an AUTO REFRESH behind each, as data sheets advise."""
+    def sleep(c):
+        c.hibernate()
+        c.auto_refresh()
+    return clean_frames(part, seed, sleep)
+
+
+def frames_with_fault(part, seed, fault, rule):
+    c = Controller(part, seed)
+    c.frames(200 + c.below(100), c.nap if c.below(2) else c.hibernate)
+    return continued(c, fault, rule, SETTINGS + WAKE)
+
+
+def active_before_txp(part, seed):
+    def fault(c):
+        c.close_rows()
+        c.power_down()
+        c.stay(part["tRC"])
+        t = c.wake(part["tXP"])
+        c.put(t + part["tXP"] - 1, ACTIVE | bank(2) | 77)
+    return frames_with_fault(part, seed, fault, 15)
+
+
+def active_before_txsr(part, seed):
+    def fault(c):
+        t = c.hibernate()
+        c.put(t + part["tXSR"] - 1, ACTIVE | bank(1) | 5)
+    return frames_with_fault(part, seed, fault, 15)
+
+
+def power_down_in_read(part, seed):
+    def fault(c):
+        c.open_row(1, 300)
+        t = c.read(1, 8)
+        c.put(t + c.latency + c.h - 1, NOP | LOW)
+    return frames_with_fault(part, seed, fault, 15)
+
+
+def power_down_in_write(part, seed):
+    def fault(c):
+        c.open_row(3, 1200)
+        t = c.write(3, 12)
+        c.put(t + 1 + c.h - 1, NOP | LOW)
+    return frames_with_fault(part, seed, fault, 15)
+
+
+def precharge_while_low(part, seed):
+    """Of banks that are idle, so that only sleep is in its way."""
+    def fault(c):
+        c.close_rows()
+        c.power_down()
+        c.stay(40)
+        c.put(c.next, PRECHARGE | A10 | LOW)
+    return frames_with_fault(part, seed, fault, 15)
+
+
+def active_at_exit(part, seed):
+    def fault(c):
+        c.self_refresh()
+        c.stay(2 * part["GAP"])
+        c.put(c.next, ACTIVE | bank(2) | 9)
+    return frames_with_fault(part, seed, fault, 15)
+
+
+def late_refresh_asleep(part, seed):
+    """Power-down does not refresh; the first event after GAP is late."""
+    def fault(c):
+        c.auto_refresh()
+        c.power_down()
+        c.put(c.refreshed + part["GAP"], NOP | LOW)
+        c.put(c.refreshed + part["GAP"] + 1, NOP)
+    return frames_with_fault(part, seed, fault, 14)
+
+
+def power_down_before_trfc(part, seed):
+    def fault(c):
+        t = c.auto_refresh()
+        c.put(t + part["tRFC"] - 1, NOP | LOW)
+    return frames_with_fault(part, seed, fault, 4)
+
+
 def case_b(part, seed):
     events = [(0, ACTIVE), (2, READ)]
     return capture(events), broken_lines(events, 8, 1)
@@ -149,6 +250,19 @@ SAMPLES = [
     ("setting-latency-4", ("W948D6KBHX", "-5 CL3"), unknown_latency, "a mode word among the settings with CAS latency 4"),
     ("cut-short", ("MT46H64M16LF", "-6 CL3"), cut_short, "the first 3,000 bytes of a longer capture"),
     ("cycles-of-16-bits", ("IS43LR32400G", "-6 CL3"), stamps_of_16_bits, "a recorder whose cycles start again at 65,536"),
+    ("clean-power-down", ("MT46H64M16LF", "-5 CL3"), clean_power_down,
+     "16 settings: frames of traffic, power-down between them"),
+    ("clean-self-refresh", ("IS43LR32400G", "-6 CL3"), clean_self_refresh, "the same with self refresh, often longer than GAP"),
+    ("tXP", ("MT46H128M16LF", "-48 CL3"), active_before_txp, "ACTIVE a cycle before tXP is over"),
+    ("tXSR", ("W948D6KBHX", "-6 CL2"), active_before_txsr, "ACTIVE a cycle before tXSR is over"),
+    ("power-down-in-read", ("MT46H32M32LF", "-75 CL3"), power_down_in_read,
+     "CKE falls a cycle before read data is off the bus"),
+    ("power-down-in-write", ("MT46H64M16LF", "-54 CL3"), power_down_in_write, "CKE falls a cycle before write data is in"),
+    ("precharge-while-low", ("IS43LR32400G", "-6 CL3"), precharge_while_low, "PRECHARGE in power-down"),
+    ("active-at-exit", ("MT46H64M32LF", "-48 CL3"), active_at_exit, "CKE rises with ACTIVE where it may with NOP and DESELECT"),
+    ("late-refresh-asleep", ("W948D6KBHX", "-5 CL3"), late_refresh_asleep, "GAP passes in power-down"),
+    ("power-down-before-tRFC", ("MT46H128M16LF", "-48 CL3"), power_down_before_trfc,
+     "CKE falls with NOP a cycle before tRFC is over"),
 ]
 
 

@@ -2,12 +2,12 @@
 the report says of one whose verdict is known."""
 import struct
 
-# Where settings and events stand, in bytes.
+# Where settings stand, in bytes; events stand behind them.
 SETTINGS_AT = 24
-EVENTS_AT = 80
 
-# The settings of document 01's cases.
+# The settings of document 01's cases, and with tXP and tXSR of a part that may sleep.
 USUAL = [1, 13, 10, 0x32, 3, 3, 7, 10, 2, 3, 1, 12, 2, 1000]
+SLEEPY = USUAL + [2, 20]
 
 
 def _code(ras, cas, we):
@@ -27,6 +27,9 @@ DESELECT = 1 << 16
 
 # Auto precharge on READ and WRITE, all banks on PRECHARGE.
 A10 = 1 << 10
+
+# CKE low, in a capture of 16 settings.
+LOW = 1 << 20
 
 
 def bank(number):
@@ -59,27 +62,36 @@ def words(values):
 
 
 def capture(events, settings=USUAL, header=None):
-    n = len(events)
-    head = header or [EVENTS_AT + 8 * n, 14, SETTINGS_AT, n, EVENTS_AT, 0]
+    """Laid out for as many settings as there are."""
+    n, start = len(events), SETTINGS_AT + 4 * len(settings)
+    head = header or [start + 8 * n, len(settings), SETTINGS_AT, n, start, 0]
     return words(head) + words(settings) + b"".join(words(e) for e in events)
 
 
+def settings_count(data):
+    return struct.unpack_from("<I", data, 4)[0]
+
+
+def events_at(data):
+    return SETTINGS_AT + 4 * settings_count(data)
+
+
 def settings_in(data):
-    return list(struct.unpack_from("<14I", data, SETTINGS_AT))
+    return list(struct.unpack_from(f"<{settings_count(data)}I", data, SETTINGS_AT))
 
 
 def event_in(data, i):
     """The two words of event i."""
-    return struct.unpack_from("<2I", data, EVENTS_AT + 8 * i)
+    return struct.unpack_from("<2I", data, events_at(data) + 8 * i)
 
 
 def with_settings(data, settings):
-    """The same capture under other settings."""
-    return data[:SETTINGS_AT] + words(settings) + data[EVENTS_AT:]
+    """The same capture under other settings, as many as it has."""
+    return data[:SETTINGS_AT] + words(settings) + data[events_at(data):]
 
 
-def setting(number, word):
-    changed = list(USUAL)
+def setting(number, word, settings=USUAL):
+    changed = list(settings)
     changed[number] = word
     return changed
 
@@ -92,6 +104,6 @@ def broken_lines(events, rule, at):
     return [f"events {len(events)}", f"judged {at}", f"broken rule {rule} event {at} cycle {events[at][0]}"]
 
 
-def quiet(n):
+def quiet(n, settings=USUAL):
     """n NOPs, one a cycle, under a GAP that allows them."""
-    return capture([(i, NOP) for i in range(n)], setting(13, 1_000_000))
+    return capture([(i, NOP) for i in range(n)], setting(13, 1_000_000, settings))

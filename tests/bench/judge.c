@@ -7,11 +7,11 @@ _Static_assert(__BYTE_ORDER__ == __ORDER_LITTLE_ENDIAN__,
 
 enum {
     SETTINGS = 14,
+    SLEEP_SETTINGS = 16,
     HEADER_BYTES = 24,
-    EVENTS_AT = 80,
+    EVENTS_AT = 80, /* behind 14 settings */
     EVENT_BYTES = 8,
     MOST_EVENTS = 8000,
-    MOST_BYTES = EVENTS_AT + EVENT_BYTES * MOST_EVENTS,
     MOST_REQUESTS = 2000,
     LONGEST_BURST = 16,
     BANKS = 4,
@@ -20,7 +20,7 @@ enum {
 static const uint32_t LAST_CYCLE = 2000000000;
 
 /* Pins 16-19 of an event: CS#, RAS#, CAS#, WE# from the lowest bit up. With CS# high,
- * an odd number, the event is a DESELECT. */
+ * an odd number, the event is a DESELECT. Pin 20 is CKE low. */
 enum {
     MODE_SET = 0,
     WRITE = 2,
@@ -32,18 +32,21 @@ enum {
     NOP = 14,
 };
 
-enum { A10 = 1 << 10 };
+enum { A10 = 1 << 10, LOW = 1 << 20 };
 
 /* The settings in the order of the list; every value fits, and so does any sum of a cycle
  * and all of them. */
 struct settings {
     uint32_t lane, row_bits, column_bits, mode;
     int32_t rcd, rp, ras, rc, rrd, wr, wtr, rfc, mrd, gap;
+    int32_t xp, xsr; /* of 16 settings alone */
 };
 
-static const uint32_t LEAST[SETTINGS] = {1, 12, 8, 0, 1, 1, 1, 1, 1, 1, 1, 1, 1, 1};
-static const uint32_t MOST[SETTINGS] = {2,     14,    11,    127,   10000, 10000, 10000,
-                                        10000, 10000, 10000, 10000, 10000, 10000, 1000000};
+static const uint32_t LEAST[SLEEP_SETTINGS] = {1, 12, 8, 0, 1, 1, 1, 1,
+                                               1, 1,  1, 1, 1, 1, 1, 1};
+static const uint32_t MOST[SLEEP_SETTINGS] = {2,     14,    11,    127,   10000, 10000,
+                                              10000, 10000, 10000, 10000, 10000, 10000,
+                                              10000, 1000000, 10000, 10000};
 
 static inline uint32_t load(const uint8_t *at)
 {
@@ -67,6 +70,7 @@ static inline int32_t sooner(int32_t a, int32_t b) { return a < b ? a : b; }
 
 static inline uint32_t bank_of(uint32_t pins) { return pins >> 14 & 3; }
 static inline uint32_t command_of(uint32_t pins) { return pins >> 16 & 15; }
+static inline int is_quiet(uint32_t command) { return command & 1 || command == NOP; }
 
 static inline int is_mode(uint32_t word)
 {
@@ -91,24 +95,24 @@ static inline uint64_t broken(uint32_t rule, uint32_t event)
 static inline int is_broken(uint64_t answer) { return (answer >> 48 & 255) != 0; }
 
 /* Refusal 3, or 0. */
-static uint64_t check_settings(const struct settings *settings)
+static uint64_t check_settings(const struct settings *settings, uint32_t count)
 {
-    uint32_t list[SETTINGS];
+    uint32_t list[SLEEP_SETTINGS];
     memcpy(list, settings, sizeof list);
-    for (uint32_t i = 0; i < SETTINGS; i++) {
+    for (uint32_t i = 0; i < count; i++) {
         if (list[i] - LEAST[i] > MOST[i] - LEAST[i] || (i == 3 && !is_mode(list[i])))
             return refused(3, i);
     }
     return 0;
 }
 
-__attribute__((cold, noinline)) static uint64_t first_bad_event(const uint8_t *events,
-                                                                uint32_t count)
+__attribute__((cold, noinline)) static uint64_t
+first_bad_event(const uint8_t *events, uint32_t count, uint32_t pin_bits)
 {
     uint32_t i = 0;
     for (; i < count; i++) {
         uint32_t cycle = cycle_of(events, i);
-        if (pins_of(events, i) >> 20 != 0 || cycle > LAST_CYCLE
+        if (pins_of(events, i) >> pin_bits != 0 || cycle > LAST_CYCLE
             || (i > 0 && cycle <= cycle_of(events, i - 1)))
             break;
     }
@@ -117,7 +121,7 @@ __attribute__((cold, noinline)) static uint64_t first_bad_event(const uint8_t *e
 
 /* Refusal 4, or 0. The common case is told without a branch an event: with all cycles
  * under 2^31, a cycle that does not rise makes the difference less one negative. */
-static uint64_t check_events(const uint8_t *events, uint32_t count)
+static uint64_t check_events(const uint8_t *events, uint32_t count, uint32_t pin_bits)
 {
     if (count == 0)
         return 0;
@@ -130,24 +134,37 @@ static uint64_t check_events(const uint8_t *events, uint32_t count)
         pins |= pins_of(events, i);
         falls |= cycle - cycle_of(events, i - 1) - 1;
     }
-    if (((cycles | falls) >> 31 | pins >> 20) != 0 || cycle_of(events, count - 1) > LAST_CYCLE)
-        return first_bad_event(events, count);
+    if (((cycles | falls) >> 31 | pins >> pin_bits) != 0
+        || cycle_of(events, count - 1) > LAST_CYCLE)
+        return first_bad_event(events, count, pin_bits);
     return 0;
 }
 
-/* Refusals 1 to 4, or 0 with the settings filled in. */
-static uint64_t check_capture(const uint8_t *capture, size_t len, struct settings *settings)
+struct capture {
+    struct settings settings;
+    const uint8_t *events;
+    uint32_t count;
+};
+
+/* Refusals 1 to 4, or 0 with the capture taken apart. */
+static uint64_t check_capture(const uint8_t *bytes, size_t len, struct capture *capture)
 {
-    if (len < EVENTS_AT || len > MOST_BYTES || load(capture) != len)
+    if (len < EVENTS_AT)
         return refused(1, 0);
-    uint32_t count = load(capture + 12);
-    if (load(capture + 4) != SETTINGS || load(capture + 8) != HEADER_BYTES
-        || count > MOST_EVENTS || load(capture + 16) != EVENTS_AT || load(capture + 20) != 0
-        || len != EVENTS_AT + EVENT_BYTES * (size_t)count)
+    int sleeps = load(bytes + 4) == SLEEP_SETTINGS;
+    uint32_t settings = sleeps ? SLEEP_SETTINGS : SETTINGS;
+    uint32_t events_at = HEADER_BYTES + 4 * settings;
+    uint32_t count = load(bytes + 12);
+    if (len < events_at || len > events_at + EVENT_BYTES * MOST_EVENTS || load(bytes) != len)
+        return refused(1, 0);
+    if (load(bytes + 4) != settings || load(bytes + 8) != HEADER_BYTES || count > MOST_EVENTS
+        || load(bytes + 16) != events_at || load(bytes + 20) != 0
+        || len != events_at + EVENT_BYTES * (size_t)count)
         return refused(2, 0);
-    memcpy(settings, capture + HEADER_BYTES, sizeof *settings);
-    uint64_t refusal = check_settings(settings);
-    return refusal != 0 ? refusal : check_events(capture + EVENTS_AT, count);
+    *capture = (struct capture){.events = bytes + events_at, .count = count};
+    memcpy(&capture->settings, bytes + HEADER_BYTES, 4 * settings);
+    uint64_t refusal = check_settings(&capture->settings, settings);
+    return refusal != 0 ? refusal : check_events(capture->events, count, sleeps ? 21 : 20);
 }
 
 /* The part as the judge needs it: the first cycles at which rules let commands through.
@@ -175,7 +192,9 @@ struct now {
     int32_t spaced;       /* rule 7, for all banks but that one */
     int32_t spaced_same;  /* rule 7, for that one */
     int32_t busy;         /* rule 4 */
-    int32_t due;          /* rule 14: the last cycle it passes */
+    int32_t due;          /* rule 14: the last cycle it passes; UNASKED in self refresh */
+    int32_t ready;        /* rule 15, after the last sleep */
+    int32_t wake;         /* asleep: tXP or tXSR, which counts from its end; awake: 0 */
     /* The last burst: its bank, 4 more for a read, 8 more for auto precharge; and what its
      * entry of `recovered` is to be, unless a WRITE cuts it first. */
     uint32_t last;
@@ -188,6 +207,8 @@ enum { READ_SLOT = 4, AUTO_SLOT = 8 };
 
 /* Long enough before cycle 0 for every wait to be over. */
 static const int32_t NEVER = -20000;
+
+static const int32_t UNASKED = INT32_MAX;
 
 static inline int is_good_mode_set(uint32_t pins)
 {
@@ -214,6 +235,13 @@ static inline int32_t terminable(const struct part *part, struct now now, int32_
     return part->from[1] - (now.last & READ_SLOT ? 0 : wtr);
 }
 
+/* Rule 15: the data of the last burst. What came before it was over when it was given, by
+ * rules 11 and 12. */
+static inline int32_t data_over(const struct part *part, struct now now, int32_t wtr)
+{
+    return now.last & READ_SLOT ? part->from[0] : part->from[1] - wtr;
+}
+
 /* The lowest rule that an event breaks; it breaks one. */
 __attribute__((cold, noinline)) static uint32_t lowest_rule(const struct settings *s,
                                                             const struct part *part,
@@ -226,8 +254,10 @@ __attribute__((cold, noinline)) static uint32_t lowest_rule(const struct setting
     int is_access = command == READ || command == WRITE;
     int wants_idle = command == REFRESH || command == MODE_SET;
     int after_read = (now.last & READ_SLOT) != 0;
-    if (command & 1 || command == NOP)
-        return 14;
+    int falls_asleep = now.wake == 0 && pins & LOW;
+    uint32_t last_rule = t > now.due ? 14 : 15;
+    if (is_quiet(command))
+        return falls_asleep && t < now.busy ? 4 : last_rule;
     if (command == ACTIVE && (pins & 0x3fff) >> s->row_bits != 0)
         return 1;
     if (command == MODE_SET && !is_good_mode_set(pins))
@@ -247,7 +277,7 @@ __attribute__((cold, noinline)) static uint32_t lowest_rule(const struct setting
         return 8;
     if (command == PRECHARGE) {
         uint32_t closing = now.open & (pins & A10 ? 15 : 1u << bank);
-        uint32_t rule = 14;
+        uint32_t rule = last_rule;
         for (bank = 0; bank < BANKS; bank++) {
             if (closing >> bank & 1 && t < part->active[bank] + s->ras)
                 return 9;
@@ -264,17 +294,35 @@ __attribute__((cold, noinline)) static uint32_t lowest_rule(const struct setting
         return 12;
     if (command == TERMINATE && t < terminable(part, now, s->wtr))
         return 13;
-    return 14;
+    return last_rule;
 }
 
 /* The number of events if they are clean, else the first broken rule and its event. */
 static uint64_t walk(const struct settings *settings, const uint8_t *events, uint32_t count)
 {
     /* Every handler jumps to the next itself, which branch predictors like better than one
-     * shared jump. Labels as values are an extension that gcc and clang have. */
-    static const void *const handlers[16] = {
-        &&mode_set, &&idle, &&access, &&idle, &&precharge, &&idle, &&terminate, &&idle,
-        &&refresh,  &&idle, &&access, &&idle, &&active,    &&idle, &&idle,      &&idle,
+     * shared jump. Labels as values are an extension that gcc and clang have.
+     *
+     * By pins 16-20: the first 16 with CKE high, then those with CKE low. A table for each
+     * state of sleep, so that what is awake pays nothing for it: awake, asleep, and awake
+     * with no command since sleep, whose wait may not be over. */
+    static const void *const awake[32] = {
+        &&mode_set, &&idle,  &&access, &&idle,  &&precharge, &&idle,  &&terminate,  &&idle,
+        &&refresh,  &&idle,  &&access, &&idle,  &&active,    &&idle,  &&idle,       &&idle,
+        &&breaks,   &&enter, &&breaks, &&enter, &&breaks,    &&enter, &&breaks,     &&enter,
+        &&retire,   &&enter, &&breaks, &&enter, &&breaks,    &&enter, &&enter,      &&enter,
+    };
+    static const void *const asleep[32] = {
+        &&breaks, &&leave, &&breaks, &&leave, &&breaks, &&leave, &&breaks, &&leave,
+        &&breaks, &&leave, &&breaks, &&leave, &&breaks, &&leave, &&leave,  &&leave,
+        &&breaks, &&stay,  &&breaks, &&stay,  &&breaks, &&stay,  &&breaks, &&stay,
+        &&breaks, &&stay,  &&breaks, &&stay,  &&breaks, &&stay,  &&stay,   &&stay,
+    };
+    static const void *const waking[32] = {
+        &&woken,  &&rest,  &&woken,  &&rest,  &&woken,  &&rest,  &&woken,  &&rest,
+        &&woken,  &&rest,  &&woken,  &&rest,  &&woken,  &&rest,  &&rest,   &&rest,
+        &&breaks, &&enter, &&breaks, &&enter, &&breaks, &&enter, &&breaks, &&enter,
+        &&retire, &&enter, &&breaks, &&enter, &&breaks, &&enter, &&enter,  &&enter,
     };
     const struct settings s = *settings;
     const int32_t highest_row = (1 << s.row_bits) - 1;
@@ -294,16 +342,17 @@ static uint64_t walk(const struct settings *settings, const uint8_t *events, uin
     int32_t t;
     uint32_t pins, bank;
 
-#define NEXT                              \
-    do {                                  \
-        if (at == end)                    \
-            return count;                 \
-        t = (int32_t)load(at);            \
-        pins = load(at + 4);              \
-        at += EVENT_BYTES;                \
-        bank = bank_of(pins);             \
-        goto *handlers[command_of(pins)]; \
+#define NEXT_IN(handlers)             \
+    do {                              \
+        if (at == end)                \
+            return count;             \
+        t = (int32_t)load(at);        \
+        pins = load(at + 4);          \
+        at += EVENT_BYTES;            \
+        bank = bank_of(pins);         \
+        goto *(handlers)[pins >> 16]; \
     } while (0)
+#define NEXT NEXT_IN(awake)
 
     NEXT;
 
@@ -409,19 +458,61 @@ idle:
         goto breaks;
     NEXT;
 
+enter:
+    if (((t - now.busy) | (t - data_over(&part, now, s.wtr)) | (t - now.ready) | (now.due - t))
+        < 0)
+        goto breaks;
+    now.wake = s.xp;
+    NEXT_IN(asleep);
+
+    /* By rule 5 the data of every write is over. */
+retire:
+    if (((t - now.busy) | (t - all_precharged(&part)) | (t - part.from[0]) | (t - now.ready)
+         | (now.due - t)) < 0 || now.open != 0)
+        goto breaks;
+    now.wake = s.xsr;
+    now.due = UNASKED;
+    NEXT_IN(asleep);
+
+stay:
+    if (t > now.due)
+        goto breaks;
+    NEXT_IN(asleep);
+
+leave:
+    if (t > now.due)
+        goto breaks;
+    now.ready = t + now.wake;
+    now.wake = 0;
+    if (now.due == UNASKED)
+        now.due = t + s.gap;
+    NEXT_IN(waking);
+
+rest:
+    if (t > now.due)
+        goto breaks;
+    NEXT_IN(waking);
+
+woken:
+    if (t < now.ready)
+        goto breaks;
+    goto *awake[pins >> 16];
+
 breaks:
+    part.recovered[now.last] = now.recovered;
     return broken(lowest_rule(&s, &part, now, t, pins),
                   (uint32_t)((at - events) / EVENT_BYTES - 1));
 #undef NEXT
+#undef NEXT_IN
 }
 
-uint64_t c_judge(const uint8_t *capture, size_t len)
+uint64_t c_judge(const uint8_t *bytes, size_t len)
 {
-    struct settings settings;
-    uint64_t refusal = check_capture(capture, len, &settings);
+    struct capture capture;
+    uint64_t refusal = check_capture(bytes, len, &capture);
     if (refusal != 0)
         return refusal;
-    return walk(&settings, capture + EVENTS_AT, load(capture + 12));
+    return walk(&capture.settings, capture.events, capture.count);
 }
 
 static inline int cuts(uint32_t burst, uint32_t pins)
@@ -513,24 +604,24 @@ static uint32_t write_cells(const struct settings *s, const uint8_t *events, uin
     return (uint32_t)(end - out);
 }
 
-uint64_t c_cells(const uint8_t *capture, size_t len, uint32_t *out, size_t out_len)
+uint64_t c_cells(const uint8_t *bytes, size_t len, uint32_t *out, size_t out_len)
 {
-    struct settings settings;
-    uint64_t refusal = check_capture(capture, len, &settings);
+    struct capture capture;
+    uint64_t refusal = check_capture(bytes, len, &capture);
     if (refusal != 0)
         return refusal;
-    const uint8_t *events = capture + EVENTS_AT;
-    uint32_t count = load(capture + 12);
-    uint64_t answer = walk(&settings, events, count);
+    const uint8_t *events = capture.events;
+    uint32_t count = capture.count;
+    uint64_t answer = walk(&capture.settings, events, count);
     if (is_broken(answer))
         return refused(8, (uint32_t)answer);
     /* Room for whole bursts at every event needs no counting. */
     if (out_len < (size_t)count * LONGEST_BURST) {
-        uint32_t needed = count_cells(settings.mode, events, count);
+        uint32_t needed = count_cells(capture.settings.mode, events, count);
         if (out_len < needed)
             return refused(7, needed);
     }
-    return write_cells(&settings, events, count, out);
+    return write_cells(&capture.settings, events, count, out);
 }
 
 /* The part between requests: all banks idle, every burst with auto precharge. */
@@ -644,9 +735,9 @@ uint64_t c_schedule(const uint32_t *list, size_t list_len, const uint32_t *reque
 {
     if (list_len != SETTINGS)
         return refused(2, 0);
-    struct settings settings;
-    memcpy(&settings, list, sizeof settings);
-    uint64_t refusal = check_settings(&settings);
+    struct settings settings = {0};
+    memcpy(&settings, list, 4 * SETTINGS);
+    uint64_t refusal = check_settings(&settings, SETTINGS);
     if (refusal == 0)
         refusal = check_requests(&settings, requests, requests_len);
     if (refusal != 0)
@@ -663,7 +754,7 @@ uint64_t c_schedule(const uint32_t *list, size_t list_len, const uint32_t *reque
         return refused(7, total);
     uint32_t header[6] = {total, SETTINGS, HEADER_BYTES, count, EVENTS_AT, 0};
     memcpy(out, header, sizeof header);
-    memcpy(out + HEADER_BYTES, list, sizeof settings);
+    memcpy(out + HEADER_BYTES, list, 4 * SETTINGS);
     memcpy(out + EVENTS_AT, events, EVENT_BYTES * (size_t)count);
     return total;
 }

@@ -19,7 +19,7 @@ HERE = os.path.dirname(os.path.abspath(__file__))
 ROOT = os.path.join(HERE, "..", "..")
 sys.path[:0] = [os.path.join(HERE, ".."), os.path.join(HERE, "..", "listing")]
 import rendering
-from captures import ACTIVE, NOP, READ, USUAL, capture, setting
+from captures import ACTIVE, LOW, NOP, READ, SLEEPY, USUAL, capture, setting
 from running import program
 
 STUB = os.path.join(ROOT, "target", "faults", "stub.so")
@@ -27,6 +27,7 @@ INPUT, OUTPUT, ERRORS = 0, 1, 2
 
 CLEAN = [(0, ACTIVE), (3, READ)]
 BROKEN = [(12, ACTIVE), (13, READ), (20, NOP)]
+ASLEEP = [(0, NOP | LOW), (5, NOP), (6, ACTIVE)]
 REFUSED = capture([], setting(1, 15))
 
 # Each program on each capture, and the right text.
@@ -36,6 +37,7 @@ RUNS = [
     ("report", REFUSED, "refused 3 place 1\n"),
     ("listing", capture(CLEAN), rendering.clean(CLEAN, USUAL)),
     ("listing", capture(BROKEN), rendering.broken(BROKEN, USUAL, 8, 1)),
+    ("listing", capture(ASLEEP, SLEEPY), rendering.broken(ASLEEP, SLEEPY, 15, 2)),
     ("listing", REFUSED, rendering.refused(REFUSED, 3, 1)),
 ]
 

@@ -1,15 +1,16 @@
 #!/usr/bin/env python3
 """seeds.py FOLDER: writes the fuzzer's first inputs, small captures and request lists for every refusal and for many
-rules, by document 01's cases. The first byte of each says what it is (src/lib.rs)."""
+rules, by docs/RULES.md, of 14 settings and of 16. The first byte of each says what it is (src/lib.rs)."""
 import os
 import sys
 
 sys.dont_write_bytecode = True
 sys.path.insert(0, os.path.join(os.path.dirname(os.path.abspath(__file__)), ".."))
-from captures import (A10, ACTIVE, AUTO_REFRESH, BURST_TERMINATE, MODE_REGISTER_SET, NOP, PRECHARGE, READ, USUAL, WRITE, bank,
-                      capture, setting, words)
+from captures import (A10, ACTIVE, AUTO_REFRESH, BURST_TERMINATE, DESELECT, LOW, MODE_REGISTER_SET, NOP, PRECHARGE, READ,
+                      SLEEPY, USUAL, WRITE, bank, capture, setting, words)
 
 CAPTURE, SPELLED, LIST, SPELLED_LIST = 0, 1, 2, 3
+SPELLED_ASLEEP = SPELLED | 1 << 4
 
 EVENTS = {
     "nothing": [],
@@ -31,11 +32,33 @@ EVENTS = {
     "rule 14": [(1001, NOP)],
 }
 
+ASLEEP = {
+    "power-down": [(0, ACTIVE), (3, READ), (8, NOP | LOW), (9, DESELECT | LOW), (20, NOP), (22, READ | 8), (30, PRECHARGE)],
+    "self refresh": [(0, AUTO_REFRESH | LOW), (200, NOP | LOW), (210, NOP), (230, ACTIVE), (233, WRITE)],
+    "entries": [(0, NOP | LOW), (1, NOP), (3, AUTO_REFRESH | LOW), (4, DESELECT), (24, DESELECT | LOW)],
+    "tXP": [(0, NOP | LOW), (5, NOP), (6, ACTIVE)],
+    "tXSR": [(0, AUTO_REFRESH | LOW), (5, NOP), (24, ACTIVE)],
+    "inside a read": [(0, ACTIVE), (3, READ), (7, NOP | LOW)],
+    "inside a write": [(0, ACTIVE), (3, WRITE), (5, NOP | LOW)],
+    "inside tRFC": [(0, AUTO_REFRESH), (11, NOP | LOW)],
+    "entry by a command": [(0, BURST_TERMINATE | LOW)],
+    "command while low": [(0, NOP | LOW), (5, PRECHARGE | LOW)],
+    "exit by a command": [(0, AUTO_REFRESH | LOW), (5, ACTIVE)],
+    "rule 3 while low": [(0, NOP | LOW), (5, READ | LOW)],
+    "rule 14 in power-down": [(0, NOP | LOW), (1001, NOP)],
+    "rule 14 after self refresh": [(5, AUTO_REFRESH | LOW), (5000, NOP), (6001, NOP)],
+}
+
 REFUSED = {
     "refusal 1": capture([])[:79],
     "refusal 2": capture([], header=[80, 15, 24, 0, 80, 0]),
     "refusal 3": capture([], setting(3, 0x42)),
     "refusal 4": capture([(0, NOP), (1, NOP | 1 << 20)]),
+    "refusal 1 of 16 settings": capture([], SLEEPY)[:87],
+    "refusal 1 of 80 bytes": capture([], header=[80, 16, 24, 0, 80, 0]),
+    "refusal 2 of 16 settings": capture([], SLEEPY, [88, 17, 24, 0, 88, 0]),
+    "refusal 3 of 16 settings": capture([], setting(15, 0, SLEEPY)),
+    "refusal 4 of 16 settings": capture([(0, NOP | LOW), (1, NOP | 1 << 21)], SLEEPY),
 }
 
 # Case m, and each refusal of a schedule.
@@ -51,9 +74,11 @@ LISTS = {
 
 def spelled_settings(settings):
     """As src/spelled.rs reads them."""
-    lane, rows, columns, mode, *times, gap = settings
+    lane, rows, columns, mode = settings[:4]
     order = (mode & 7) - 1 | (mode >> 3 & 1) << 2 | (mode >> 4 & 1) << 3
-    return bytes([lane - 1, rows - 12, columns - 8, order] + [t - 1 for t in times] + [(gap - 1) % 256, (gap - 1) // 256])
+    gap, times = settings[13] - 1, [t - 1 for t in settings[4:13]]
+    wake = [t - 1 for t in settings[14:]]
+    return bytes([lane - 1, rows - 12, columns - 8, order] + times + [gap % 256, gap // 256] + wake)
 
 
 def spelled(events, settings=USUAL):
@@ -69,6 +94,10 @@ def seeds():
         yield name, CAPTURE, capture(events)
         if all(cycle < 256 for cycle, _ in events):
             yield "spelled " + name, SPELLED, spelled(events)
+    for name, events in ASLEEP.items():
+        yield name, CAPTURE, capture(events, SLEEPY)
+        if all(cycle < 256 for cycle, _ in events):
+            yield "spelled " + name, SPELLED_ASLEEP, spelled(events, SLEEPY)
     slow = setting(7, 11)
     yield "rule 6", SPELLED, spelled([(0, ACTIVE), (3, READ | A10), (10, ACTIVE)], slow)
     yield "spelled rule 14", SPELLED, spelled([(100, NOP)], setting(13, 99))

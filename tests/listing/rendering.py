@@ -3,12 +3,13 @@ import os
 import re
 
 import captures
-from captures import USUAL, broken_lines, burst_length, cas_latency, clean_lines, event_in, is_interleaved, settings_in
+from captures import (LOW, SLEEPY, broken_lines, burst_length, cas_latency, clean_lines, event_in, is_interleaved,
+                      settings_in)
 
 ROOT = os.path.join(os.path.dirname(os.path.abspath(__file__)), "..", "..")
 
 NAMES = ["lane code", "row bits", "column bits", "mode word", "tRCD", "tRP", "tRAS", "tRC", "tRRD", "tWR", "tWTR", "tRFC",
-         "tMRD", "GAP"]
+         "tMRD", "GAP", "tXP", "tXSR"]
 
 # By RAS#, CAS#, WE# with CS# low.
 COMMANDS = {getattr(captures, name.replace(" ", "_")): name for name in
@@ -16,9 +17,13 @@ COMMANDS = {getattr(captures, name.replace(" ", "_")): name for name in
 
 
 def sentences():
-    """The table of sentences in docs/LISTING.md, whose numbers are the settings of document 01's cases."""
+    """The tables of sentences in docs/LISTING.md, whose numbers are the settings of document 01's cases: of fourteen settings,
+    and of sixteen, where those of the second table stand for some of the first."""
     with open(os.path.join(ROOT, "docs", "LISTING.md")) as f:
-        return dict(re.findall(r"^\| (\d+) \| `([^`]+)` \|$", f.read(), re.M))
+        always, asleep = f.read().split("| rule, with sixteen settings |")
+    def table(text):
+        return dict(re.findall(r"^\| (\d+) \| `([^`]+)` \|$", text, re.M))
+    return {14: table(always), 16: {**table(always), **table(asleep)}}
 
 
 SENTENCES = sentences()
@@ -27,7 +32,7 @@ SENTENCES = sentences()
 def with_settings(sentence, settings):
     def number(match):
         i = NAMES.index(match.group(1))
-        assert int(match.group(2)) == USUAL[i], match.group(0)
+        assert int(match.group(2)) == SLEEPY[i], match.group(0)
         return f"{NAMES[i]} ({settings[i]})"
     return re.sub(r"(row bits|t[A-Z]+|GAP) \((\d+)\)", number, sentence)
 
@@ -56,6 +61,10 @@ def column_of(pins, bits):
 
 
 def command(pins, column_bits):
+    return command_alone(pins, column_bits) + (", CKE low" if pins & LOW else "")
+
+
+def command_alone(pins, column_bits):
     name, bank, address, a10 = name_of(pins), pins >> 14 & 3, pins & 0x3FFF, pins >> 10 & 1
     if name == "ACTIVE":
         return f"ACTIVE bank {bank} row {address}"
@@ -68,8 +77,11 @@ def command(pins, column_bits):
     return name
 
 
-def kind_of(pins):
-    """What an earlier event is the last of, if it is of a kind that is listed."""
+def kind_of(pins, before):
+    """What an earlier event is the last of, if it is of a kind that is listed; the pins of the event before it tell what CKE
+    does."""
+    if (pins ^ before) & LOW:
+        return "CKE falls" if pins & LOW else "CKE rises"
     name = name_of(pins)
     if name == "ACTIVE":
         return name, pins >> 14 & 3
@@ -78,7 +90,8 @@ def kind_of(pins):
 
 def event_lines(events, settings, broken):
     first, end = max(0, broken - 8), min(len(events), broken + 5)
-    last = {kind_of(pins): i for i, (_, pins) in enumerate(events[:first])}
+    pins = [0] + [pins for _, pins in events]
+    last = {kind_of(pins[i + 1], pins[i]): i for i in range(first)}
     last.pop(None, None)
     marked = [("^", i) for i in sorted(last.values())]
     marked += [(">" if i == broken else " ", i) for i in range(first, end)]
@@ -94,7 +107,7 @@ def clean(events, settings):
 
 
 def broken(events, settings, rule, at):
-    asks = f"rule {rule}: {with_settings(SENTENCES[str(rule)], settings)}"
+    asks = f"rule {rule}: {with_settings(SENTENCES[len(settings)][str(rule)], settings)}"
     return text(setting_lines(settings) + broken_lines(events, rule, at) + event_lines(events, settings, at) + [asks])
 
 

@@ -8,13 +8,13 @@ import sys
 HERE = os.path.dirname(os.path.abspath(__file__))
 sys.path.insert(0, os.path.join(HERE, ".."))
 import rendering
-from captures import (A10, ACTIVE, AUTO_REFRESH, BURST_TERMINATE, DESELECT, MODE_REGISTER_SET, NOP, PRECHARGE, READ, USUAL,
-                      WRITE, bank, capture, column, mode_word, quiet, setting)
+from captures import (A10, ACTIVE, AUTO_REFRESH, BURST_TERMINATE, DESELECT, LOW, MODE_REGISTER_SET, NOP, PRECHARGE, READ,
+                      SLEEPY, USUAL, WRITE, bank, capture, column, mode_word, quiet, setting)
 from running import from_file, from_pipe, unreadable
 
 CRATE = os.path.join(HERE, "..", "..", "crates", "listing")
 
-# More than any time of the usual settings, and a burst with its latency.
+# More than any time of the usual settings, tXSR too, and a burst with its latency.
 APART = 20
 
 # For each rule, events counted from a cycle at which the part is idle and every time is over; the last event breaks the
@@ -46,6 +46,29 @@ FAULTS = [
     (13, USUAL, [(0, ACTIVE), (2, ACTIVE | bank(1)), (5, READ | A10), (6, READ | bank(1))]),
 ]
 
+# The same with sleep, under the usual settings with tXP 2 and tXSR 20.
+FAULTS_ASLEEP = [
+    (1, [(0, NOP | LOW), (5, ACTIVE | LOW | 1 << 13)]),
+    (3, [(0, NOP | LOW), (5, READ | LOW | bank(1) | column(9))]),
+    (3, [(0, NOP | LOW), (5, READ)]),
+    (3, [(0, ACTIVE), (20, AUTO_REFRESH | LOW)]),
+    (4, [(0, AUTO_REFRESH), (11, NOP | LOW)]),
+    (4, [(0, MODE_REGISTER_SET | bank(2)), (1, DESELECT | LOW)]),
+    (5, [(0, ACTIVE), (3, READ | A10), (9, AUTO_REFRESH | LOW)]),
+    (14, [(0, AUTO_REFRESH | LOW), (5000, NOP), (6001, NOP)]),
+    (14, [(0, AUTO_REFRESH), (20, NOP | LOW), (500, NOP | LOW), (1001, NOP)]),
+    (15, [(0, NOP | LOW), (5, NOP), (6, ACTIVE)]),
+    (15, [(0, NOP | LOW), (1, DESELECT), (2, NOP | LOW)]),
+    (15, [(0, DESELECT | LOW), (1, NOP), (2, PRECHARGE | A10)]),
+    (15, [(0, AUTO_REFRESH | LOW), (5000, NOP), (5019, ACTIVE | bank(3) | 5)]),
+    (15, [(0, ACTIVE), (3, READ), (7, NOP | LOW)]),
+    (15, [(0, ACTIVE), (3, WRITE), (5, NOP | LOW)]),
+    (15, [(0, BURST_TERMINATE | LOW)]),
+    (15, [(0, NOP | LOW), (5, PRECHARGE | LOW)]),
+    (15, [(0, AUTO_REFRESH | LOW), (5000, ACTIVE)]),
+    (15, [(0, AUTO_REFRESH | LOW), (5000, MODE_REGISTER_SET | LOW | 0x32)]),
+]
+
 
 def traffic(n):
     """n events that keep every rule and leave the part idle: rows opened, read or written, closed, and a refresh."""
@@ -59,9 +82,21 @@ def traffic(n):
     return [(APART * i, pins) for i, pins in enumerate(events)]
 
 
-def anything(chance, n, cycle):
+def traffic_asleep(n):
+    """The same with sleep in it; the part is left awake."""
+    events = []
+    for i in range(n // 8):
+        b = bank(i % 4)
+        refresh = [AUTO_REFRESH, NOP | LOW, NOP] if i % 3 else [AUTO_REFRESH | LOW, DESELECT | LOW, DESELECT]
+        events += [ACTIVE | b | i, (WRITE if i % 3 else READ) | b | column(i), NOP | LOW, NOP, PRECHARGE | b] + refresh
+    events += [NOP] * (n % 8)
+    return [(APART * i, pins) for i, pins in enumerate(events)]
+
+
+def anything(chance, n, cycle, settings=USUAL):
     """Events behind the broken one, which are not judged: any pins."""
-    return [(cycle + 1 + i, chance.randrange(1 << 20)) for i in range(n)]
+    most = 1 << (20 if len(settings) == 14 else 21)
+    return [(cycle + 1 + i, chance.randrange(most)) for i in range(n)]
 
 
 def fault_cases(chance):
@@ -75,6 +110,16 @@ def fault_cases(chance):
                 yield capture(events, settings), rendering.broken(events, settings, rule, at)
 
 
+def fault_cases_asleep(chance):
+    for rule, fault in FAULTS_ASLEEP:
+        for before in (0, 1, 8, 9, 16, 24, 33):
+            start = traffic_asleep(before)
+            events = start + [(APART * before + cycle, pins) for cycle, pins in fault]
+            at = len(events) - 1
+            events += anything(chance, before % 6, events[-1][0], SLEEPY)
+            yield capture(events, SLEEPY), rendering.broken(events, SLEEPY, rule, at)
+
+
 def late_cases(chance):
     """Rule 14, GAP behind the last AUTO REFRESH, or behind cycle 0."""
     for before in (0, 3, 4, 5, 7, 8, 9, 40):
@@ -85,19 +130,20 @@ def late_cases(chance):
             yield capture(events), rendering.broken(events, USUAL, 14, before)
 
 
-def any_settings(chance):
-    """Settings within document 01's limits."""
+def any_settings(chance, n=14):
+    """n settings within their limits."""
     def between(least, most):
         return least + chance.randrange(most - least + 1)
     mode = mode_word(2 ** between(1, 4), between(0, 1), between(2, 3))
-    return [between(1, 2), between(12, 14), between(8, 11), mode] + [between(1, 10_000) for _ in range(9)] + [between(1, 10**6)]
+    first = [between(1, 2), between(12, 14), between(8, 11), mode] + [between(1, 10_000) for _ in range(9)]
+    return first + [between(1, 10**6)] + [between(1, 10_000) for _ in range(n - 14)]
 
 
 def command_cases(chance):
     """READ of an idle bank at cycle 0 breaks rule 3 whatever the settings are; the four events behind it are listed."""
-    for _ in range(200):
-        settings = any_settings(chance)
-        events = [(0, READ | chance.randrange(1 << 16))] + anything(chance, 6, 0)
+    for number in range(300):
+        settings = any_settings(chance, 16 if number % 3 == 2 else 14)
+        events = [(0, READ | chance.randrange(1 << 16))] + anything(chance, 6, 0, settings)
         yield capture(events, settings), rendering.broken(events, settings, 3, 0)
 
 
@@ -113,18 +159,27 @@ def longest_cases():
 def clean_cases(chance):
     for n in (0, 1, 2, 9, 100):
         yield capture(traffic(n)), rendering.clean(traffic(n), USUAL)
-    for _ in range(40):
-        settings = any_settings(chance)
+        yield capture(traffic_asleep(n), SLEEPY), rendering.clean(traffic_asleep(n), SLEEPY)
+    for number in range(60):
+        settings = any_settings(chance, 16 if number % 3 == 2 else 14)
         yield capture([(0, NOP)], settings), rendering.clean([(0, NOP)], settings)
 
 
 def refused_cases(chance):
     cases = [(b"", 1, 0), (capture([])[:79], 1, 0), (capture([]) + b"\0", 1, 0), (quiet(8000) + b"\0", 1, 0),
              (quiet(8001), 1, 0), (capture([], header=[80, 14, 24, 1, 80, 0]), 2, 0),
-             (capture([], header=[80, 14, 25, 0, 80, 0]), 2, 0)]
-    below_and_above = [(0, 3), (11, 15), (7, 12), (0x30, 0x42)] + [(0, 10_001)] * 9 + [(0, 1_000_001)]
+             (capture([], header=[80, 14, 25, 0, 80, 0]), 2, 0), (capture([], SLEEPY)[:87], 1, 0),
+             (capture([], header=[80, 16, 24, 0, 80, 0]), 1, 0), (capture([], SLEEPY, [88, 16, 24, 0, 80, 0]), 2, 0),
+             (capture([], SLEEPY, [88, 15, 24, 0, 88, 0]), 2, 0), (quiet(8000, SLEEPY) + b"\0", 1, 0)]
+    below_and_above = [(0, 3), (11, 15), (7, 12), (0x30, 0x42)] + [(0, 10_001)] * 9 + [(0, 1_000_001)] + [(0, 10_001)] * 2
     for i, words in enumerate(below_and_above):
-        cases += [(capture(traffic(5), setting(i, word)), 3, i) for word in words + (0xFFFF_FFFF,)]
+        words += (0xFFFF_FFFF,)
+        cases += [(capture(traffic(5), setting(i, word)), 3, i) for word in words if i < 14]
+        cases += [(capture(traffic_asleep(9), setting(i, word, SLEEPY)), 3, i) for word in words]
+    for at, event in [(0, (0, NOP | LOW | 1 << 21)), (5, (APART * 4, NOP | LOW)), (8, (2_000_000_001, NOP | LOW))]:
+        events = traffic_asleep(9)
+        events[at] = event
+        cases.append((capture(events, SLEEPY), 4, at))
     for n in (1, 2, 9, 200):
         for at in {0, n // 2, n - 1}:
             for cycle, pins in [(0xFFFF_FFFF, NOP), (2_000_000_001, READ), (APART * at, NOP | 1 << 20), (APART * at, 1 << 31)]:
@@ -159,8 +214,8 @@ def main():
     wrong = int(data != capture(STORED) or output != rendering.broken(STORED, USUAL, 5, 12))
     if wrong:
         print("WRONG the crate's stdin and stdout")
-    cases = [stored_case(), *fault_cases(chance), *late_cases(chance), *command_cases(chance), *longest_cases(),
-             *clean_cases(chance), *refused_cases(chance)]
+    cases = [stored_case(), *fault_cases(chance), *fault_cases_asleep(chance), *late_cases(chance), *command_cases(chance),
+             *longest_cases(), *clean_cases(chance), *refused_cases(chance)]
     for number, (data, expected) in enumerate(cases):
         runs = [from_file("listing", data)] + ([from_pipe("listing", data, 100, 0.001)] if number % 50 == 0 else [])
         for run in runs:

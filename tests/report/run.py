@@ -5,7 +5,7 @@ import os
 import sys
 
 sys.path.insert(0, os.path.join(os.path.dirname(os.path.abspath(__file__)), ".."))
-from captures import ACTIVE, NOP, READ, capture, quiet, setting
+from captures import ACTIVE, AUTO_REFRESH, LOW, NOP, READ, SLEEPY, capture, quiet, setting
 from running import from_file, from_pipe, unreadable
 
 CASES = [
@@ -31,6 +31,22 @@ CASES = [
     ("64,081 bytes", quiet(8000) + b"\0", "refused 1 place 0\n"),
     ("64,088 bytes that state their total", quiet(8001), "refused 1 place 0\n"),
     ("a megabyte", quiet(8000) * 16, "refused 1 place 0\n"),
+    ("16 settings: no events", capture([], SLEEPY), "events 0\njudged 0\nclean\n"),
+    ("a power-down and tXP", capture([(0, NOP | LOW), (5, NOP), (7, ACTIVE)], SLEEPY), "events 3\njudged 3\nclean\n"),
+    ("ACTIVE before tXP is over", capture([(0, NOP | LOW), (5, NOP), (6, ACTIVE)], SLEEPY),
+     "events 3\njudged 2\nbroken rule 15 event 2 cycle 6\n"),
+    ("a self refresh longer than GAP", capture([(5, AUTO_REFRESH | LOW), (5000, NOP), (6001, NOP)], SLEEPY),
+     "events 3\njudged 2\nbroken rule 14 event 2 cycle 6001\n"),
+    ("87 bytes of 16 settings", capture([], SLEEPY)[:87], "refused 1 place 0\n"),
+    ("80 bytes that count 16 settings", capture([], header=[80, 16, 24, 0, 80, 0]), "refused 1 place 0\n"),
+    ("a settings count of 17", capture([], SLEEPY, [88, 17, 24, 0, 88, 0]), "refused 2 place 0\n"),
+    ("tXSR 0", capture([], setting(15, 0, SLEEPY)), "refused 3 place 15\n"),
+    ("pin bit 21", capture([(0, NOP | LOW), (1, NOP | 1 << 21)], SLEEPY), "refused 4 place 1\n"),
+    ("64,088 bytes, the longest capture of 16 settings", quiet(8000, SLEEPY), "events 8000\njudged 8000\nclean\n"),
+    ("64,089 bytes", quiet(8000, SLEEPY) + b"\0", "refused 1 place 0\n"),
+    ("64,084 bytes that count 16 settings",
+     capture([], SLEEPY, [64_084, 16, 24, 8000, 88, 0]) + bytes(63_996), "refused 2 place 0\n"),
+    ("64,084 bytes that count 14 settings", capture([], header=[64_084, 14, 24, 8000, 80, 0]) + bytes(64_004), "refused 1 place 0\n"),
 ]
 
 

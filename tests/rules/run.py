@@ -11,16 +11,16 @@ HERE = os.path.dirname(os.path.abspath(__file__))
 ROOT = os.path.join(HERE, "..", "..")
 sys.path.insert(0, os.path.join(HERE, ".."))
 import captures
-from captures import A10, USUAL, bank, broken_lines, capture, clean_lines, column
+from captures import A10, LOW, SLEEPY, USUAL, bank, broken_lines, capture, clean_lines, column
 from running import from_file
 
-NAMES = ["tRCD", "tRP", "tRAS", "tRC", "tRRD", "tWR", "tWTR", "tRFC", "tMRD", "GAP"]
+NAMES = ["tRCD", "tRP", "tRAS", "tRC", "tRRD", "tWR", "tWTR", "tRFC", "tMRD", "GAP", "tXP", "tXSR"]
 
 EXAMPLE = re.compile(r"`([^`]*@\d+)` (?:is (clean)|breaks rule (\d+))")
 
-# The command, what it names in this order, and its cycle.
+# The command, what it names in this order, whether CKE is low, and its cycle.
 EVENT = re.compile(r"([A-Z]+(?: [A-Z]+)*)(?: register ([01]{2}))?(?: bank (\d))?(?: row (\d+))?(?: column (\d+))?"
-                   r"(?: 0x([0-9a-f]+))?( auto| all)? @(\d+)")
+                   r"(?: 0x([0-9a-f]+))?( auto| all)?( low)? @(\d+)")
 
 # At the margin, or in a module, where a line without one of the two words is a field of a record.
 DEFINED = re.compile(r"^(?:(?:abbrev |unfoldable )?pub (?:data |record )?| +(?:abbrev |unfoldable )pub )([^\s:]+) ", re.M)
@@ -33,13 +33,16 @@ def read(*path):
 
 
 def event(text):
-    name, register, b, row, c, value, a10, cycle = EVENT.fullmatch(text).groups(default="")
+    name, register, b, row, c, value, a10, low, cycle = EVENT.fullmatch(text).groups(default="")
     pins = getattr(captures, name.replace(" ", "_")) | bank(int(register or "0", 2)) | bank(int(b or 0))
-    return int(cycle), pins | int(row or 0) | column(int(c or 0)) | int(value or "0", 16) | (A10 if a10 else 0)
+    pins |= int(row or 0) | column(int(c or 0)) | int(value or "0", 16) | (A10 if a10 else 0) | (LOW if low else 0)
+    return int(cycle), pins
 
 
-def settings_with(changes):
-    settings = list(USUAL)
+def settings_with(changes, events):
+    """Sixteen where tXP or tXSR is named or CKE is low."""
+    sleeps = any(pins & LOW for _, pins in events) or any(change.startswith("tX") for change in changes)
+    settings = list(SLEEPY if sleeps else USUAL)
     for change in changes:
         name, value = change.split()
         settings[4 + NAMES.index(name)] = int(value)
@@ -49,7 +52,7 @@ def settings_with(changes):
 def example(text):
     changes, _, list_ = text.rpartition(": ")
     events = [event(words) for words in list_.split(", ")]
-    return events, settings_with(changes.split(", ") if changes else [])
+    return events, settings_with(changes.split(", ") if changes else [], events)
 
 
 def examples(page):

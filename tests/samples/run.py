@@ -16,8 +16,9 @@ ROOT = os.path.join(HERE, "..", "..")
 SAMPLES = os.path.join(ROOT, "samples")
 
 # For settings 4 to 12, tRCD to tMRD, the rules that ask for them. An auto precharge waits for tRAS and tWR, and rule 5 for
-# an auto precharge.
+# an auto precharge. The samples of sleep are at the limit of tXP or tXSR as well.
 ASKING = [(4, [8]), (5, [5]), (6, [5, 9]), (7, [6]), (8, [7]), (9, [5, 10]), (10, [11]), (11, [4]), (12, [4])]
+ASKING_BESIDES = {"clean-power-down.capture": [(14, [15])], "clean-self-refresh.capture": [(15, [15])]}
 
 
 def captures_in(folder):
@@ -48,7 +49,7 @@ def longer(name, data):
     """What is wrong if each time in turn is a cycle longer: a rule that asks for it has to be broken."""
     wrong = []
     settings = settings_in(data)
-    for i, rules in ASKING:
+    for i, rules in ASKING + ASKING_BESIDES.get(name, []):
         changed = settings[:i] + [settings[i] + 1] + settings[i + 1:]
         said = from_file("report", with_settings(data, changed)).stdout.decode()
         hidden = i == 7 and changed[7] <= settings[5] + settings[6]

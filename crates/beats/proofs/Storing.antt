@@ -12,11 +12,8 @@ use Rattle.reading.specs.Search.{count}
 use Rattle.reading.specs.Mode.{BL, interleaved}
 use Rattle.reading.specs.Bursts.{place, beatColumn}
 use Rattle.words.proofs.Runs.{sets-append}
+use Rattle.capture.proofs.Accepted.{length-count}
 use Rattle.beats.specs.Rows.{placeIn, blockCells, beatCells}
-
-pub length-count : (from n : ℕ) → length (count from n) ≡ n
-length-count from zero = refl
-length-count from (suc n) = ap suc (length-count (suc from) n)
 
 count-more : (from n : ℕ) → count from (suc n) ≡ count from n ++ ((from + n) ∷ [])
 count-more from zero = ap (λ (k : ℕ). k ∷ []) (sym (add-zero from))

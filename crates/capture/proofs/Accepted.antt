@@ -1,6 +1,6 @@
 -- What it means that a capture is accepted.
 use Prim.Native.Nat.{ℕ, zero, suc, _+_, _-_, _*_, _^_, _≤_, _<_}
-use mathlib.Core.Bool.{Bool, true, false, not, _&&_, _||_, and-eq-true-iff}
+use mathlib.Core.Bool.{Bool, true, false, cond, not, _&&_, _||_, and-eq-true-iff}
 use mathlib.Core.List.{List}
 use mathlib.Core.Option.{Option, none, some}
 use mathlib.Core.Path.{_≡_, refl, sym, ap, _∙_}
@@ -12,7 +12,7 @@ use lib.Dec.{leb, ltb, eqb}
 use Rattle.reading.specs.Search.{given, count}
 use Rattle.reading.specs.Words.{wordAt}
 use Rattle.reading.specs.Settings.{settingFits, badSetting}
-use Rattle.reading.specs.Capture.{headerWord, eventCount, settingWords, eventBytes, eventAt, lengthFits, headerFits, lastCycle, pinLimit, cycleFits, eventFits, badEvent}
+use Rattle.reading.specs.Capture.{headerWord, countIn, eventsStart, captureSize, mostEvents, eventCount, settingWords, eventBytes, eventAt, lengthFits, headerFits, lastCycle, pinLimit, cycleFits, eventFits, badEvent}
 use Rattle.reading.specs.Answers.{Answer, refused, answered, unless, accepted}
 use Rattle.words.proofs.Search.{none-below}
 
@@ -53,12 +53,12 @@ module _ {A : Type 0} (capture : List ℕ) (rest : Answer A) where
 -- ---- accepted: all fits
 
 pub record Sized (capture : List ℕ) : Type 0 where
-  pub size : length capture ≡ 80 + 8 * eventCount capture
+  pub size : length capture ≡ captureSize (countIn capture) (eventCount capture)
   pub few : eventCount capture ≤ 8000
 
 pub record Sound (capture : List ℕ) : Type 0 where
   pub sized : Sized capture
-  pub settings : (i : ℕ) → i < 14 → settingFits i (getD (settingWords capture) i 0) ≡ true
+  pub settings : (i : ℕ) → i < countIn capture → settingFits i (getD (settingWords capture) i 0) ≡ true
   pub events : (i : ℕ) → i < eventCount capture → cycleFits (eventBytes capture) i ≡ true
 
 nothing-wrong : (o1 o2 o3 o4 : Option ℕ) →
@@ -84,18 +84,41 @@ third-and-last a b c d e f h =
     let three = both (a && b && c) d (four .0) in
     (both (a && b) c (three .0) .1, five .1)
 
+-- n numbers in a row
+pub length-count : (from n : ℕ) → length (count from n) ≡ n
+length-count from zero = refl
+length-count from (suc n) = ap suc (length-count (suc from) n)
+
 module _ (capture : List ℕ) where
-  lengths : lengthFits capture ≡ true → (leb 80 (length capture) && leb (length capture) 64080 ≡ true) × (eqb (headerWord capture 0) (length capture) ≡ true)
+  -- fourteen settings, or sixteen
+  pub count-range : (14 ≤ countIn capture) × (countIn capture ≤ 16)
+  count-range = go (eqb (headerWord capture 1) 16)
+    where
+      go : (b : Bool) → (14 ≤ cond b 16 14) × (cond b 16 14 ≤ 16)
+      go true = (omega arith, omega arith)
+      go false = (omega arith, omega arith)
+
+  abbrev least : ℕ
+  least = captureSize (countIn capture) 0
+
+  lengths : lengthFits capture ≡ true →
+      (leb least (length capture) && leb (length capture) (captureSize (countIn capture) mostEvents) ≡ true)
+      × (eqb (headerWord capture 0) (length capture) ≡ true)
   unfolding lengthFits
-  lengths h = both (leb 80 (length capture) && leb (length capture) 64080) _ h
+  lengths h = both (leb least (length capture) && leb (length capture) (captureSize (countIn capture) mostEvents)) _ h
 
-  pub long-enough : lengthFits capture ≡ true → 80 ≤ length capture
-  long-enough h = leb-true _ _ (both (leb 80 (length capture)) _ (lengths h .0) .0)
+  pub long-enough : lengthFits capture ≡ true → eventsStart (countIn capture) ≤ length capture
+  long-enough h =
+      let l : least ≤ length capture =
+      leb-true least (length capture) (both (leb least (length capture)) (leb (length capture) (captureSize (countIn capture) mostEvents)) (lengths h .0) .0) in
+      omega arith
 
-  counts : headerFits capture ≡ true → (leb (eventCount capture) 8000 ≡ true) × (eqb (headerWord capture 0) (80 + 8 * eventCount capture) ≡ true)
+  counts : headerFits capture ≡ true →
+      (leb (eventCount capture) 8000 ≡ true) × (eqb (headerWord capture 0) (captureSize (countIn capture) (eventCount capture)) ≡ true)
   unfolding headerFits
   counts h =
-      third-and-last (eqb (headerWord capture 1) 14) (eqb (headerWord capture 2) 24) _ (eqb (headerWord capture 4) 80) (eqb (headerWord capture 5) 0) _ h
+      third-and-last (eqb (headerWord capture 1) (countIn capture)) (eqb (headerWord capture 2) 24) _
+      (eqb (headerWord capture 4) (eventsStart (countIn capture))) (eqb (headerWord capture 5) 0) _ h
 
   pub sized : lengthFits capture ≡ true → headerFits capture ≡ true → Sized capture
   sized l h =
@@ -104,9 +127,9 @@ module _ (capture : List ℕ) where
         few = leb-true _ _ (counts h .0);
       }
 
-  pub words-count : length (settingWords capture) ≡ 14
+  pub words-count : length (settingWords capture) ≡ countIn capture
   unfolding settingWords
-  words-count = length-map (count 0 14) (λ i. wordAt capture (24 + 4 * i))
+  words-count = length-map (count 0 (countIn capture)) (λ i. wordAt capture (24 + 4 * i)) ∙ length-count 0 (countIn capture)
 
   pub accepted-sound : accepted capture (answered (tt {0})) ≡ answered tt → Sound capture
   unfolding accepted badSetting badEvent eventFits

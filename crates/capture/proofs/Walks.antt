@@ -30,11 +30,11 @@ pub record Loading (capture loaded : List ℕ) (i : ℕ) : Type 0 where
   pub same : sets loaded i (wordsFrom capture i) ≡ padded (settingWords capture)
 
 pub none-loaded : (capture : List ℕ) → Loading capture (replicate 16 0) 0
-unfolding settingWords
+unfolding settingWords padded
 none-loaded capture = record { within = omega arith; full = refl; same = go (eqb (headerWord capture 1) 16) }
   where
     go : (b : Bool) →
-        sets (replicate 16 0) 0 (map (λ j. wordAt capture (24 + 4 * j)) (count 0 (cond b 16 14))) ≡
+        sets (replicate 16 0) 0 (map (λ j. wordAt capture (24 + 4 * j)) (count 0 (cond b 16 14 - 0))) ≡
         padded (map (λ j. wordAt capture (24 + 4 * j)) (count 0 (cond b 16 14)))
     go true = refl
     go false = refl

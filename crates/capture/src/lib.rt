@@ -17,6 +17,11 @@ ghost use Rattle.reading.specs.Answers.{answered, accepted};
 ghost use Rattle.settings.specs.Meaning.{means, padded};
 ghost use Rattle.capture.specs.Meaning.{fitsFrom};
 
+// How many settings a capture states, without sleep and with it.
+const COUNT_STATED: u32 = COUNT as u32;
+
+const SLEEPING_STATED: u32 = SLEEPING as u32;
+
 // Where the settings start.
 pub const SETTINGS: usize = 24;
 
@@ -42,7 +47,7 @@ fn sleeping(capture: &[u8]) -> bool
     requires { ⌜ 24 ≤ length (now capture) ⌝ }
     ensures { λ r. ⌜ r ≡ eqb (headerWord (now (capture .entry)) 1) sleepingCount ⌝ }
 {
-    words::word_at(capture, 4) == SLEEPING as u32
+    words::word_at(capture, 4) == SLEEPING_STATED
 }
 
 // How many settings it has.
@@ -52,9 +57,9 @@ fn settings_count(capture: &[u8]) -> u32
     ensures { λ r. ⌜ (14 ≤ r) × (r ≤ 16) ⌝ }
 {
     if sleeping(capture) {
-        SLEEPING as u32
+        SLEEPING_STATED
     } else {
-        COUNT as u32
+        COUNT_STATED
     }
 }
 
@@ -241,7 +246,7 @@ pub fn open(capture: &[u8]) -> Checked
     }
     let loaded = setting_words(capture);
     let settings = settings_count(capture) as usize;
-    let setting = settings::lowest_bad(&loaded[..settings]);
+    let setting = settings::lowest_bad(&loaded, settings);
     if let Found::At(place) = setting {
         return Checked::Refused { number: 3, place };
     }

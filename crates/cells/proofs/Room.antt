@@ -21,7 +21,8 @@ use Rattle.reading.specs.Verdict.{clean, judgeFrom, judgeBy}
 use Rattle.reading.proofs.Meaning.{none-broken}
 use Rattle.beats.specs.Kept.{eventsFrom, keptOf}
 use Rattle.beats.proofs.Looking.{kept-half}
-use Rattle.beats.proofs.Storing.{length-count, length-cells}
+use Rattle.capture.proofs.Accepted.{length-count}
+use Rattle.beats.proofs.Storing.{length-cells}
 use Rattle.beats.proofs.Ahead.{eventCells, cellsFrom}
 use Rattle.cells.specs.Meaning.{Listable, cellsOn, lackingIn}
 use Rattle.cells.proofs.Alone.{clean-rest, all-clean}

@@ -20,7 +20,7 @@ use Rattle.reading.proofs.Meaning.{verdict-clean}
 use Rattle.capture.proofs.Accepted.{accepted-rest}
 use Rattle.cells.specs.declared.Listed.{Listed}
 use Rattle.cells.specs.declared.Listed.the-variants as listed
-use Rattle.beats.proofs.Storing.{length-count}
+use Rattle.capture.proofs.Accepted.{length-count}
 use Rattle.cells.proofs.Unique.{one-answer}
 use Rattle.morgazell.proofs.Reversible.{at-count}
 use Rattle.demands.specs.Allowed.{Lists}

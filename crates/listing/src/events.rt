@@ -8,12 +8,19 @@ use settings::places::COLUMN_BITS;
 use settings::places::ROW_BITS;
 ghost use mathlib.Core.Path.{_≡_};
 ghost use Prim.Native.Nat.{_+_, _-_, _<_, min};
-ghost use Rattle.listing.specs.Kinds.{kindOf};
+ghost use Rattle.listing.specs.Kinds.{commandKindOf, kindOf};
 
 // How many events are listed before the broken one, and the broken one with those behind it.
 const BEFORE: u32 = 8;
 
 const FROM_BROKEN: u32 = 5;
+
+// Kinds of events; those below are commands with CKE high.
+const FALL: usize = 6;
+
+const RISE: usize = 7;
+
+const OTHER: usize = 8;
 
 struct Event {
     cycle: u32,
@@ -25,6 +32,9 @@ struct Event {
 // Event i; zeros where there is none.
 fn event_at(capture: &[u8], i: u32) -> Event {
     if capture.len() < capture::EVENTS {
+        return Event { cycle: 0, pins: 0 };
+    }
+    if capture.len() < capture::events_start(capture) as usize {
         return Event { cycle: 0, pins: 0 };
     }
     let bytes = capture::event_bytes(capture);
@@ -116,12 +126,19 @@ fn say_command(out: &mut Out, settings: &Settings, pins: u32) {
 
 // ---- lines
 
+fn say_event(out: &mut Out, settings: &Settings, pins: u32) {
+    say_command(out, settings, pins);
+    if pins::low(pins) {
+        say(out, b", CKE low");
+    }
+}
+
 fn print_event(out: &mut Out, settings: &Settings, mark: &[u8], i: u32, event: Event) {
     say(out, mark);
     say_number(out, b" event ", i);
     say_number(out, b" cycle ", event.cycle);
     say(out, b" ");
-    say_command(out, settings, event.pins);
+    say_event(out, settings, event.pins);
     say(out, b"\n");
 }
 
@@ -143,39 +160,59 @@ pub fn print_refused(out: &mut Out, capture: &[u8], i: u32) {
 
 // ---- the events before those listed
 
-// ACTIVE by its bank, AUTO REFRESH, MODE REGISTER SET, and the others.
-fn kind(pins: u32) -> usize
-    ensures { λ r. ⌜ (r ≡ kindOf pins) × (r < 7) ⌝ }
+// ACTIVE by its bank, AUTO REFRESH, MODE REGISTER SET, CKE falling and CKE rising, and the others.
+fn kind(before: u32, pins: u32) -> usize
+    ensures { λ r. ⌜ (r ≡ kindOf before pins) × (r < 9) ⌝ }
+{
+    if pins::low(pins) {
+        return if pins::low(before) { OTHER } else { FALL };
+    }
+    if pins::low(before) {
+        return RISE;
+    }
+    command_kind(pins)
+}
+
+fn command_kind(pins: u32) -> usize
+    ensures { λ r. ⌜ (r ≡ commandKindOf pins) × (r < 9) ⌝ }
 {
     let asked = pins::code(pins);
-    if asked == 12 {
+    if asked == pins::ACTIVE {
         return pins::bank(pins);
     }
-    if asked == 8 {
+    if asked == pins::REFRESH {
         return 4;
     }
-    if asked == 0 {
+    if asked == pins::MODE_SET {
         return 5;
     }
-    6
+    OTHER
+}
+
+// The pins of the event before event i; CKE is high before the first.
+fn pins_before(capture: &[u8], i: u32) -> u32 {
+    if i == 0 {
+        return 0;
+    }
+    event_at(capture, i - 1).pins
 }
 
 // The last event of each kind before event `end`; `end` where there is none.
-fn last_of_each(capture: &[u8], end: u32) -> [u32; 7] {
-    let mut last = [end; 7];
+fn last_of_each(capture: &[u8], end: u32) -> [u32; 9] {
+    let mut last = [end; 9];
     let mut i: u32 = 0;
     while i < end {
         let event = event_at(capture, i);
-        last[kind(event.pins)] = i;
+        last[kind(pins_before(capture, i), event.pins)] = i;
         i += 1;
     }
     last
 }
 
-fn print_if_last(out: &mut Out, settings: &Settings, capture: &[u8], last: &[u32; 7], i: u32) {
+fn print_if_last(out: &mut Out, settings: &Settings, capture: &[u8], last: &[u32; 9], i: u32) {
     let event = event_at(capture, i);
-    let k = kind(event.pins);
-    if k == 6 {
+    let k = kind(pins_before(capture, i), event.pins);
+    if k == OTHER {
         return;
     }
     if last[k] == i {

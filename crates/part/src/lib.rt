@@ -1,6 +1,8 @@
-// What the judge keeps of a part: forty deadlines in a lent array, no rows and no bursts; and the step from event to event.
+// What the judge keeps of a part: its deadlines in a lent array, no rows and no bursts; and the step from event to event.
 use deadlines::Deadlines;
 use deadlines::Pace;
+use deadlines::places::ASLEEP;
+use deadlines::places::OVERDUE;
 use settings::Settings;
 ghost use mathlib.Core.Path.{_≡_};
 ghost use mathlib.Core.Bool.{true, cond};
@@ -147,14 +149,95 @@ fn mode_set(s: &Settings, d: &mut Deadlines, pace: &mut Pace, t: u32, b: usize, 
     Answer::Kept
 }
 
-fn quiet(d: &Deadlines, t: u32) -> Answer
-    ensures { λ r. ⌜ means r ≡ ruleOf (is.dueBreaks (now (d .entry)) t) ⌝ }
+// NOP and DESELECT; asleep they leave it.
+fn quiet(s: &Settings, d: &mut Deadlines, t: u32) -> Answer
+    ensures { λ r. ⌜ means r ≡ ruleOf (is.quietBreaks (now (d .entry)) t) ⌝ }
+    ensures { λ r.
+        ⌜ now (d .exit) ≡ leftBy (is.quietBreaks (now (d .entry)) t)
+        (is.quietAfter (settingsOf (now (s .entry))) (now (d .entry)) t) (now (d .entry)) ⌝ }
 {
-    let rule = rules::due_breaks(d, t);
+    if (t as u64) < d[OVERDUE] {
+        return Answer::Kept;
+    }
+    if (t as u64) < d[ASLEEP] {
+        effects::leave_after(s, d, t);
+        return Answer::Kept;
+    }
+    Answer::Broke(14)
+}
+
+// With CKE low: NOP and DESELECT, which enter power-down or stay asleep; AUTO REFRESH, which enters self refresh; and every
+// other command, which breaks a rule, if not a lower one then rule 15.
+
+fn enter(s: &Settings, d: &mut Deadlines, t: u32) -> Answer
+    ensures { λ r. ⌜ means r ≡ ruleOf (is.enterBreaks (settingsOf (now (s .entry))) (now (d .entry)) t) ⌝ }
+    ensures { λ r.
+        ⌜ now (d .exit) ≡ leftBy (is.enterBreaks (settingsOf (now (s .entry))) (now (d .entry)) t)
+        (is.enterAfter (now (d .entry))) (now (d .entry)) ⌝ }
+{
+    let rule = rules::enter_breaks(s, &*d, t);
     if rule != 0 {
         return Answer::Broke(rule);
     }
+    effects::enter_after(d);
     Answer::Kept
+}
+
+fn quiet_low(s: &Settings, d: &mut Deadlines, t: u32) -> Answer
+    ensures { λ r. ⌜ means r ≡ ruleOf (is.lowBreaks (settingsOf (now (s .entry))) (now (d .entry)) t) ⌝ }
+    ensures { λ r.
+        ⌜ now (d .exit) ≡ leftBy (is.lowBreaks (settingsOf (now (s .entry))) (now (d .entry)) t)
+        (is.lowAfter (now (d .entry)) t) (now (d .entry)) ⌝ }
+{
+    if (t as u64) < d[ASLEEP] {
+        return Answer::Kept;
+    }
+    if d[ASLEEP] != 0 {
+        return Answer::Broke(14);
+    }
+    enter(s, d, t)
+}
+
+fn refresh_low(s: &Settings, d: &mut Deadlines, t: u32) -> Answer
+    ensures { λ r. ⌜ means r ≡ ruleOf (is.selfBreaks (settingsOf (now (s .entry))) (now (d .entry)) t) ⌝ }
+    ensures { λ r.
+        ⌜ now (d .exit) ≡ leftBy (is.selfBreaks (settingsOf (now (s .entry))) (now (d .entry)) t)
+        (is.selfAfter (now (d .entry))) (now (d .entry)) ⌝ }
+{
+    let rule = rules::self_breaks(s, &*d, t);
+    if rule != 0 {
+        return Answer::Broke(rule);
+    }
+    effects::self_after(d);
+    Answer::Kept
+}
+
+fn command_breaks(s: &Settings, d: &Deadlines, t: u32, w: u32) -> u32
+    ensures { λ r. ⌜ r ≡ highBreaks (settingsOf (now (s .entry))) (now (d .entry)) t w ⌝ }
+{
+    match pins::code(w) {
+        pins::ACTIVE => rules::active_breaks(s, d, t, pins::bank(w), pins::address(w)),
+        pins::READ => rules::read_breaks(d, t, pins::bank(w)),
+        pins::WRITE => rules::write_breaks(d, t, pins::bank(w)),
+        pins::PRECHARGE => {
+            if pins::ten(w) {
+                return rules::close_all_breaks(d, t);
+            }
+            rules::close_breaks(d, t, pins::bank(w))
+        }
+        pins::TERMINATE => rules::terminate_breaks(s, d, t),
+        _ => rules::mode_breaks(d, t, pins::bank(w), pins::address(w)),
+    }
+}
+
+fn command_low(s: &Settings, d: &Deadlines, t: u32, w: u32) -> Answer
+    ensures { λ r. ⌜ means r ≡ ruleOf (unlessLower (highBreaks (settingsOf (now (s .entry))) (now (d .entry)) t w)) ⌝ }
+{
+    let rule = command_breaks(s, d, t, w);
+    if rule != 0 {
+        return Answer::Broke(rule);
+    }
+    Answer::Broke(15)
 }
 
 // One event: what it answers by the deadlines kept of the events before it, and the deadlines with it. An event that
@@ -168,7 +251,7 @@ pub fn step(s: &Settings, d: &mut Deadlines, pace: &mut Pace, t: u32, w: u32) ->
         ⌜ now (pace .exit) ≡ leftBy (stepBreaks (settingsOf (now (s .entry))) (now (d .entry)) t w)
         (paceAfter (now (pace .entry)) w) (now (pace .entry)) ⌝ }
 {
-    let code = pins::code(w);
+    let code = pins::wide_code(w);
     match code {
         pins::ACTIVE => active(s, d, t, pins::bank(w), pins::address(w)),
         pins::READ => read(s, d, &*pace, t, pins::bank(w), pins::ten(w)),
@@ -182,6 +265,9 @@ pub fn step(s: &Settings, d: &mut Deadlines, pace: &mut Pace, t: u32, w: u32) ->
         pins::TERMINATE => terminate(s, d, &*pace, t),
         pins::REFRESH => refresh(s, d, t),
         pins::MODE_SET => mode_set(s, d, pace, t, pins::bank(w), pins::address(w)),
-        _ => quiet(&*d, t),
+        1 | 3 | 5 | 7 | 9 | 11 | 13 | pins::NOP | 15 => quiet(s, d, t),
+        17 | 19 | 21 | 23 | 25 | 27 | 29 | pins::NOP_LOW | 31 => quiet_low(s, d, t),
+        pins::REFRESH_LOW => refresh_low(s, d, t),
+        _ => command_low(s, &*d, t, w),
     }
 }

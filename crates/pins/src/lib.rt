@@ -1,7 +1,7 @@
 // Pin words: what the pins of an event ask for, and the pins that ask for a command.
 ghost use mathlib.Core.Path.{_≡_};
 ghost use Prim.Native.Nat.{_<_};
-ghost use Rattle.pins.specs.Pins.{codeOf, wideCodeOf, bankOf, addressOf, tenOf};
+ghost use Rattle.pins.specs.Pins.{codeOf, wideCodeOf, bankOf, addressOf, tenOf, lowOf};
 
 // The command pins as a number: CS#, RAS#, CAS#, WE#, CS# the lowest. The odd ones are DESELECT.
 pub const ACTIVE: u32 = 12;
@@ -31,7 +31,11 @@ pub fn code(w: u32) -> u32
     w / CODE % 16
 }
 
-// With CKE low on top of them, 16.
+// With CKE low 16 is added.
+pub const REFRESH_LOW: u32 = 24;
+
+pub const NOP_LOW: u32 = 30;
+
 pub fn wide_code(w: u32) -> u32
     ensures { λ r. ⌜ r ≡ wideCodeOf w ⌝ }
 {
@@ -56,4 +60,11 @@ pub fn ten(w: u32) -> bool
     ensures { λ r. ⌜ r ≡ tenOf w ⌝ }
 {
     w / 1024 % 2 == 1
+}
+
+// CKE is low.
+pub fn low(w: u32) -> bool
+    ensures { λ r. ⌜ r ≡ lowOf w ⌝ }
+{
+    w / 1_048_576 % 2 == 1
 }

@@ -10,7 +10,7 @@ use lib.ListN.{length, getD, List·getD-map}
 use lib.Dec.{eqb}
 use Rattle.reading.specs.Mode.{modeWord}
 use Rattle.reading.specs.Settings as reading
-use Rattle.reading.specs.Settings.{settingFits, badSetting}
+use Rattle.reading.specs.Settings.{settingFits, outOfRange, badSetting}
 use Rattle.words.specs.Found.{placeOf}
 use Rattle.words.specs.declared.Found.{Found}
 use Rattle.words.specs.declared.Found.the-variants.{Nothing, At}
@@ -80,23 +80,22 @@ module _ (i w : ℕ) where
 abbrev bad : List ℕ → ℕ → Bool
 bad ws i = not (settingFits i (getD ws i 0))
 
-pub record Sought (ws : List ℕ) (i : ℕ) : Type 0 where
-  pub within : i ≤ length ws
-  pub same : foundFrom (bad ws) (length ws) i ≡ badSetting ws
+pub record Sought (ws : List ℕ) (n i : ℕ) : Type 0 where
+  pub within : i ≤ n
+  pub same : foundFrom (bad ws) n i ≡ outOfRange ws n
 
-pub begins : (ws : List ℕ) → Sought ws 0
-unfolding badSetting
-begins ws = record { within = omega arith; same = search.begins (bad ws) (length ws) }
+pub begins : (ws : List ℕ) (n : ℕ) → Sought ws n 0
+begins ws n = record { within = omega arith; same = search.begins (bad ws) n }
 
-module _ {ws : List ℕ} {i : ℕ} (s : Sought ws i) where
-  pub goes-on : i < length ws → settingFits i (getD ws i 0) ≡ true → Sought ws (i + 1)
-  goes-on l e = record { within = omega arith; same = sym (search.goes-on (bad ws) (length ws) i l (ap not e)) ∙ s .same }
+module _ {ws : List ℕ} {n i : ℕ} (s : Sought ws n i) where
+  pub goes-on : i < n → settingFits i (getD ws i 0) ≡ true → Sought ws n (i + 1)
+  goes-on l e = record { within = omega arith; same = sym (search.goes-on (bad ws) n i l (ap not e)) ∙ s .same }
 
-  pub stops : i < length ws → settingFits i (getD ws i 0) ≡ false → some i ≡ badSetting ws
-  stops l e = sym (search.stops (bad ws) (length ws) i l (ap not e)) ∙ s .same
+  pub stops : i < n → settingFits i (getD ws i 0) ≡ false → some i ≡ outOfRange ws n
+  stops l e = sym (search.stops (bad ws) n i l (ap not e)) ∙ s .same
 
-  pub ends : length ws ≤ i → none ≡ badSetting ws
-  ends l = sym (search.ends (bad ws) (length ws) i l) ∙ s .same
+  pub ends : n ≤ i → none ≡ outOfRange ws n
+  ends l = sym (search.ends (bad ws) n i l) ∙ s .same
 
 -- ---- what a list of settings is answered
 
@@ -106,10 +105,10 @@ module _ (ws : List ℕ) where
   wrong-count h = rw (ne-eqb (length ws) 14 h)
 
   module _ (h : length ws ≡ 14) (r : Found) where
-    pub all-fit : r ≡ Nothing → placeOf r ≡ badSetting ws → checked ws ≡ answered tt
-    unfolding checked
-    all-fit e p = rw (eq-eqb (length ws) 14 h, sym p, e)
+    pub all-fit : r ≡ Nothing → placeOf r ≡ outOfRange ws 14 → checked ws ≡ answered tt
+    unfolding checked badSetting
+    all-fit e p = rw (h, sym p, e)
 
-    pub one-unfit : {i : ℕ} → r ≡ At i → placeOf r ≡ badSetting ws → checked ws ≡ refused 3 i
-    unfolding checked
-    one-unfit e p = rw (eq-eqb (length ws) 14 h, sym p, e)
+    pub one-unfit : {i : ℕ} → r ≡ At i → placeOf r ≡ outOfRange ws 14 → checked ws ≡ refused 3 i
+    unfolding checked badSetting
+    one-unfit e p = rw (h, sym p, e)

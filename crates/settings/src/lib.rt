@@ -7,7 +7,7 @@ ghost use Prim.Native.Nat.{_≤_, _<_};
 ghost use lib.ListN.{length};
 ghost use Rattle.words.specs.Found.{placeOf};
 ghost use Rattle.reading.specs.Mode.{modeWord};
-ghost use Rattle.reading.specs.Settings.{settingFits, badSetting};
+ghost use Rattle.reading.specs.Settings.{settingFits, outOfRange};
 ghost use Rattle.settings.specs.Meaning.{means, checked};
 
 // How many settings there are, and how many with those of sleep.
@@ -84,12 +84,12 @@ fn setting_fits(i: usize, w: u32) -> bool
     true
 }
 
-// The lowest setting that is out of its row's limits or no mode word.
-pub fn lowest_bad(words: &[u32]) -> Found
-    requires { ⌜ length (now words) ≤ 16 ⌝ }
-    ensures { λ r. ⌜ placeOf r ≡ badSetting (now (words .entry)) ⌝ }
+// The lowest of n settings that is out of its row's limits or no mode word.
+pub fn lowest_bad(words: &[u32], n: usize) -> Found
+    requires { ⌜ (n ≤ 16) × (n ≤ length (now words)) ⌝ }
+    ensures { λ r. ⌜ placeOf r ≡ outOfRange (now (words .entry)) n ⌝ }
 {
-    'settings: for i in 0..words.len() {
+    'settings: for i in 0..n {
         if setting_fits(i, words[i]) {
             continue 'settings;
         }
@@ -108,7 +108,7 @@ pub fn check(words: &[u32]) -> Checked
             place: 0,
         };
     }
-    let Found::At(place) = lowest_bad(words) else {
+    let Found::At(place) = lowest_bad(words, COUNT) else {
         return Checked::Fine;
     };
     Checked::Refused { number: 3, place }

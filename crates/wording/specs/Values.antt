@@ -4,9 +4,10 @@ use mathlib.Core.Bool.{cond}
 use mathlib.Core.List.{List}
 use lib.Dec.{ltb}
 use lib.ListN.{length, replicate}
-use Rattle.reading.specs.Settings.{settingsCount}
-use Rattle.reading.specs.Capture.{eventsStart, settingWords}
+use Rattle.reading.specs.Settings.{sleepingCount}
+use Rattle.reading.specs.Capture.{countIn, eventsStart, settingWords}
+use Rattle.settings.specs.Meaning.{padded}
 
 -- those of a capture; zeros where there is no room for them
 abbrev pub shown : List ℕ → List ℕ
-shown capture = cond (ltb (length capture) (eventsStart settingsCount)) (replicate settingsCount 0) (settingWords capture)
+shown capture = cond (ltb (length capture) (eventsStart (countIn capture))) (replicate sleepingCount 0) (padded (settingWords capture))

@@ -1,4 +1,5 @@
 // What a broken rule asks, in a sentence with the settings that it looks at.
+use crate::values::sleeps;
 use console::Out;
 use console::say;
 use console::say_number;
@@ -14,6 +15,8 @@ use settings::places::T_RP;
 use settings::places::T_RRD;
 use settings::places::T_WR;
 use settings::places::T_WTR;
+use settings::places::T_XP;
+use settings::places::T_XSR;
 
 fn ask(out: &mut Out, before: &[u8], setting: u32, after: &[u8]) {
     say_number(out, before, setting);
@@ -21,12 +24,21 @@ fn ask(out: &mut Out, before: &[u8], setting: u32, after: &[u8]) {
 }
 
 fn ask_after_refresh_and_mode_set(out: &mut Out, settings: &Settings) {
-    ask(
-        out,
-        b"a command at least tRFC (",
-        settings[T_RFC],
-        b") cycles after the last AUTO REFRESH",
-    );
+    if sleeps(settings) {
+        ask(
+            out,
+            b"a command, or CKE falling, at least tRFC (",
+            settings[T_RFC],
+            b") cycles after the last AUTO REFRESH with CKE high",
+        );
+    } else {
+        ask(
+            out,
+            b"a command at least tRFC (",
+            settings[T_RFC],
+            b") cycles after the last AUTO REFRESH",
+        );
+    }
     ask(
         out,
         b" and tMRD (",
@@ -36,11 +48,35 @@ fn ask_after_refresh_and_mode_set(out: &mut Out, settings: &Settings) {
 }
 
 fn ask_of_refresh(out: &mut Out, settings: &Settings) {
+    if sleeps(settings) {
+        ask(
+            out,
+            b"every event but in self refresh at most GAP (",
+            settings[GAP],
+            b") cycles after the last AUTO REFRESH with CKE high or the end of self refresh, or after cycle 0 if there was neither",
+        );
+        return;
+    }
     ask(
         out,
         b"every event at most GAP (",
         settings[GAP],
         b") cycles after the last AUTO REFRESH, or after cycle 0 if there was none",
+    );
+}
+
+fn ask_of_sleep(out: &mut Out, settings: &Settings) {
+    ask(
+        out,
+        b"CKE falls with NOP, DESELECT or AUTO REFRESH after the data of reads and writes, stays low and rises with NOP or DESELECT; the next fall or command waits tXP (",
+        settings[T_XP],
+        b") cycles from the end of power-down",
+    );
+    ask(
+        out,
+        b", tXSR (",
+        settings[T_XSR],
+        b") from that of self refresh",
     );
 }
 
@@ -116,7 +152,8 @@ fn ask_of_bursts(out: &mut Out, settings: &Settings, rule: u32) {
             out,
             b"READ does not cut a read with auto precharge, WRITE not a write with auto precharge, BURST TERMINATE neither such a read nor any write",
         ),
-        _ => ask_of_refresh(out, settings),
+        14 => ask_of_refresh(out, settings),
+        _ => ask_of_sleep(out, settings),
     }
 }
 

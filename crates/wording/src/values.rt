@@ -4,8 +4,11 @@ use console::say;
 use console::say_number;
 use console::say_word;
 use settings::COUNT;
+use settings::SLEEPING;
 use settings::Settings;
+use settings::places::T_XP;
 ghost use mathlib.Core.Path.{_≡_};
+ghost use Prim.Native.Nat.{_≤_};
 ghost use Rattle.reading.specs.Mode.{BL, interleaved as isInterleaved, CL};
 ghost use Rattle.wording.specs.Values.{shown};
 
@@ -16,7 +19,10 @@ pub fn settings_of(capture: &[u8]) -> Settings
     ensures { λ r. ⌜ r ≡ shown (now (capture .entry)) ⌝ }
 {
     if capture.len() < capture::EVENTS {
-        return [0; COUNT];
+        return [0; SLEEPING];
+    }
+    if capture.len() < capture::events_start(capture) as usize {
+        return [0; SLEEPING];
     }
     capture::setting_words(capture)
 }
@@ -36,7 +42,9 @@ fn say_name(out: &mut Out, i: u32) {
         10 => say(out, b"tWTR"),
         11 => say(out, b"tRFC"),
         12 => say(out, b"tMRD"),
-        _ => say(out, b"GAP"),
+        13 => say(out, b"GAP"),
+        14 => say(out, b"tXP"),
+        _ => say(out, b"tXSR"),
     }
 }
 
@@ -87,8 +95,20 @@ fn print_setting(out: &mut Out, i: u32, word: u32) {
     say(out, b"\n");
 }
 
+// No capture with sleep has a tXP of 0.
+pub fn sleeps(settings: &Settings) -> bool {
+    settings[T_XP] != 0
+}
+
+fn shown_count(settings: &Settings) -> usize
+    ensures { λ r. ⌜ r ≤ 16 ⌝ }
+{
+    if sleeps(settings) { SLEEPING } else { COUNT }
+}
+
 pub fn print_settings(out: &mut Out, settings: &Settings) {
-    for i in 0..COUNT {
+    let n = shown_count(settings);
+    for i in 0..n {
         print_setting(out, i as u32, settings[i]);
     }
 }
@@ -96,7 +116,7 @@ pub fn print_settings(out: &mut Out, settings: &Settings) {
 // The setting that was refused.
 pub fn print_refused(out: &mut Out, capture: &[u8], i: u32) {
     let settings = settings_of(capture);
-    if COUNT <= i as usize {
+    if SLEEPING <= i as usize {
         return;
     }
     say_setting(out, i, settings[i as usize]);

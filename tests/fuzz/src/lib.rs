@@ -5,7 +5,8 @@
 //!     bits 0-1   0 a capture, 1 a capture spelled in few bytes,
 //!                2 words of settings and requests, 3 those spelled in few bytes
 //!     bits 2-3   the length of the lent buffer, around what is needed
-//!     bits 4-7   how many of the words are settings; 0 for 14
+//!     bits 4-7   of words, how many of them are settings, 0 for 14;
+//!                of a spelled capture, 0 for 14 settings, else 16
 
 mod spelled;
 
@@ -15,6 +16,7 @@ use std::process::abort;
 use std::slice;
 
 use second::archive::Archive;
+use second::capture::{SETTINGS, SLEEP_SETTINGS};
 use second::{c, cells, judge, packed, schedule};
 
 const FENCE: usize = 8;
@@ -45,10 +47,16 @@ fn compare_input(archive: &mut Archive, input: &[u8]) {
     let room = usize::from(how >> 2 & 3);
     match how & 3 {
         0 => compare_captures(archive, rest, room),
-        1 => compare_captures(archive, &spelled::capture(rest), room),
+        1 => {
+            let settings = if how < 16 { SETTINGS } else { SLEEP_SETTINGS };
+            compare_captures(archive, &spelled::capture(rest, settings), room);
+        }
         2 => {
             let words: Vec<u32> = spelled::words(rest).collect();
-            let count = if how < 16 { 14 } else { usize::from(how >> 4) };
+            let count = match how >> 4 {
+                0 => SETTINGS,
+                count => usize::from(count),
+            };
             let (settings, requests) = words.split_at(count.min(words.len()));
             compare_schedules(archive, settings, requests, room);
         }

@@ -1,15 +1,17 @@
 //! Captures and request lists spelled in few bytes. Whatever the bytes are, the settings are
 //! in range and cycles rise, so that the fuzzer gets past the refusals.
 
-use second::capture::{bytes_of, Event, SETTINGS};
+use second::capture::{bytes_of, Event, SETTINGS, SLEEP_SETTINGS};
 
-/// Bytes that spell the settings: one each, and one more for GAP.
-const SPELLED_SETTINGS: usize = SETTINGS + 1;
-
-/// Settings, then four bytes an event: three of pins, and one of cycles since the event
-/// before.
-pub fn capture(bytes: &[u8]) -> Vec<u8> {
-    let (settings, rest) = settings(bytes);
+/// So many settings, then four bytes an event: three of pins, and one of cycles since the
+/// event before.
+pub fn capture(bytes: &[u8], count: usize) -> Vec<u8> {
+    let (settings, rest) = settings(bytes, count);
+    let pins = if count == SLEEP_SETTINGS {
+        0x1f_ffff
+    } else {
+        0xf_ffff
+    };
     let mut next = 0;
     let events: Vec<Event> = words(rest)
         .map(|word| {
@@ -17,7 +19,7 @@ pub fn capture(bytes: &[u8]) -> Vec<u8> {
             next = cycle + 1;
             Event {
                 cycle,
-                pins: word & 0xf_ffff,
+                pins: word & pins,
             }
         })
         .collect();
@@ -26,10 +28,10 @@ pub fn capture(bytes: &[u8]) -> Vec<u8> {
 
 /// Settings, then a word each request, of a cell that the part has.
 pub fn requests(bytes: &[u8]) -> (Vec<u32>, Vec<u32>) {
-    let (settings, rest) = settings(bytes);
+    let (settings, rest) = settings(bytes, SETTINGS);
     let cells = 4 << (settings[1] + settings[2]);
     let requests = words(rest).map(|word| (word & 1 << 31) | (word % cells));
-    (settings.to_vec(), requests.collect())
+    (settings, requests.collect())
 }
 
 pub fn words(bytes: &[u8]) -> impl Iterator<Item = u32> + '_ {
@@ -38,10 +40,11 @@ pub fn words(bytes: &[u8]) -> impl Iterator<Item = u32> + '_ {
         .map(|word| u32::from_le_bytes(word.try_into().expect("four bytes")))
 }
 
-fn settings(bytes: &[u8]) -> ([u32; SETTINGS], &[u8]) {
-    let (spelled, rest) = bytes.split_at(bytes.len().min(SPELLED_SETTINGS));
+/// A byte spells each setting, and one more GAP.
+fn settings(bytes: &[u8], count: usize) -> (Vec<u32>, &[u8]) {
+    let (spelled, rest) = bytes.split_at(bytes.len().min(count + 1));
     let byte = |place: usize| spelled.get(place).map_or(0, |&byte| u32::from(byte));
-    let mut settings = [0; SETTINGS];
+    let mut settings = vec![0; count];
     settings[0] = 1 + byte(0) % 2;
     settings[1] = 12 + byte(1) % 3;
     settings[2] = 8 + byte(2) % 4;
@@ -51,5 +54,8 @@ fn settings(bytes: &[u8]) -> ([u32; SETTINGS], &[u8]) {
         *time = 1 + byte(place);
     }
     settings[13] = 1 + byte(13) + 256 * byte(14);
+    for (place, time) in (15..).zip(&mut settings[14..]) {
+        *time = 1 + byte(place);
+    }
     (settings, rest)
 }

@@ -1,13 +1,13 @@
 //! Captures as bytes: the header, the settings, the events, and refusals 1 to 4.
 
-use crate::command::Command;
+use crate::command::Asked;
 
+/// The settings of a part that never sleeps, and of one that does.
 pub const SETTINGS: usize = 14;
+pub const SLEEP_SETTINGS: usize = 16;
 pub const HEADER_BYTES: usize = 24;
-pub const EVENTS_AT: usize = 80;
 pub const EVENT_BYTES: usize = 8;
 pub const MOST_EVENTS: u32 = 8_000;
-pub const MOST_BYTES: usize = 64_080;
 pub const LAST_CYCLE: u32 = 2_000_000_000;
 
 /// The setting that holds the mode word at cycle 0.
@@ -16,7 +16,7 @@ pub const MODE_SETTING: usize = 3;
 pub const GAP_SETTING: usize = 13;
 
 /// Least and most of each setting, in order.
-pub const LIMITS: [(u32, u32); SETTINGS] = [
+pub const LIMITS: [(u32, u32); SLEEP_SETTINGS] = [
     (1, 2),
     (12, 14),
     (8, 11),
@@ -31,7 +31,29 @@ pub const LIMITS: [(u32, u32); SETTINGS] = [
     (1, 10_000),
     (1, 10_000),
     (1, 1_000_000),
+    (1, 10_000),
+    (1, 10_000),
 ];
+
+/// Where the events start behind so many settings: byte 80 or 88.
+pub fn events_at(settings: usize) -> usize {
+    HEADER_BYTES + 4 * settings
+}
+
+/// The length of a capture with so many settings and events.
+pub fn total_bytes(settings: usize, events: u32) -> u64 {
+    events_at(settings) as u64 + EVENT_BYTES as u64 * u64::from(events)
+}
+
+/// The settings that a capture is laid out for: 16 where its count word is 16, else 14.
+pub fn settings_of_layout(bytes: &[u8]) -> usize {
+    let counted = (bytes.len() >= HEADER_BYTES).then(|| word(bytes, 4));
+    if counted == Some(SLEEP_SETTINGS as u32) {
+        SLEEP_SETTINGS
+    } else {
+        SETTINGS
+    }
+}
 
 /// Why a call was turned down: a number of document 01's table and its place.
 #[derive(Clone, Copy, Debug, PartialEq, Eq)]
@@ -98,12 +120,29 @@ pub struct Settings {
     pub t_rfc: u64,
     pub t_mrd: u64,
     pub gap: u64,
+    /// None with 14 settings.
+    pub wake: Option<Wake>,
+}
+
+/// The waits after sleep.
+#[derive(Clone, Copy, Debug, PartialEq, Eq)]
+pub struct Wake {
+    pub t_xp: u64,
+    pub t_xsr: u64,
 }
 
 impl Settings {
+    /// The settings of a request list, which never sleeps.
+    pub fn read_awake(list: &[u32]) -> Result<Settings, Refusal> {
+        if list.len() != SETTINGS {
+            return refused(2, 0);
+        }
+        Settings::read(list)
+    }
+
     /// Refusal 2 for a list of another length, refusal 3 for its lowest bad setting.
     pub fn read(list: &[u32]) -> Result<Settings, Refusal> {
-        if list.len() != SETTINGS {
+        if list.len() != SETTINGS && list.len() != SLEEP_SETTINGS {
             return refused(2, 0);
         }
         for (place, &value) in list.iter().enumerate() {
@@ -127,6 +166,10 @@ impl Settings {
             t_rfc: time(11),
             t_mrd: time(12),
             gap: time(GAP_SETTING),
+            wake: (list.len() == SLEEP_SETTINGS).then(|| Wake {
+                t_xp: time(14),
+                t_xsr: time(15),
+            }),
         })
     }
 
@@ -150,8 +193,8 @@ pub struct Event {
 }
 
 impl Event {
-    pub fn command(&self) -> Command {
-        Command::of_pins(self.pins)
+    pub fn asked(&self) -> Asked {
+        Asked::of_pins(self.pins)
     }
 }
 
@@ -166,15 +209,19 @@ impl Capture {
     pub fn read(bytes: &[u8]) -> Result<Capture, Refusal> {
         check_length(bytes)?;
         check_header(bytes)?;
-        let settings = Settings::read(&words(&bytes[HEADER_BYTES..EVENTS_AT]))?;
-        let events = read_events(&bytes[EVENTS_AT..])?;
+        let events_at = events_at(settings_of_layout(bytes));
+        let settings = Settings::read(&words(&bytes[HEADER_BYTES..events_at]))?;
+        let events = read_events(&bytes[events_at..], pin_bits(&settings))?;
         Ok(Capture { settings, events })
     }
 }
 
 /// Refusal 1.
 fn check_length(bytes: &[u8]) -> Result<(), Refusal> {
-    if bytes.len() < EVENTS_AT || bytes.len() > MOST_BYTES {
+    let settings = settings_of_layout(bytes);
+    let least = total_bytes(settings, 0);
+    let most = total_bytes(settings, MOST_EVENTS);
+    if (bytes.len() as u64) < least || bytes.len() as u64 > most {
         return refused(1, 0);
     }
     if bytes.len() as u64 != u64::from(word(bytes, 0)) {
@@ -189,13 +236,14 @@ fn check_header(bytes: &[u8]) -> Result<(), Refusal> {
     let [total, settings_count, settings_at, events_count, events_at, last] = header[..] else {
         unreachable!("the header is six words");
     };
-    let as_stated = settings_count == SETTINGS as u32
+    let settings = settings_of_layout(bytes);
+    let as_stated = settings_count == settings as u32
         && settings_at == HEADER_BYTES as u32
         && events_count <= MOST_EVENTS
-        && events_at == EVENTS_AT as u32
+        && events_at as usize == self::events_at(settings)
         && last == 0;
     // In 64 bits, so that no event count wraps round to a fitting total.
-    let total_fits = u64::from(total) == 80 + 8 * u64::from(events_count);
+    let total_fits = u64::from(total) == total_bytes(settings, events_count);
     if as_stated && total_fits {
         Ok(())
     } else {
@@ -203,15 +251,24 @@ fn check_header(bytes: &[u8]) -> Result<(), Refusal> {
     }
 }
 
+/// The lowest pin bits, those that an event may use: CKE is one of them with 16 settings.
+fn pin_bits(settings: &Settings) -> u32 {
+    if settings.wake.is_some() {
+        21
+    } else {
+        20
+    }
+}
+
 /// Refusal 4, or the events.
-fn read_events(bytes: &[u8]) -> Result<Vec<Event>, Refusal> {
+fn read_events(bytes: &[u8], pin_bits: u32) -> Result<Vec<Event>, Refusal> {
     let mut events: Vec<Event> = Vec::new();
     for (place, event) in bytes.chunks(EVENT_BYTES).enumerate() {
         let event = Event {
             cycle: word(event, 0),
             pins: word(event, 4),
         };
-        let spare_pins_clear = event.pins >> 20 == 0;
+        let spare_pins_clear = event.pins >> pin_bits == 0;
         let cycle_fits = event.cycle <= LAST_CYCLE;
         let rises = events
             .last()
@@ -233,15 +290,16 @@ fn words(bytes: &[u8]) -> Vec<u32> {
     (0..bytes.len() / 4).map(|i| word(bytes, 4 * i)).collect()
 }
 
-/// The bytes of a capture. Nothing is checked, so bad captures can be written too.
-pub fn bytes_of(settings: &[u32; SETTINGS], events: &[Event]) -> Vec<u8> {
-    let total = EVENTS_AT + EVENT_BYTES * events.len();
+/// The bytes of a capture, laid out for as many settings as there are. Nothing is checked,
+/// so bad captures can be written too.
+pub fn bytes_of(settings: &[u32], events: &[Event]) -> Vec<u8> {
+    let count = events.len() as u32;
     let header = [
-        total as u32,
-        SETTINGS as u32,
+        total_bytes(settings.len(), count) as u32,
+        settings.len() as u32,
         HEADER_BYTES as u32,
-        events.len() as u32,
-        EVENTS_AT as u32,
+        count,
+        events_at(settings.len()) as u32,
         0,
     ];
     let events = events.iter().flat_map(|event| [event.cycle, event.pins]);

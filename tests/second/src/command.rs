@@ -7,6 +7,8 @@ const RAS: u32 = 1 << 17;
 const CAS: u32 = 1 << 18;
 const WE: u32 = 1 << 19;
 const A10: u32 = 1 << 10;
+/// CKE low.
+pub const LOW: u32 = 1 << 20;
 const ADDRESS_PINS: u32 = 0x3fff;
 
 /// The mode register and the extended one, by BA1,BA0.
@@ -94,6 +96,19 @@ impl Command {
         }
     }
 
+    /// NOP and DESELECT.
+    pub fn is_quiet(self) -> bool {
+        matches!(self, Command::Nop | Command::Deselect)
+    }
+
+    /// The command with CKE low.
+    pub fn low(self) -> Asked {
+        Asked {
+            command: self,
+            low: true,
+        }
+    }
+
     /// The pin word that asks for this command, with every pin it does not name at 0.
     pub fn pins(self) -> u32 {
         let bank_pins = |bank: usize| (bank as u32) << 14;
@@ -119,6 +134,36 @@ impl Command {
             Command::Precharge { banks: Named::All } => CAS | A10,
             Command::AutoRefresh => WE,
             Command::ModeRegisterSet { register, address } => register << 14 | address,
+        }
+    }
+}
+
+/// What an event's pins ask for: a command, with CKE high or low.
+#[derive(Clone, Copy, Debug, PartialEq, Eq)]
+pub struct Asked {
+    pub command: Command,
+    pub low: bool,
+}
+
+impl Asked {
+    pub fn of_pins(pins: u32) -> Asked {
+        Asked {
+            command: Command::of_pins(pins),
+            low: pins & LOW != 0,
+        }
+    }
+
+    pub fn pins(self) -> u32 {
+        self.command.pins() | if self.low { LOW } else { 0 }
+    }
+}
+
+impl From<Command> for Asked {
+    /// With CKE high.
+    fn from(command: Command) -> Asked {
+        Asked {
+            command,
+            low: false,
         }
     }
 }

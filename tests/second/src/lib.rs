@@ -1,6 +1,6 @@
-//! A second implementation of document 01, written from its words alone and slow on
-//! purpose, to hold the verified one against. The C next door answers the same questions
-//! at speed.
+//! A second implementation of document 01 and of the customer requests that have landed,
+//! written from their words alone and slow on purpose, to hold the verified one against.
+//! The C next door answers the same questions at speed.
 
 pub mod archive;
 pub mod c;
@@ -12,6 +12,7 @@ pub mod packed;
 pub mod part;
 pub mod rules;
 pub mod schedule;
+pub mod sleep;
 pub mod verdict;
 
 pub use capture::Refusal;

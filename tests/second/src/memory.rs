@@ -99,7 +99,7 @@ pub fn plain(
     contents: &dyn Fn(u32) -> u32,
     supply: &mut dyn FnMut() -> (u32, u32),
 ) -> Result<Outcome, Refusal> {
-    let settings = Settings::read(settings)?;
+    let settings = Settings::read_awake(settings)?;
     let requests = read_requests(requests, &settings)?;
     let mut memory = Memory::new(&settings, contents);
     for request in &requests {

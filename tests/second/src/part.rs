@@ -1,7 +1,8 @@
 //! The part as document 01 tells it: banks, the mode word, and a record of every burst.
 
 use crate::capture::{Mode, Settings};
-use crate::command::{column_of, Command, Named, BANKS, MODE_REGISTER};
+use crate::command::{column_of, Asked, Command, Named, BANKS, MODE_REGISTER};
+use crate::sleep::{Sleep, State};
 
 #[derive(Clone, Copy, Debug, PartialEq, Eq)]
 pub enum Direction {
@@ -104,8 +105,12 @@ pub struct Part {
     pub settings: Settings,
     pub mode: Mode,
     pub banks: [Bank; BANKS],
+    /// The last AUTO REFRESH, for rule 4.
     pub refresh: Option<u64>,
+    /// Where rule 14 counts GAP from.
+    pub gap_from: u64,
     pub mode_set: Option<u64>,
+    pub sleep: State,
     /// In the order they were given.
     pub bursts: Vec<Burst>,
     look_back: LookBack,
@@ -118,7 +123,9 @@ impl Part {
             mode: settings.mode,
             banks: [Bank::default(); BANKS],
             refresh: None,
+            gap_from: 0,
             mode_set: None,
+            sleep: State::Awake { left: None },
             bursts: Vec::new(),
             look_back,
         }
@@ -160,7 +167,18 @@ impl Part {
     }
 
     /// What an event does, once the rules have passed it.
-    pub fn apply(&mut self, cycle: u64, command: Command) {
+    pub fn apply(&mut self, cycle: u64, asked: Asked) {
+        if self.sleep == State::Asleep(Sleep::SelfRefresh) && !asked.low {
+            self.gap_from = cycle;
+        }
+        // What puts the part to sleep or wakes it, or comes in between, does nothing else.
+        if self.sleep.is_awake() && !asked.low {
+            self.apply_awake(cycle, asked.command);
+        }
+        self.sleep = self.sleep.after(cycle, asked);
+    }
+
+    fn apply_awake(&mut self, cycle: u64, command: Command) {
         self.cut_bursts(cycle, command);
         match command {
             Command::Deselect | Command::Nop | Command::BurstTerminate => {}
@@ -183,7 +201,10 @@ impl Part {
                 self.start_burst(cycle, Direction::Write, bank, address, auto_precharge);
             }
             Command::Precharge { banks } => self.precharge(cycle, banks),
-            Command::AutoRefresh => self.refresh = Some(cycle),
+            Command::AutoRefresh => {
+                self.refresh = Some(cycle);
+                self.gap_from = cycle;
+            }
             Command::ModeRegisterSet { register, address } => {
                 self.mode_set = Some(cycle);
                 if register == MODE_REGISTER {

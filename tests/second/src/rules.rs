@@ -1,29 +1,31 @@
-//! Rules 1 to 14, one function each. Every one says whether an event at a cycle keeps it,
+//! Rules 1 to 15, one function each. Every one says whether an event at a cycle keeps it,
 //! given the part as the events before have left it.
 
 use crate::capture::Mode;
-use crate::command::{Command, BANKS, EXTENDED_REGISTER, MODE_REGISTER};
+use crate::command::{Asked, Command, BANKS, EXTENDED_REGISTER, MODE_REGISTER};
 use crate::part::{Bank, Burst, Direction, Part};
+use crate::sleep::{self, Sleep, State};
 
-type Rule = fn(&Part, u64, Command) -> bool;
+type Rule = fn(&Part, u64, Asked) -> bool;
 
 /// The rules by number: rule 1 stands first.
-pub const RULES: [Rule; 14] = [
+pub const RULES: [Rule; 15] = [
     rule_1, rule_2, rule_3, rule_4, rule_5, rule_6, rule_7, rule_8, rule_9, rule_10, rule_11,
-    rule_12, rule_13, rule_14,
+    rule_12, rule_13, rule_14, rule_15,
 ];
 
 /// The lowest rule that an event breaks.
-pub fn lowest_broken(part: &Part, cycle: u64, command: Command) -> Option<u32> {
-    let broken = RULES
-        .iter()
-        .position(|keeps| !keeps(part, cycle, command))?;
+pub fn lowest_broken(part: &Part, cycle: u64, asked: Asked) -> Option<u32> {
+    let broken = RULES.iter().position(|keeps| !keeps(part, cycle, asked))?;
     Some(broken as u32 + 1)
 }
 
-/// Whether all rules but the refresh gap pass an event, which is what schedules ask.
-pub fn pass_but_refresh(part: &Part, cycle: u64, command: Command) -> bool {
-    RULES[..13].iter().all(|keeps| keeps(part, cycle, command))
+/// Whether all rules but the refresh gap pass an event, which is what schedules ask: they
+/// never sleep, so rule 15 passes all of theirs.
+pub fn pass_but_refresh(part: &Part, cycle: u64, asked: Asked) -> bool {
+    (1..)
+        .zip(RULES)
+        .all(|(rule, keeps)| rule == 14 || keeps(part, cycle, asked))
 }
 
 /// At least `time` cycles after something, or it never happened.
@@ -39,16 +41,16 @@ fn asks_all_banks(command: Command) -> bool {
 }
 
 /// Row pins the part lacks stay 0.
-fn rule_1(part: &Part, _: u64, command: Command) -> bool {
-    match command {
+fn rule_1(part: &Part, _: u64, asked: Asked) -> bool {
+    match asked.command {
         Command::Active { row, .. } => row >> part.settings.row_bits == 0,
         _ => true,
     }
 }
 
 /// Only valid mode words, or the extended register.
-fn rule_2(_: &Part, _: u64, command: Command) -> bool {
-    match command {
+fn rule_2(_: &Part, _: u64, asked: Asked) -> bool {
+    match asked.command {
         Command::ModeRegisterSet {
             register: MODE_REGISTER,
             address,
@@ -59,47 +61,46 @@ fn rule_2(_: &Part, _: u64, command: Command) -> bool {
 }
 
 /// Banks idle or open as the command wants.
-fn rule_3(part: &Part, _: u64, command: Command) -> bool {
-    match command {
+fn rule_3(part: &Part, _: u64, asked: Asked) -> bool {
+    match asked.command {
         Command::Active { bank, .. } => !part.banks[bank].is_open(),
         Command::Read { bank, .. } | Command::Write { bank, .. } => part.banks[bank].is_open(),
-        _ if asks_all_banks(command) => part.banks.iter().all(|bank| !bank.is_open()),
+        _ if asks_all_banks(asked.command) => part.banks.iter().all(|bank| !bank.is_open()),
         _ => true,
     }
 }
 
-/// tRFC after a refresh and tMRD after a mode register set, whatever the register.
-fn rule_4(part: &Part, cycle: u64, command: Command) -> bool {
-    match command {
-        Command::Deselect | Command::Nop => true,
-        _ => {
-            waited(cycle, part.settings.t_rfc, part.refresh)
-                && waited(cycle, part.settings.t_mrd, part.mode_set)
-        }
+/// tRFC after a refresh and tMRD after a mode register set, whatever the register. NOP and
+/// DESELECT need not wait, unless they put the part to sleep.
+fn rule_4(part: &Part, cycle: u64, asked: Asked) -> bool {
+    if asked.command.is_quiet() && !part.sleep.falls_asleep(asked) {
+        return true;
     }
+    waited(cycle, part.settings.t_rfc, part.refresh)
+        && waited(cycle, part.settings.t_mrd, part.mode_set)
 }
 
 /// tRP after the precharge.
-fn rule_5(part: &Part, cycle: u64, command: Command) -> bool {
+fn rule_5(part: &Part, cycle: u64, asked: Asked) -> bool {
     let precharged = |bank: &Bank| waited(cycle, part.settings.t_rp, bank.precharge);
-    match command {
+    match asked.command {
         Command::Active { bank, .. } => precharged(&part.banks[bank]),
-        _ if asks_all_banks(command) => part.banks.iter().all(precharged),
+        _ if asks_all_banks(asked.command) => part.banks.iter().all(precharged),
         _ => true,
     }
 }
 
 /// tRC from ACTIVE to ACTIVE of one bank.
-fn rule_6(part: &Part, cycle: u64, command: Command) -> bool {
-    match command {
+fn rule_6(part: &Part, cycle: u64, asked: Asked) -> bool {
+    match asked.command {
         Command::Active { bank, .. } => waited(cycle, part.settings.t_rc, part.banks[bank].active),
         _ => true,
     }
 }
 
 /// tRRD from ACTIVE to ACTIVE of two banks.
-fn rule_7(part: &Part, cycle: u64, command: Command) -> bool {
-    match command {
+fn rule_7(part: &Part, cycle: u64, asked: Asked) -> bool {
+    match asked.command {
         Command::Active { bank, .. } => (0..BANKS)
             .filter(|&other| other != bank)
             .all(|other| waited(cycle, part.settings.t_rrd, part.banks[other].active)),
@@ -108,8 +109,8 @@ fn rule_7(part: &Part, cycle: u64, command: Command) -> bool {
 }
 
 /// tRCD from ACTIVE to READ or WRITE.
-fn rule_8(part: &Part, cycle: u64, command: Command) -> bool {
-    match command {
+fn rule_8(part: &Part, cycle: u64, asked: Asked) -> bool {
+    match asked.command {
         Command::Read { bank, .. } | Command::Write { bank, .. } => {
             waited(cycle, part.settings.t_rcd, part.banks[bank].active)
         }
@@ -128,23 +129,23 @@ fn precharged_banks_pass(part: &Part, command: Command, test: impl Fn(usize) -> 
 }
 
 /// tRAS from ACTIVE to PRECHARGE.
-fn rule_9(part: &Part, cycle: u64, command: Command) -> bool {
-    precharged_banks_pass(part, command, |bank| {
+fn rule_9(part: &Part, cycle: u64, asked: Asked) -> bool {
+    precharged_banks_pass(part, asked.command, |bank| {
         waited(cycle, part.settings.t_ras, part.banks[bank].active)
     })
 }
 
 /// tWR from the data end of the row's last write to PRECHARGE.
-fn rule_10(part: &Part, cycle: u64, command: Command) -> bool {
-    precharged_banks_pass(part, command, |bank| {
+fn rule_10(part: &Part, cycle: u64, asked: Asked) -> bool {
+    precharged_banks_pass(part, asked.command, |bank| {
         let data_end = part.last_write_of_row(bank).map(Burst::data_end);
         waited(cycle, part.settings.t_wr, data_end)
     })
 }
 
 /// tWTR from the data end of the last write, whatever its bank, to READ.
-fn rule_11(part: &Part, cycle: u64, command: Command) -> bool {
-    match command {
+fn rule_11(part: &Part, cycle: u64, asked: Asked) -> bool {
+    match asked.command {
         Command::Read { .. } => {
             let data_end = part.last_burst(Direction::Write).map(Burst::data_end);
             waited(cycle, part.settings.t_wtr, data_end)
@@ -154,8 +155,8 @@ fn rule_11(part: &Part, cycle: u64, command: Command) -> bool {
 }
 
 /// The last read has left the bus.
-fn rule_12(part: &Part, cycle: u64, command: Command) -> bool {
-    match command {
+fn rule_12(part: &Part, cycle: u64, asked: Asked) -> bool {
+    match asked.command {
         Command::Write { .. } | Command::AutoRefresh | Command::ModeRegisterSet { .. } => {
             let free = part.last_burst(Direction::Read).map(Burst::bus_free);
             waited(cycle, 0, free)
@@ -165,10 +166,10 @@ fn rule_12(part: &Part, cycle: u64, command: Command) -> bool {
 }
 
 /// Auto precharge bursts and writes run undisturbed.
-fn rule_13(part: &Part, cycle: u64, command: Command) -> bool {
+fn rule_13(part: &Part, cycle: u64, asked: Asked) -> bool {
     part.bursts_at(cycle)
         .iter()
-        .all(|burst| !disturbs(command, cycle, burst))
+        .all(|burst| !disturbs(asked.command, cycle, burst))
 }
 
 fn disturbs(command: Command, cycle: u64, burst: &Burst) -> bool {
@@ -186,7 +187,13 @@ fn disturbs(command: Command, cycle: u64, burst: &Burst) -> bool {
     }
 }
 
-/// No event comes more than GAP after the last refresh, or cycle 0.
-fn rule_14(part: &Part, cycle: u64, _: Command) -> bool {
-    cycle <= part.refresh.unwrap_or(0) + part.settings.gap
+/// No event comes more than GAP after the last refresh, or cycle 0; in self refresh, and of
+/// the event that ends it, this is not asked.
+fn rule_14(part: &Part, cycle: u64, _: Asked) -> bool {
+    part.sleep == State::Asleep(Sleep::SelfRefresh) || cycle <= part.gap_from + part.settings.gap
+}
+
+/// CKE falls, stays low and rises as it may, and what follows sleep waits.
+fn rule_15(part: &Part, cycle: u64, asked: Asked) -> bool {
+    sleep::wrong(part, cycle, asked).is_none()
 }

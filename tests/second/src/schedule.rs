@@ -1,7 +1,7 @@
 //! The schedule of a request list, each command found by trying cycle after cycle.
 
 use crate::capture::{bytes_of, refused, Event, Refusal, Settings};
-use crate::command::{address_of, Command};
+use crate::command::{address_of, Asked, Command};
 use crate::part::{LookBack, Part};
 use crate::rules::pass_but_refresh;
 
@@ -99,7 +99,7 @@ fn schedule_looking_back(
     out: &mut [u8],
     look_back: LookBack,
 ) -> Result<u32, Refusal> {
-    let settings = Settings::read(setting_words)?;
+    let settings = Settings::read_awake(setting_words)?;
     let requests = read_requests(request_words, &settings)?;
     let mut plan = Plan::new(settings, look_back);
     for (place, request) in requests.iter().enumerate() {
@@ -108,10 +108,7 @@ fn schedule_looking_back(
             None => return refused(6, place as u32),
         }
     }
-    let list = setting_words
-        .try_into()
-        .expect("the settings were read as 14 words");
-    let capture = bytes_of(list, &plan.events);
+    let capture = bytes_of(setting_words, &plan.events);
     if out.len() < capture.len() {
         return refused(7, capture.len() as u32);
     }
@@ -156,7 +153,7 @@ impl Plan {
 
     fn place(&mut self, command: Command) {
         let cycle = self.earliest(command);
-        self.part.apply(cycle, command);
+        self.part.apply(cycle, command.into());
         let cycle = u32::try_from(cycle).expect("schedules end long before the last cycle");
         self.events.push(Event {
             cycle,
@@ -169,7 +166,7 @@ impl Plan {
             .events
             .last()
             .map_or(0, |event| u64::from(event.cycle) + 1);
-        earliest(&self.part, from, command)
+        earliest(&self.part, from, command.into())
     }
 
     fn refresh_comes_in_time(&self) -> bool {
@@ -178,10 +175,10 @@ impl Plan {
     }
 }
 
-/// The earliest cycle from `from` on at which rules 1 to 13 pass a command. There must be
-/// one: no amount of waiting keeps rules 1 to 3.
-pub fn earliest(part: &Part, from: u64, command: Command) -> u64 {
+/// The earliest cycle from `from` on at which all rules but the refresh gap pass an event.
+/// There must be one: no amount of waiting keeps rules 1 to 3, or wakes a part.
+pub fn earliest(part: &Part, from: u64, asked: Asked) -> u64 {
     (from..)
-        .find(|&cycle| pass_but_refresh(part, cycle, command))
+        .find(|&cycle| pass_but_refresh(part, cycle, asked))
         .expect("every wait ends")
 }

@@ -65,14 +65,14 @@ fn walk(settings: Settings, events: &[Event], look_back: LookBack) -> Result<Par
     let mut part = Part::new(settings, look_back);
     for (number, event) in events.iter().enumerate() {
         let cycle = u64::from(event.cycle);
-        let command = event.command();
-        if let Some(rule) = lowest_broken(&part, cycle, command) {
+        let asked = event.asked();
+        if let Some(rule) = lowest_broken(&part, cycle, asked) {
             return Err(Broken {
                 rule,
                 event: number,
             });
         }
-        part.apply(cycle, command);
+        part.apply(cycle, asked);
     }
     Ok(part)
 }

@@ -11,7 +11,7 @@ const INTERLEAVED: u32 = 0x3a;
 
 #[test]
 fn case_a_no_events() {
-    clean(&CASE, &[]);
+    clean::<Command>(&CASE, &[]);
 }
 
 #[test]

@@ -335,7 +335,8 @@ fn header_refusals() {
     refuses(1, 0, &good[..79]);
     refuses(1, 0, &changed(0, 88));
     refuses(1, 0, &[&good[..], &[0]].concat());
-    refuses(2, 0, &changed(1, 16));
+    refuses(1, 0, &changed(1, 16)); // 16 settings end at byte 88
+    refuses(2, 0, &changed(1, 15));
     refuses(2, 0, &changed(2, 28));
     refuses(2, 0, &changed(3, 1));
     refuses(2, 0, &changed(3, 1 << 29)); // 8 x 2^29 would wrap to 0 in 32 bits
@@ -401,6 +402,10 @@ fn schedule_refusals_in_their_order() {
     };
     let part_end = 4 << 23;
     assert_eq!(refusal(&CASE[..13], &[part_end], 0), (2, 0));
+    assert_eq!(
+        refusal(&[&CASE[..], &[2, 20]].concat(), &[part_end], 0),
+        (2, 0)
+    );
     assert_eq!(refusal(&with(CASE, &[(5, 0)]), &[part_end], 0), (3, 5));
     assert_eq!(refusal(&CASE, &vec![part_end; 2_001], 0), (5, 2_000));
     assert_eq!(refusal(&CASE, &[0, part_end, 1 << 27], 0), (5, 1));

@@ -5,13 +5,13 @@ use Rattle.capture.proofs.all_fit.Statement.{statement}
 use Rattle.capture.proofs.all_fit.Tie as tie
 
 abbrev Inv-loop : tie.InvT-loop
-Inv-loop bytes n fine₀ last₀ i₀ fine last i = Looked bytes n fine last i
+Inv-loop limit bytes n fine₀ last₀ i₀ fine last i = Looked limit bytes n fine last i
 
 abbrev μ-loop : tie.MeasureT-loop
-μ-loop bytes n fine₀ last₀ i₀ fine last i = n - i
+μ-loop limit bytes n fine₀ last₀ i₀ fine last i = n - i
 
 returns : tie.Need-returns Inv-loop μ-loop
-returns c = λ e. no-events (c .before .before .args .bytes .now) (c .before .before .args .n) (c .if1 .taken)
+returns c = λ e. no-events (c .before .before .args .limit) (c .before .before .args .bytes .now) (c .before .before .args .n) (c .if1 .taken)
 
 pins-at-requires : tie.Need-pins-at-requires Inv-loop μ-loop
 pins-at-requires c κs = omega arith
@@ -22,7 +22,7 @@ cycle-at-requires c κs = omega arith
 loop-holds : tie.Need-loop-holds Inv-loop μ-loop
 loop-holds c =
     let start = c .before .before .before .before in
-    begins (start .args .bytes .now) (start .args .n) (omega arith) (c .before .pins-at .ensures) (c .cycle-at .ensures)
+    begins (start .args .limit) (start .args .bytes .now) (start .args .n) (omega arith) (c .before .pins-at .ensures) (c .cycle-at .ensures)
 
 cycle-at-requires-2 : tie.Need-cycle-at-requires-2 Inv-loop μ-loop
 cycle-at-requires-2 c κs = omega arith
@@ -48,7 +48,7 @@ loop-again c =
     let at-cycle-at2 = at-pins-at2 .before in
     let at-loop = at-cycle-at2 .before .before in
     let start = at-loop .before .before .before .before .before in
-    goes-on (start .args .bytes .now) (start .args .n) (at-loop .loop .inv) (omega arith) (at-cycle-at2 .cycle-at2 .ensures)
+    goes-on (start .args .limit) (start .args .bytes .now) (start .args .n) (at-loop .loop .inv) (omega arith) (at-cycle-at2 .cycle-at2 .ensures)
     (at-pins-at2 .pins-at2 .ensures) (c .before .both .ensures) (c .both2 .ensures)
 
 both-requires-3 : tie.Need-both-requires-3 Inv-loop μ-loop
@@ -58,7 +58,7 @@ returns-2 : tie.Need-returns-2 Inv-loop μ-loop
 returns-2 c =
     let at-loop = c .before .before in
     let start = at-loop .before .before .before .before .before in
-    ends (start .args .bytes .now) (start .args .n) (at-loop .loop .inv) (omega arith) (c .both3 .ensures)
+    ends (start .args .limit) (start .args .bytes .now) (start .args .n) (at-loop .loop .inv) (omega arith) (c .both3 .ensures)
 
 pub all-fit-spec : {M : Type 1} → statement M
 all-fit-spec =

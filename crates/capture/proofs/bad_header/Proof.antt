@@ -4,15 +4,15 @@ use Rattle.reading.specs.Capture.{headerFits}
 use Rattle.capture.proofs.bad_header.Statement.{statement}
 use Rattle.capture.proofs.bad_header.Tie as tie
 
+settings-count-requires : tie.Need-settings-count-requires
+settings-count-requires c κs = search needs
+
 word-at-requires : tie.Need-word-at-requires
 word-at-requires c κs = search needs
 
-cast-if1 : tie.Need-cast-if1
-cast-if1 c = search needs
-
 returns : tie.Need-returns
 unfolding headerFits
-returns c = rw (← c .before .word-at .ensures, ne-eqb _ _ (c .if1 .taken))
+returns c = rw (← c .before .before .settings-count .ensures .0, ← c .before .word-at .ensures, ne-eqb _ _ (c .if1 .taken))
 
 word-at-requires-2 : tie.Need-word-at-requires-2
 word-at-requires-2 c κs = search needs
@@ -23,7 +23,7 @@ cast-if2 c = search needs
 returns-2 : tie.Need-returns-2
 unfolding headerFits
 returns-2 c =
-    rw (← c .before .before .before .word-at .ensures, eq-eqb _ _ (c .before .before .if1 .left), ← c .before .word-at2 .ensures, ne-eqb _ _ (c .if2 .taken))
+    rw (← c .before .before .before .before .settings-count .ensures .0, ← c .before .before .before .word-at .ensures, eq-eqb _ _ (c .before .before .if1 .left), ← c .before .word-at2 .ensures, ne-eqb _ _ (c .if2 .taken))
 
 event-count-requires : tie.Need-event-count-requires
 event-count-requires c κs = search needs
@@ -36,6 +36,7 @@ returns-3 c =
     let at-if1 = at-word-at2 .before in
     let at-word-at = at-if1 .before in
     rw (
+      ← at-word-at .before .settings-count .ensures .0,
       ← at-word-at .word-at .ensures,
       eq-eqb _ _ (at-if1 .if1 .left),
       ← at-word-at2 .word-at2 .ensures,
@@ -44,11 +45,17 @@ returns-3 c =
       lt-leb _ _ (c .if3 .taken),
     )
 
+cast-start : tie.Need-cast-start
+cast-start c = search needs
+
+mul-start : tie.Need-mul-start
+mul-start c = search needs
+
+add-start : tie.Need-add-start
+add-start c = search needs
+
 word-at-requires-3 : tie.Need-word-at-requires-3
 word-at-requires-3 c κs = search needs
-
-cast-if4 : tie.Need-cast-if4
-cast-if4 c = search needs
 
 returns-4 : tie.Need-returns-4
 unfolding headerFits
@@ -60,6 +67,7 @@ returns-4 c =
     let at-if1 = at-word-at2 .before in
     let at-word-at = at-if1 .before in
     rw (
+      ← at-word-at .before .settings-count .ensures .0,
       ← at-word-at .word-at .ensures,
       eq-eqb _ _ (at-if1 .if1 .left),
       ← at-word-at2 .word-at2 .ensures,
@@ -85,6 +93,7 @@ returns-5 c =
     let at-if1 = at-word-at2 .before in
     let at-word-at = at-if1 .before in
     rw (
+      ← at-word-at .before .settings-count .ensures .0,
       ← at-word-at .word-at .ensures,
       eq-eqb _ _ (at-if1 .if1 .left),
       ← at-word-at2 .word-at2 .ensures,
@@ -99,9 +108,6 @@ returns-5 c =
 
 word-at-requires-5 : tie.Need-word-at-requires-5
 word-at-requires-5 c κs = search needs
-
-cast-result : tie.Need-cast-result
-cast-result c = search needs
 
 mul-result : tie.Need-mul-result
 mul-result c = search needs
@@ -122,6 +128,7 @@ returns-6 c =
     let at-if1 = at-word-at2 .before in
     let at-word-at = at-if1 .before in
     rw (
+      ← at-word-at .before .settings-count .ensures .0,
       ← at-word-at .word-at .ensures,
       eq-eqb _ _ (at-if1 .if1 .left),
       ← at-word-at2 .word-at2 .ensures,
@@ -139,21 +146,22 @@ pub bad-header-spec : {M : Type 1} → statement M
 bad-header-spec =
     tie.close
     (tie.spec
+    settings-count-requires
     word-at-requires
-    cast-if1
     returns
     word-at-requires-2
     cast-if2
     returns-2
     event-count-requires
     returns-3
+    cast-start
+    mul-start
+    add-start
     word-at-requires-3
-    cast-if4
     returns-4
     word-at-requires-4
     returns-5
     word-at-requires-5
-    cast-result
     mul-result
     add-result
     returns-6)

@@ -8,10 +8,10 @@ use Rattle.capture.proofs.lowest_bad_event.Statement.{statement}
 use Rattle.capture.proofs.lowest_bad_event.Tie as tie
 
 abbrev Inv-events : tie.InvT-events
-Inv-events bytes n next₀ i₀ next i = Sought bytes n next i
+Inv-events limit bytes n next₀ i₀ next i = Sought limit bytes n next i
 
 abbrev μ-events : tie.MeasureT-events
-μ-events bytes n next₀ i₀ next i = n - i
+μ-events limit bytes n next₀ i₀ next i = n - i
 
 all-fit-requires : tie.Need-all-fit-requires Inv-events μ-events
 all-fit-requires c κs = search needs
@@ -20,7 +20,7 @@ returns : tie.Need-returns Inv-events μ-events
 returns c = sym (c .before .all-fit .ensures (c .if1 .taken))
 
 events-holds : tie.Need-events-holds Inv-events μ-events
-events-holds c = begins (c .before .before .before .args .bytes .now) (c .before .before .before .args .n)
+events-holds c = begins (c .before .before .before .args .limit) (c .before .before .before .args .bytes .now) (c .before .before .before .args .n)
 
 cycle-at-requires : tie.Need-cycle-at-requires Inv-events μ-events
 cycle-at-requires c κs = omega arith
@@ -32,7 +32,7 @@ event-fits-requires : tie.Need-event-fits-requires Inv-events μ-events
 event-fits-requires c κs = tt
 
 add-next : tie.Need-add-next Inv-events μ-events
-add-next c = omega (arith, room _ _ _ (sym (c .before .event-fits .ensures) ∙ c .if2 .taken))
+add-next c = omega (arith, room _ _ _ _ (sym (c .before .event-fits .ensures) ∙ c .if2 .taken))
 
 add-i : tie.Need-add-i Inv-events μ-events
 add-i c = omega arith
@@ -48,8 +48,8 @@ events-again c =
     goes-on (at-events .events .inv) (omega arith) (at-cycle-at .cycle-at .ensures) (at-pins-at .pins-at .ensures)
     (sym (c .before .event-fits .ensures) ∙ c .if2 .taken)
 
-cast-t10 : tie.Need-cast-t10 Inv-events μ-events
-cast-t10 c = omega arith
+cast-t11 : tie.Need-cast-t11 Inv-events μ-events
+cast-t11 c = omega arith
 
 returns-2 : tie.Need-returns-2 Inv-events μ-events
 returns-2 c =
@@ -78,6 +78,6 @@ lowest-bad-event-spec =
     add-i
     events-less
     events-again
-    cast-t10
+    cast-t11
     returns-2
     returns-3)

@@ -7,12 +7,12 @@ use borrow.Author.Tests.{not-true, not-false}
 use borrow.Author.Needs.{needs}
 use lib.ListN.{length}
 use Rattle.reading.specs.Settings.{badSetting}
-use Rattle.reading.specs.Capture.{lengthFits, headerFits}
+use Rattle.reading.specs.Capture.{countIn, eventsStart, settingWords, lengthFits, headerFits}
 use Rattle.reading.specs.Answers.{Answer, answered, unless, accepted}
 use Rattle.words.specs.Found.{placeOf}
 use Rattle.words.specs.declared.Found.{Found}
 use Rattle.capture.proofs.Accepted.{long-enough, sized}
-use Rattle.capture.proofs.Opening.{events-within, wrong-length, wrong-header, wrong-setting, right-settings}
+use Rattle.capture.proofs.Opening.{events-within, settings-are, wrong-length, wrong-header, wrong-setting, right-settings}
 use Rattle.capture.proofs.open.Statement.{statement}
 use Rattle.capture.proofs.open.Tie as tie
 
@@ -26,7 +26,7 @@ right-length c = not-false _ (sym (c .before .bad-length .ensures) ∙ c .if1 .l
 right-header : (c : tie.Else2) → headerFits (capture-of c) ≡ true
 right-header c = not-false _ (sym (c .before .bad-header .ensures) ∙ c .if2 .left)
 
-long : (c : tie.Else2) → 80 ≤ length (capture-of c)
+long : (c : tie.Else2) → eventsStart (countIn (capture-of c)) ≤ length (capture-of c)
 long c = long-enough (capture-of c) (right-length (c .before .before))
 
 bad-length-requires : tie.Need-bad-length-requires
@@ -48,6 +48,12 @@ returns-2 c =
 setting-words-requires : tie.Need-setting-words-requires
 setting-words-requires c κs = long c
 
+settings-count-requires : tie.Need-settings-count-requires
+settings-count-requires c κs = omega (arith, long (c .before))
+
+cast-settings : tie.Need-cast-settings
+cast-settings c = search needs
+
 slice-aggregate-lowest-bad : tie.Need-slice-aggregate-lowest-bad
 slice-aggregate-lowest-bad c = search needs
 
@@ -57,30 +63,42 @@ lowest-bad-requires c κs = search needs
 enum-known-setting : tie.Need-enum-known-setting
 enum-known-setting c = search needs
 
+-- the search over the settings
+sought : (c : tie.After-lowest-bad) → placeOf (c .lowest-bad .result) ≡ badSetting (settingWords (capture-of (c .before .before .before .before)))
+sought c =
+    let counted = c .before .before in
+    let loaded = counted .before in
+    c .lowest-bad .ensures
+    ∙ settings-are (capture-of (loaded .before)) (loaded .setting-words .ensures) (counted .settings-count .ensures .0)
+
 returns-3 : tie.Need-returns-3
 returns-3 c =
-    let tests = c .before .before .before .before .before .before in
-    let found = c .before .before .before .lowest-bad in
-    wrong-setting (capture-of tests) (right-length (tests .before .before)) (right-header tests) (found .result)
-    (found .ensures ∙ ap badSetting (c .before .before .before .before .before .setting-words .ensures)) (c .before .setting .given .1)
+    let found = c .before .before .before in
+    let tests = found .before .before .before .before in
+    wrong-setting (capture-of tests) (right-length (tests .before .before)) (right-header tests) (found .lowest-bad .result) (sought found)
+    (c .before .setting .given .1)
 
 enum-told : tie.Need-enum-told
 enum-told c = search needs
 
 event-count-requires : tie.Need-event-count-requires
-event-count-requires c κs = omega (arith, long (c .before .before .before .before .before))
+event-count-requires c κs = omega (arith, long (c .before .before .before .before .before .before))
 
 cast-n : tie.Need-cast-n
 cast-n c = search needs
 
+pin-limit-requires : tie.Need-pin-limit-requires
+pin-limit-requires c κs = omega (arith, long (c .before .before .before .before .before .before .before))
+
 event-bytes-requires : tie.Need-event-bytes-requires
-event-bytes-requires c κs = long (c .before .before .before .before .before .before)
+event-bytes-requires c κs = long (c .before .before .before .before .before .before .before .before)
 
 lowest-bad-event-requires : tie.Need-lowest-bad-event-requires
 lowest-bad-event-requires c κs =
-    let tests = c .before .before .before .before .before .before .before in
+    let counted = c .before .before in
+    let tests = counted .before .before .before .before .before .before .before in
     rw (c .event-bytes .ensures)
-    (events-within (capture-of tests) (sized (capture-of tests) (right-length (tests .before .before)) (right-header tests)) (c .before .event-count .ensures))
+    (events-within (capture-of tests) (sized (capture-of tests) (right-length (tests .before .before)) (right-header tests)) (counted .event-count .ensures))
 
 enum-known-place : tie.Need-enum-known-place
 enum-known-place c = search needs
@@ -92,13 +110,18 @@ enum-told-2 c = search needs
 abbrev of-event : Found → Answer (Unit {0})
 of-event r = unless 4 (placeOf r) (answered tt)
 
-walked : (c : tie.After-lowest-bad-event) → of-event (c .lowest-bad-event .result) ≡ accepted (capture-of (c .before .before .before .before .before .before .before .before)) (answered tt)
+walked : (c : tie.After-lowest-bad-event) →
+    of-event (c .lowest-bad-event .result) ≡
+    accepted (capture-of (c .before .before .before .before .before .before .before .before .before .before)) (answered tt)
 walked c =
-    let tests = c .before .before .before .before .before .before .before .before in
-    let setting = c .before .before .before .before .before .lowest-bad in
-    right-settings (capture-of tests) (right-length (tests .before .before)) (right-header tests) (setting .result)
-    (setting .ensures ∙ ap badSetting (c .before .before .before .before .before .before .before .setting-words .ensures)) (c .before .before .before .enum-told .given .1)
-    (c .lowest-bad-event .result) (c .before .before .event-count .ensures) (rw (c .before .event-bytes .ensures) at (c .lowest-bad-event .ensures))
+    let bytes = c .before in
+    let counted = bytes .before .before in
+    let told = counted .before in
+    let found = told .before .before in
+    let tests = found .before .before .before .before in
+    right-settings (capture-of tests) (right-length (tests .before .before)) (right-header tests) (found .lowest-bad .result) (sought found)
+    (told .enum-told .given .1) (c .lowest-bad-event .result) (counted .event-count .ensures)
+    (rw (bytes .event-bytes .ensures, bytes .before .pin-limit .ensures) at (c .lowest-bad-event .ensures))
 
 returns-4 : tie.Need-returns-4
 returns-4 c = sym (ap of-event (c .enum-told2 .given .1)) ∙ walked (c .before .before)
@@ -115,6 +138,8 @@ open-spec =
     bad-header-requires
     returns-2
     setting-words-requires
+    settings-count-requires
+    cast-settings
     slice-aggregate-lowest-bad
     lowest-bad-requires
     enum-known-setting
@@ -122,6 +147,7 @@ open-spec =
     enum-told
     event-count-requires
     cast-n
+    pin-limit-requires
     event-bytes-requires
     lowest-bad-event-requires
     enum-known-place

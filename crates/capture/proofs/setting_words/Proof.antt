@@ -1,21 +1,26 @@
--- The invariant: with the words from i on stored too, all fourteen are there.
+-- The invariant: with the words from i on stored too, all are there.
 use Prim.Native.Nat.{_-_}
 use mathlib.Core.Path.{refl}
 use native.Mathlib.Omega.{arith}
 use Rattle.reading.specs.Capture.{settingWords}
-use Rattle.capture.proofs.Walks.{Loading, one-more, all-loaded}
+use Rattle.capture.proofs.Walks.{Loading, none-loaded, one-more, all-loaded}
 use Rattle.capture.proofs.setting_words.Statement.{statement}
 use Rattle.capture.proofs.setting_words.Tie as tie
 
 abbrev Inv-loop : tie.InvT-loop
-Inv-loop capture loaded₀ i₀ loaded i = Loading capture loaded i
+Inv-loop capture loaded₀ n i₀ loaded i = Loading capture loaded i
 
 abbrev μ-loop : tie.MeasureT-loop
-μ-loop capture loaded₀ i₀ loaded i = 14 - i
+μ-loop capture loaded₀ n i₀ loaded i = n - i
+
+settings-count-requires : tie.Need-settings-count-requires Inv-loop μ-loop
+settings-count-requires c κs = omega arith
+
+cast-n : tie.Need-cast-n Inv-loop μ-loop
+cast-n c = omega arith
 
 loop-holds : tie.Need-loop-holds Inv-loop μ-loop
-unfolding settingWords
-loop-holds c = record { within = omega arith; full = refl; same = refl }
+loop-holds c = none-loaded _
 
 mul-word-at : tie.Need-mul-word-at Inv-loop μ-loop
 mul-word-at c = omega arith
@@ -50,6 +55,8 @@ setting-words-spec =
     (tie.spec
     Inv-loop
     μ-loop
+    settings-count-requires
+    cast-n
     loop-holds
     mul-word-at
     add-word-at

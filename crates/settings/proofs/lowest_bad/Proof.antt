@@ -2,19 +2,18 @@
 use Prim.Native.Nat.{_-_}
 use mathlib.Core.Path.{sym, _∙_}
 use native.Mathlib.Omega.{arith}
-use lib.ListN.{length}
 use Rattle.settings.proofs.Rows.{Sought, begins, goes-on, stops, ends}
 use Rattle.settings.proofs.lowest_bad.Statement.{statement}
 use Rattle.settings.proofs.lowest_bad.Tie as tie
 
 abbrev Inv-settings : tie.InvT-settings
-Inv-settings words i₀ i-end i = Sought words i
+Inv-settings words n i₀ i = Sought words n i
 
 abbrev μ-settings : tie.MeasureT-settings
-μ-settings words i₀ i-end i = length words - i
+μ-settings words n i₀ i = n - i
 
 settings-holds : tie.Need-settings-holds Inv-settings μ-settings
-settings-holds c = begins (c .before .args .words .now)
+settings-holds c = begins (c .before .args .words .now) (c .before .args .n)
 
 mul-setting-fits : tie.Need-mul-setting-fits Inv-settings μ-settings
 mul-setting-fits c = omega arith

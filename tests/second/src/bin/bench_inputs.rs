@@ -8,7 +8,8 @@ use std::path::Path;
 use std::{env, fs, io};
 
 use second::capture::{bytes_of, Event, Settings, SETTINGS};
-use second::command::Command;
+use second::command::Named::All;
+use second::command::{Asked, Command};
 use second::generate::{busy_capture, Dice};
 use second::part::{LookBack, Part};
 use second::schedule::earliest;
@@ -17,6 +18,8 @@ use second::{judge, schedule, Answer};
 /// A real part: 64M x 16 at 6 ns.
 const PART: [u32; SETTINGS] = [1, 14, 10, 0x32, 3, 3, 7, 10, 2, 3, 1, 12, 2, 10_400];
 const BL_16: u32 = 0x34;
+/// Its tXP and tXSR.
+const WAKE: [u32; 2] = [2, 20];
 
 fn main() {
     let folder = env::args().nth(1).expect("a folder to write in");
@@ -53,18 +56,21 @@ fn first_of(capture: &[u8], events: u32) -> Vec<u8> {
 fn captures() -> Vec<(&'static str, Vec<u8>)> {
     let mut dice = Dice::new(1);
     vec![
-        ("NOP alone", repeated(PART, &[Command::Nop])),
+        ("NOP alone", repeated(&PART, &[], &[Command::Nop.into()])),
         ("one open row, reads", streaming(PART, false)),
         (
             "one open row, reads and writes",
             streaming(with_mode(BL_16), true),
         ),
         ("a schedule", schedule_capture()),
-        ("random commands", busy_capture(&mut dice, PART)),
+        ("random commands", busy_capture(&mut dice, &PART)),
         (
             "random commands, BL 16",
-            busy_capture(&mut dice, with_mode(BL_16)),
+            busy_capture(&mut dice, &with_mode(BL_16)),
         ),
+        ("power-down between frames", power_down()),
+        ("self refresh between frames", self_refresh()),
+        ("asleep, NOP alone", asleep()),
     ]
 }
 
@@ -74,27 +80,69 @@ fn with_mode(mode: u32) -> [u32; SETTINGS] {
     settings
 }
 
-/// Commands over and over, each as early as it may be.
-fn repeated(settings: [u32; SETTINGS], commands: &[Command]) -> Vec<u8> {
-    let read = Settings::read(&settings).expect("valid settings");
+fn that_sleeps() -> Vec<u32> {
+    [&PART[..], &WAKE].concat()
+}
+
+/// Some events, then others over and over, each as early as it may be.
+fn repeated(settings: &[u32], first: &[Asked], then: &[Asked]) -> Vec<u8> {
+    let read = Settings::read(settings).expect("valid settings");
     let mut part = Part::new(read, LookBack::Running);
     let mut events = Vec::new();
     let mut next = 0;
-    for &command in commands.iter().cycle().take(8_000) {
-        let cycle = earliest(&part, next, command);
-        part.apply(cycle, command);
+    for &asked in first.iter().chain(then.iter().cycle()).take(8_000) {
+        let cycle = earliest(&part, next, asked);
+        part.apply(cycle, asked);
         events.push(Event {
             cycle: cycle as u32,
-            pins: command.pins(),
+            pins: asked.pins(),
         });
         next = cycle + 1;
     }
-    bytes_of(&settings, &events)
+    bytes_of(settings, &events)
+}
+
+/// A few reads of one row, which is closed again.
+fn frame() -> Vec<Asked> {
+    let read = |column: u32| Command::Read {
+        bank: 1,
+        address: 16 * column,
+        auto_precharge: false,
+    };
+    let mut commands = vec![Command::Active { bank: 1, row: 77 }];
+    commands.extend((0..8).map(read));
+    commands.push(Command::Precharge { banks: All });
+    commands.into_iter().map(Asked::from).collect()
+}
+
+fn power_down() -> Vec<u8> {
+    let mut events = frame();
+    events.extend([
+        Command::AutoRefresh.into(),
+        Command::Nop.low(),
+        Command::Nop.low(),
+        Command::Nop.into(),
+    ]);
+    repeated(&that_sleeps(), &[], &events)
+}
+
+fn self_refresh() -> Vec<u8> {
+    let mut events = frame();
+    events.extend([
+        Command::AutoRefresh.low(),
+        Command::Nop.low(),
+        Command::Nop.into(),
+    ]);
+    repeated(&that_sleeps(), &[], &events)
+}
+
+fn asleep() -> Vec<u8> {
+    let entry = Command::AutoRefresh.low();
+    repeated(&that_sleeps(), &[entry], &[Command::Nop.low()])
 }
 
 /// Bursts in one row, closed and refreshed now and then.
 fn streaming(settings: [u32; SETTINGS], with_writes: bool) -> Vec<u8> {
-    use second::command::Named::All;
     let mut commands = vec![Command::Active { bank: 1, row: 77 }];
     for column in 0..60 {
         let address = 16 * column;
@@ -115,7 +163,8 @@ fn streaming(settings: [u32; SETTINGS], with_writes: bool) -> Vec<u8> {
         });
     }
     commands.extend([Command::Precharge { banks: All }, Command::AutoRefresh]);
-    repeated(settings, &commands)
+    let events: Vec<Asked> = commands.into_iter().map(Asked::from).collect();
+    repeated(&settings, &[], &events)
 }
 
 fn requests() -> Vec<u32> {

@@ -100,7 +100,7 @@ impl Comparison {
 
     fn compare_judges(&mut self, capture: &[u8]) -> Result<(), Difference> {
         let answer = judge(capture);
-        self.tally.count_answer(answer);
+        self.tally.count_answer(capture, answer);
         let expected = Left {
             answer: packed::of_answer(answer),
             buffer: Vec::<u8>::new(),
@@ -117,7 +117,7 @@ impl Comparison {
         for length in self.lengths(needed, MOST_CELLS) {
             let mut buffer = vec![UNTOUCHED; length + FENCE];
             let answer = cells(capture, &mut buffer[..length]);
-            self.tally.count_cells(answer);
+            self.tally.count_cells(capture, answer);
             let expected = Left {
                 answer: packed::of_count(answer),
                 buffer,

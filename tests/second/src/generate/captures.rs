@@ -2,17 +2,18 @@
 
 use super::settings::{self, Kind};
 use super::Dice;
-use crate::capture::{bytes_of, Event, Settings, GAP_SETTING, LAST_CYCLE, MOST_EVENTS, SETTINGS};
-use crate::command::{Command, Named, BANKS, EXTENDED_REGISTER, MODE_REGISTER};
+use crate::capture::{bytes_of, Event, Settings, GAP_SETTING, LAST_CYCLE, MOST_EVENTS};
+use crate::command::{Asked, Command, Named, BANKS, EXTENDED_REGISTER, LOW, MODE_REGISTER};
 use crate::part::{LookBack, Part};
 use crate::rules::lowest_broken;
 use crate::schedule::earliest;
+use crate::sleep::{Sleep, State};
 
-/// Pin bits that a capture may use.
+/// Pin bits that every capture may use.
 const PINS: u32 = 0xf_ffff;
 
 /// How many events are tried in search of one that breaks the rule drawn.
-const FAULT_TRIES: u32 = 12;
+const FAULT_TRIES: u32 = 16;
 
 /// A capture that no refusal turns down: clean, or broken somewhere.
 pub fn guided_capture(dice: &mut Dice) -> Vec<u8> {
@@ -26,13 +27,13 @@ pub fn guided_capture(dice: &mut Dice) -> Vec<u8> {
 }
 
 /// A full, clean capture with given settings, whose GAP must leave room for refreshes.
-pub fn busy_capture(dice: &mut Dice, list: [u32; SETTINGS]) -> Vec<u8> {
+pub fn busy_capture(dice: &mut Dice, list: &[u32]) -> Vec<u8> {
     build(dice, list, MOST_EVENTS, 0)
 }
 
 fn usual_capture(dice: &mut Dice) -> Vec<u8> {
     let kind = settings::kind(dice);
-    let list = settings::settings(dice, kind);
+    let list = settings::capture_settings(dice, kind);
     let wanted = match (kind, dice.below(40)) {
         (Kind::Limits, _) => dice.below(10),
         (_, 0) => 0,
@@ -41,22 +42,22 @@ fn usual_capture(dice: &mut Dice) -> Vec<u8> {
         _ => dice.between(1, 40),
     };
     let fault_once_in = dice.pick(&[0, 0, 1, 2, 3, 5, 10, 20]);
-    build(dice, list, wanted, fault_once_in)
+    build(dice, &list, wanted, fault_once_in)
 }
 
 /// As many events as a capture may hold.
 fn full_capture(dice: &mut Dice) -> Vec<u8> {
     let kind = dice.pick(&[Kind::Short, Kind::RealPart]);
-    let mut list = settings::settings(dice, kind);
+    let mut list = settings::capture_settings(dice, kind);
     list[GAP_SETTING] = dice.between(1_000, 100_000);
     let fault_once_in = dice.pick(&[0, 0, 2_000]);
-    build(dice, list, MOST_EVENTS, fault_once_in)
+    build(dice, &list, MOST_EVENTS, fault_once_in)
 }
 
 /// Refreshes up to the last cycles that a capture may name, and some commands there.
 fn late_capture(dice: &mut Dice) -> Vec<u8> {
     let kind = dice.pick(&[Kind::Short, Kind::RealPart, Kind::Limits]);
-    let mut list = settings::settings(dice, kind);
+    let mut list = settings::capture_settings(dice, kind);
     let gap = 1_000_000;
     list[GAP_SETTING] = gap;
     let refreshes = LAST_CYCLE / gap - 1;
@@ -69,16 +70,16 @@ fn late_capture(dice: &mut Dice) -> Vec<u8> {
     bytes_of(&list, &builder.events)
 }
 
-fn build(dice: &mut Dice, list: [u32; SETTINGS], wanted: u32, fault_once_in: u32) -> Vec<u8> {
-    let mut builder = Builder::new(dice, &list);
+fn build(dice: &mut Dice, list: &[u32], wanted: u32, fault_once_in: u32) -> Vec<u8> {
+    let mut builder = Builder::new(dice, list);
     builder.fill(wanted, fault_once_in);
-    bytes_of(&list, &builder.events)
+    bytes_of(list, &builder.events)
 }
 
 /// Commands a few cycles apart, whether or not the rules have them wait longer. What breaks
 /// a rule is mostly put right, and else ends the capture.
 fn hasty_capture(dice: &mut Dice) -> Vec<u8> {
-    let list = settings::settings(dice, Kind::Tight);
+    let list = settings::capture_settings(dice, Kind::Tight);
     let wanted = dice.between(1, 80);
     let mut builder = Builder::new(dice, &list);
     while builder.events.len() < wanted as usize {
@@ -93,7 +94,7 @@ fn hasty_capture(dice: &mut Dice) -> Vec<u8> {
 /// Any pins on rising cycles.
 fn random_capture(dice: &mut Dice) -> Vec<u8> {
     let kind = settings::kind(dice);
-    let list = settings::settings(dice, kind);
+    let list = settings::capture_settings(dice, kind);
     let mut builder = Builder::new(dice, &list);
     builder.add_random_tail(40);
     bytes_of(&list, &builder.events)
@@ -104,17 +105,29 @@ struct Style {
     banks: u32,
     auto_precharge_percent: u32,
     prompt_percent: u32,
+    /// How often the next event puts the part to sleep; never without settings for it.
+    sleep_percent: u32,
     /// The rule that a fault, if there is one, breaks.
     fault_rule: u32,
 }
 
 impl Style {
-    fn new(dice: &mut Dice) -> Style {
+    fn new(dice: &mut Dice, sleeps: bool) -> Style {
         Style {
             banks: dice.between(1, BANKS as u32),
             auto_precharge_percent: dice.pick(&[0, 20, 50, 90]),
             prompt_percent: dice.pick(&[50, 80, 100]),
-            fault_rule: dice.between(1, 14),
+            sleep_percent: if sleeps {
+                dice.pick(&[0, 5, 10, 30])
+            } else {
+                0
+            },
+            // Rule 15 has more ways to be broken than any other.
+            fault_rule: if sleeps {
+                dice.between(1, 18).min(15)
+            } else {
+                dice.between(1, 14)
+            },
         }
     }
 }
@@ -127,6 +140,10 @@ enum Fault {
     WrongState,
     TooLate,
     TerminateAtOnce,
+    EarlySleep,
+    SleepAtOnce,
+    LateSleep,
+    SleepByCommand,
     Anything,
 }
 
@@ -143,6 +160,18 @@ const FAULTS: [Fault; 10] = [
     Fault::Anything,
 ];
 
+/// These besides, where the part may sleep.
+const SLEEP_FAULTS: [Fault; 8] = [
+    Fault::EarlySleep,
+    Fault::EarlySleep,
+    Fault::EarlySleep,
+    Fault::EarlySleep,
+    Fault::EarlySleep,
+    Fault::SleepAtOnce,
+    Fault::LateSleep,
+    Fault::SleepByCommand,
+];
+
 struct Builder<'a> {
     dice: &'a mut Dice,
     style: Style,
@@ -153,9 +182,9 @@ struct Builder<'a> {
 }
 
 impl<'a> Builder<'a> {
-    fn new(dice: &'a mut Dice, list: &[u32; SETTINGS]) -> Builder<'a> {
+    fn new(dice: &'a mut Dice, list: &[u32]) -> Builder<'a> {
         let settings = Settings::read(list).expect("the generated settings are valid");
-        let style = Style::new(dice);
+        let style = Style::new(dice, settings.wake.is_some());
         let part = Part::new(settings, LookBack::Running);
         Builder {
             dice,
@@ -169,7 +198,7 @@ impl<'a> Builder<'a> {
     fn refresh_at_every_gap(&mut self, refreshes: u32) {
         let gap = self.part.settings.gap;
         for count in 1..=u64::from(refreshes) {
-            self.push_applied(count * gap, Command::AutoRefresh);
+            self.push_applied(count * gap, Command::AutoRefresh.into());
         }
     }
 
@@ -189,7 +218,7 @@ impl<'a> Builder<'a> {
     fn go_to_the_end(&mut self) {
         let last = u64::from(LAST_CYCLE);
         let refresh = last - u64::from(self.dice.between(25_000, 60_000));
-        self.push_applied(refresh, Command::AutoRefresh);
+        self.push_applied(refresh, Command::AutoRefresh.into());
         let left = self.dice.pick(&[30, 400, 12_000]);
         self.next = last - u64::from(self.dice.between(0, left));
     }
@@ -202,15 +231,15 @@ impl<'a> Builder<'a> {
         self.next = cycle + 1;
     }
 
-    fn push_applied(&mut self, cycle: u64, command: Command) {
-        let pins = self.pins_with_noise(command);
+    fn push_applied(&mut self, cycle: u64, asked: Asked) {
+        let pins = self.pins_with_noise(asked);
         self.push(cycle, pins);
-        self.part.apply(cycle, command);
+        self.part.apply(cycle, asked);
     }
 
-    /// The command's pins, those it does not look at being anything.
-    fn pins_with_noise(&mut self, command: Command) -> u32 {
-        let free = match command {
+    /// The event's pins, those that its command does not look at being anything.
+    fn pins_with_noise(&mut self, asked: Asked) -> u32 {
+        let free = match asked.command {
             Command::Deselect => PINS,
             Command::Nop | Command::BurstTerminate | Command::AutoRefresh => 0xffff,
             Command::Precharge { banks: Named::All } => 0xffff,
@@ -219,56 +248,73 @@ impl<'a> Builder<'a> {
             } => 0x3bff,
             _ => 0,
         };
-        command.pins() | self.dice.word() & free
+        asked.pins() | self.dice.word() & free
     }
 
     /// The last cycle that rule 14 lets pass.
     fn due(&self) -> u64 {
-        self.part.refresh.unwrap_or(0) + self.part.settings.gap
+        match self.part.sleep {
+            State::Asleep(Sleep::SelfRefresh) => u64::MAX,
+            _ => self.part.gap_from + self.part.settings.gap,
+        }
+    }
+
+    fn may_sleep(&self) -> bool {
+        self.part.settings.wake.is_some()
+    }
+
+    fn any_pins(&mut self) -> u32 {
+        let cke = if self.may_sleep() { LOW } else { 0 };
+        self.dice.word() & (PINS | cke)
     }
 
     /// Adds an event that breaks nothing. False where the capture must end instead.
     fn add_legal(&mut self) -> bool {
         let refreshing = self.is_refresh_near();
-        let command = if refreshing {
-            self.refreshing_command()
+        let asked = if refreshing {
+            self.refreshing_event()
         } else {
-            self.usual_command()
+            self.usual_event()
         };
-        let soonest = earliest(&self.part, self.next, command);
+        let soonest = earliest(&self.part, self.next, asked);
         let slack = if refreshing { 0 } else { self.slack() };
         let mut cycle = soonest + slack;
-        if command == Command::AutoRefresh && soonest <= self.due() && self.dice.percent(20) {
+        let refreshes = asked.command == Command::AutoRefresh;
+        if refreshes && soonest <= self.due() && self.dice.percent(20) {
             cycle = self.due();
         }
         if cycle > self.due() || cycle > u64::from(LAST_CYCLE) {
             return false;
         }
-        self.push_applied(cycle, command);
+        self.push_applied(cycle, asked);
         true
     }
 
     /// Adds an event soon after the one before. False where the capture must end.
     fn add_hasty(&mut self) -> bool {
-        let command = self.usual_command();
+        let asked = self.usual_event();
         let wait = self.dice.pick(&[0, 0, 0, 1, 2, 3]);
         let mut cycle = self.next + wait;
-        if lowest_broken(&self.part, cycle, command).is_some() {
+        if lowest_broken(&self.part, cycle, asked).is_some() {
             if self.dice.percent(25) {
-                let pins = self.pins_with_noise(command);
+                let pins = self.pins_with_noise(asked);
                 self.push(cycle, pins);
                 return false;
             }
-            cycle = earliest(&self.part, self.next, command);
+            cycle = earliest(&self.part, self.next, asked);
         }
         if cycle > self.due() {
             return false;
         }
-        self.push_applied(cycle, command);
+        self.push_applied(cycle, asked);
         true
     }
 
     fn slack(&mut self) -> u64 {
+        if self.part.sleep == State::Asleep(Sleep::SelfRefresh) && self.dice.percent(30) {
+            let gap = self.part.settings.gap as u32;
+            return u64::from(self.dice.below(3 * gap));
+        }
         if self.dice.percent(self.style.prompt_percent) {
             return 0;
         }
@@ -284,12 +330,48 @@ impl<'a> Builder<'a> {
         worth_it && self.next + closing > self.due()
     }
 
-    fn refreshing_command(&mut self) -> Command {
-        if self.part.banks.iter().any(|bank| bank.is_open()) {
-            Command::Precharge { banks: Named::All }
-        } else {
+    fn refreshing_event(&mut self) -> Asked {
+        let command = if !self.part.sleep.is_awake() {
+            Command::Nop
+        } else if self.all_idle() {
             Command::AutoRefresh
+        } else {
+            Command::Precharge { banks: Named::All }
+        };
+        command.into()
+    }
+
+    fn all_idle(&self) -> bool {
+        self.part.banks.iter().all(|bank| !bank.is_open())
+    }
+
+    /// An event that fits the part as it is, so that it passes after some wait.
+    fn usual_event(&mut self) -> Asked {
+        if !self.part.sleep.is_awake() {
+            let low = self.dice.percent(40);
+            let command = self.idle_command();
+            return Asked { command, low };
         }
+        if self.may_sleep() && self.dice.percent(self.style.sleep_percent) {
+            return self.entry();
+        }
+        self.usual_command().into()
+    }
+
+    /// By any command that may enter sleep, whether or not the banks are idle.
+    fn any_entry(&mut self) -> Asked {
+        let quiet = self.idle_command();
+        self.dice.pick(&[quiet, Command::AutoRefresh]).low()
+    }
+
+    /// Power-down, or self refresh where all banks are idle.
+    fn entry(&mut self) -> Asked {
+        let command = if self.all_idle() && self.dice.percent(50) {
+            Command::AutoRefresh
+        } else {
+            self.idle_command()
+        };
+        command.low()
     }
 
     /// A command that fits the banks as they are, so that it passes after some wait.
@@ -297,7 +379,7 @@ impl<'a> Builder<'a> {
         let bank = self.bank();
         if self.part.banks[bank].is_open() {
             self.command_for_open(bank)
-        } else if self.part.banks.iter().all(|bank| !bank.is_open()) && self.dice.percent(25) {
+        } else if self.all_idle() && self.dice.percent(25) {
             self.command_for_all_idle()
         } else {
             self.command_for_idle(bank)
@@ -388,7 +470,7 @@ impl<'a> Builder<'a> {
             let Some((cycle, pins)) = self.faulty_event() else {
                 continue;
             };
-            let rule = lowest_broken(&self.part, cycle, Command::of_pins(pins));
+            let rule = lowest_broken(&self.part, cycle, Asked::of_pins(pins));
             if rule == Some(self.style.fault_rule) && cycle <= u64::from(LAST_CYCLE) {
                 self.push(cycle, pins);
                 return true;
@@ -398,8 +480,43 @@ impl<'a> Builder<'a> {
     }
 
     fn faulty_event(&mut self) -> Option<(u64, u32)> {
-        match self.dice.pick(&FAULTS) {
-            Fault::Early => self.early_event(),
+        if !self.part.sleep.is_awake() {
+            return Some(self.event_asleep());
+        }
+        if !self.may_sleep() {
+            let fault = self.dice.pick(&FAULTS);
+            return self.event_with(fault);
+        }
+        let faults = [&FAULTS[..], &SLEEP_FAULTS].concat();
+        let fault = self.dice.pick(&faults);
+        let (cycle, pins) = self.event_with(fault)?;
+        let cke = if self.dice.percent(10) { LOW } else { 0 };
+        Some((cycle, pins | cke))
+    }
+
+    fn event_with(&mut self, fault: Fault) -> Option<(u64, u32)> {
+        match fault {
+            Fault::Early => {
+                let command = self.command_to_hurry();
+                self.early_event(command.into())
+            }
+            Fault::EarlySleep => {
+                let entry = self.entry();
+                self.early_event(entry)
+            }
+            Fault::SleepAtOnce => {
+                let wait = u64::from(self.dice.below(4));
+                Some((self.next + wait, self.any_entry().pins()))
+            }
+            Fault::LateSleep => {
+                let cycle = self.next.max(self.due() + 1);
+                Some((cycle, self.any_entry().pins()))
+            }
+            Fault::SleepByCommand => {
+                let command = self.usual_command();
+                let cycle = earliest(&self.part, self.next, command.into());
+                Some((cycle, self.pins_with_noise(command.low())))
+            }
             Fault::RowTooHigh => self.high_row_event(),
             Fault::BadRegister => Some(self.bad_register_event()),
             Fault::WrongState => Some(self.wrong_state_event()),
@@ -407,15 +524,31 @@ impl<'a> Builder<'a> {
             Fault::TerminateAtOnce => Some((self.next, Command::BurstTerminate.pins())),
             Fault::Anything => {
                 let wait = u64::from(self.dice.below(4));
-                Some((self.next + wait, self.dice.word() & PINS))
+                Some((self.next + wait, self.any_pins()))
             }
         }
     }
 
-    /// A command one cycle too early, or some cycles.
-    fn early_event(&mut self) -> Option<(u64, u32)> {
-        let command = self.command_to_hurry();
-        let soonest = earliest(&self.part, self.next, command);
+    /// A command of any kind in sleep, soon or after the refresh is due.
+    fn event_asleep(&mut self) -> (u64, u32) {
+        let soon = self.next + u64::from(self.dice.below(30));
+        let late = self.part.gap_from + self.part.settings.gap + 1;
+        let cycle = self.dice.pick(&[soon, soon, late.max(self.next)]);
+        let quiet = self.idle_command().pins();
+        let fitting = self.usual_command().pins();
+        let (_, unfit) = self.wrong_state_event();
+        let (_, bad_register) = self.bad_register_event();
+        let any = self.dice.word() & PINS;
+        let pins = self
+            .dice
+            .pick(&[quiet, fitting, fitting, unfit, bad_register, any]);
+        let cke = self.dice.pick(&[0, LOW]);
+        (cycle, pins | cke)
+    }
+
+    /// An event one cycle too early, or some cycles.
+    fn early_event(&mut self, asked: Asked) -> Option<(u64, u32)> {
+        let soonest = earliest(&self.part, self.next, asked);
         if soonest == self.next {
             return None;
         }
@@ -424,7 +557,7 @@ impl<'a> Builder<'a> {
         } else {
             self.next + self.dice.roll() % (soonest - self.next)
         };
-        Some((cycle, self.pins_with_noise(command)))
+        Some((cycle, self.pins_with_noise(asked)))
     }
 
     /// PRECHARGE more often than usual, as its waits are soon over.
@@ -447,7 +580,7 @@ impl<'a> Builder<'a> {
             return None;
         }
         let command = self.active(bank);
-        let cycle = earliest(&self.part, self.next, command);
+        let cycle = earliest(&self.part, self.next, command.into());
         let lowest_high_pin = 1 << row_bits;
         let high = self.dice.pick(&[lowest_high_pin, high_pins, 1 << 13]);
         Some((cycle, command.pins() | high))
@@ -497,8 +630,8 @@ impl<'a> Builder<'a> {
         let from = self.next.max(self.due() + 1);
         let wait = self.dice.pick(&[0, 0, 0, 7]);
         (
-            earliest(&self.part, from, command) + wait,
-            self.pins_with_noise(command),
+            earliest(&self.part, from, command.into()) + wait,
+            self.pins_with_noise(command.into()),
         )
     }
 
@@ -510,7 +643,7 @@ impl<'a> Builder<'a> {
             if cycle > u64::from(LAST_CYCLE) {
                 return;
             }
-            let pins = self.dice.word() & PINS;
+            let pins = self.any_pins();
             self.push(cycle, pins);
         }
     }

@@ -2,7 +2,8 @@
 
 use super::{guided_capture, Dice};
 use crate::capture::{
-    word, EVENTS_AT, EVENT_BYTES, HEADER_BYTES, LAST_CYCLE, LIMITS, MODE_SETTING, MOST_BYTES,
+    events_at, settings_of_layout, total_bytes, word, EVENT_BYTES, HEADER_BYTES, LAST_CYCLE,
+    LIMITS, MODE_SETTING, MOST_EVENTS,
 };
 
 pub fn damaged_capture(dice: &mut Dice) -> Vec<u8> {
@@ -24,12 +25,17 @@ pub fn damaged_capture(dice: &mut Dice) -> Vec<u8> {
 /// A guided capture cut to its first few events.
 fn short_capture(dice: &mut Dice) -> Vec<u8> {
     let mut bytes = guided_capture(dice);
-    let events = (bytes.len() - EVENTS_AT) / EVENT_BYTES;
+    let start = events_start(&bytes);
+    let events = (bytes.len() - start) / EVENT_BYTES;
     let kept = events.min(dice.below(30) as usize);
-    bytes.truncate(EVENTS_AT + EVENT_BYTES * kept);
+    bytes.truncate(start + EVENT_BYTES * kept);
     put(&mut bytes, 12, kept as u32);
     restate_total(&mut bytes);
     bytes
+}
+
+fn events_start(bytes: &[u8]) -> usize {
+    events_at(settings_of_layout(bytes))
 }
 
 fn random_bytes(dice: &mut Dice) -> Vec<u8> {
@@ -39,20 +45,23 @@ fn random_bytes(dice: &mut Dice) -> Vec<u8> {
 /// Around the longest capture, with as many events stated as its bytes hold.
 fn extreme_length(dice: &mut Dice) -> Vec<u8> {
     let mut bytes = short_capture(dice);
-    let length = MOST_BYTES - 1 + dice.pick(&[0, 1, 1, 2, 9, 10_000]);
+    let settings = settings_of_layout(&bytes);
+    let most = total_bytes(settings, MOST_EVENTS) as usize;
+    let length = most - 1 + dice.pick(&[0, 1, 1, 2, 9, 10_000]);
     while bytes.len() < length {
         let cycle = bytes.len() as u32;
         bytes.extend(cycle.to_le_bytes());
         bytes.extend(dice.below(1 << 20).to_le_bytes());
     }
     bytes.truncate(length);
-    put(&mut bytes, 12, ((length - EVENTS_AT) / EVENT_BYTES) as u32);
+    let events = (length - events_at(settings)) / EVENT_BYTES;
+    put(&mut bytes, 12, events as u32);
     restate_total(&mut bytes);
     bytes
 }
 
 fn damage(dice: &mut Dice, bytes: &mut Vec<u8>) {
-    match dice.below(12) {
+    match dice.below(14) {
         0 => shorten(dice, bytes),
         1 => lengthen(dice, bytes),
         2 => change_header(dice, bytes),
@@ -61,6 +70,7 @@ fn damage(dice: &mut Dice, bytes: &mut Vec<u8>) {
         6 => change_mode(dice, bytes),
         7..=8 => change_cycle(dice, bytes),
         9..=10 => set_spare_pin(dice, bytes),
+        11..=12 => change_layout(dice, bytes),
         _ => scribble(dice, bytes),
     }
 }
@@ -98,8 +108,28 @@ fn change_header(dice: &mut Dice, bytes: &mut [u8]) {
     let any = dice.word();
     let up = held.wrapping_add(1);
     let down = held.wrapping_sub(1);
-    let value = dice.pick(&[up, down, held ^ 1 << 31, 0, 16, 88, any]);
+    let value = dice.pick(&[up, down, held ^ 1 << 31, 0, 14, 16, 80, 88, any]);
     put(bytes, at, value);
+}
+
+/// Another count of settings; often with a length near the limits of both layouts, and now
+/// and then with the rest of that layout's header.
+fn change_layout(dice: &mut Dice, bytes: &mut Vec<u8>) {
+    let least = dice.between(78, 90);
+    let most = dice.between(64_078, 64_090);
+    match dice.below(4) {
+        0 => bytes.resize(least as usize, 0),
+        1 => bytes.resize(most as usize, 0),
+        _ => {}
+    }
+    let count = dice.between(14, 17);
+    put(bytes, 4, count);
+    if dice.percent(50) {
+        let start = events_at(count as usize);
+        put(bytes, 16, start as u32);
+        let events = bytes.len().saturating_sub(start) / EVENT_BYTES;
+        put(bytes, 12, events as u32);
+    }
 }
 
 fn change_event_count(dice: &mut Dice, bytes: &mut [u8]) {
@@ -135,20 +165,21 @@ fn change_mode(dice: &mut Dice, bytes: &mut [u8]) {
 
 /// The byte offset of some event.
 fn some_event(dice: &mut Dice, bytes: &[u8]) -> Option<usize> {
-    let events = bytes.len().checked_sub(EVENTS_AT)? / EVENT_BYTES;
+    let start = events_start(bytes);
+    let events = bytes.len().checked_sub(start)? / EVENT_BYTES;
     let event = if events == 0 {
         return None;
     } else {
         dice.below(events as u32)
     };
-    Some(EVENTS_AT + EVENT_BYTES * event as usize)
+    Some(start + EVENT_BYTES * event as usize)
 }
 
 fn change_cycle(dice: &mut Dice, bytes: &mut [u8]) {
     let Some(at) = some_event(dice, bytes) else {
         return;
     };
-    let before = if at == EVENTS_AT {
+    let before = if at == events_start(bytes) {
         0
     } else {
         word(bytes, at - EVENT_BYTES)

@@ -89,7 +89,11 @@ fn spoil_requests(dice: &mut Dice, list: &[u32; SETTINGS], requests: &mut [u32])
 fn spoil_settings(dice: &mut Dice, list: &mut Vec<u32>) {
     match dice.below(6) {
         0 => list.truncate(dice.below(14) as usize),
-        1 => list.push(dice.below(1_000)),
+        1 => {
+            for _ in 0..dice.between(1, 3) {
+                list.push(dice.between(1, 1_000));
+            }
+        }
         2 => list[MODE_SETTING] = dice.below(140),
         _ => {
             for _ in 0..dice.between(1, 2) {

@@ -29,6 +29,24 @@ pub fn kind(dice: &mut Dice) -> Kind {
     }
 }
 
+/// The settings of a capture: in half of them tXP and tXSR follow, and it may sleep.
+pub fn capture_settings(dice: &mut Dice, kind: Kind) -> Vec<u32> {
+    let mut list = settings(dice, kind).to_vec();
+    if dice.percent(50) {
+        list.extend(wake(dice, kind));
+    }
+    list
+}
+
+/// tXP and tXSR.
+fn wake(dice: &mut Dice, kind: Kind) -> [u32; 2] {
+    match kind {
+        Kind::Short | Kind::Tight => [dice.between(1, 8), dice.between(1, 30)],
+        Kind::RealPart => [dice.between(1, 3), dice.between(20, 40)],
+        Kind::Limits => [at_a_limit(dice, 14), at_a_limit(dice, 15)],
+    }
+}
+
 pub fn settings(dice: &mut Dice, kind: Kind) -> [u32; SETTINGS] {
     match kind {
         Kind::Short => short(dice),
@@ -108,9 +126,13 @@ fn limits(dice: &mut Dice) -> [u32; SETTINGS] {
     let mut settings = [0; SETTINGS];
     settings[..4].copy_from_slice(&organisation(dice));
     for place in TIMES.chain([GAP_SETTING]) {
-        let (least, most) = LIMITS[place];
-        let anywhere = dice.between(least, most);
-        settings[place] = dice.pick(&[least, least, least + 1, most - 1, most, anywhere]);
+        settings[place] = at_a_limit(dice, place);
     }
     settings
+}
+
+fn at_a_limit(dice: &mut Dice, place: usize) -> u32 {
+    let (least, most) = LIMITS[place];
+    let anywhere = dice.between(least, most);
+    dice.pick(&[least, least, least + 1, most - 1, most, anywhere])
 }

@@ -4,10 +4,10 @@
 use std::collections::BTreeMap;
 use std::fmt;
 
-use crate::capture::Refusal;
+use crate::capture::{settings_of_layout, Refusal, SETTINGS, SLEEP_SETTINGS};
 use crate::verdict::Answer;
 
-pub const RULES: usize = 14;
+pub const RULES: usize = 15;
 
 /// The refusals that document 01's table has for each question, in its order.
 const OF_JUDGE: [u32; 4] = [1, 2, 3, 4];
@@ -36,23 +36,57 @@ impl Answers {
 
 #[derive(Clone, Debug, Default)]
 pub struct Tally {
-    pub rules: [u64; RULES],
-    pub verdicts: Answers,
-    pub cell_lists: Answers,
+    pub awake: OfCaptures,
+    pub sleeping: OfCaptures,
     pub schedules: Answers,
 }
 
+/// Of captures laid out for one number of settings.
+#[derive(Clone, Debug, Default)]
+pub struct OfCaptures {
+    pub rules: [u64; RULES],
+    pub verdicts: Answers,
+    pub cell_lists: Answers,
+}
+
+impl OfCaptures {
+    /// Rule 15 cannot be broken with 14 settings.
+    fn counts(&self, settings: usize) -> Vec<(String, u64)> {
+        let rules = if settings == SETTINGS { 14 } else { RULES };
+        let mut counts = vec![("judge: clean".to_string(), self.verdicts.given)];
+        for (rule, &count) in (1..).zip(&self.rules[..rules]) {
+            counts.push((format!("judge: rule {rule}"), count));
+        }
+        counts.extend(refusals("judge", &self.verdicts, &OF_JUDGE));
+        counts.push(("cells: written".to_string(), self.cell_lists.given));
+        counts.extend(refusals("cells", &self.cell_lists, &OF_CELLS));
+        counts
+            .into_iter()
+            .map(|(name, count)| (format!("{settings} settings, {name}"), count))
+            .collect()
+    }
+}
+
 impl Tally {
-    pub fn count_answer(&mut self, answer: Answer) {
-        match answer {
-            Answer::Clean { .. } => self.verdicts.count(None),
-            Answer::Broken { rule, .. } => self.rules[rule as usize - 1] += 1,
-            Answer::Refused { number, .. } => self.verdicts.count(Some(number)),
+    fn of_layout(&mut self, capture: &[u8]) -> &mut OfCaptures {
+        match settings_of_layout(capture) {
+            SLEEP_SETTINGS => &mut self.sleeping,
+            _ => &mut self.awake,
         }
     }
 
-    pub fn count_cells(&mut self, answer: Result<u32, Refusal>) {
-        self.cell_lists
+    pub fn count_answer(&mut self, capture: &[u8], answer: Answer) {
+        let counts = self.of_layout(capture);
+        match answer {
+            Answer::Clean { .. } => counts.verdicts.count(None),
+            Answer::Broken { rule, .. } => counts.rules[rule as usize - 1] += 1,
+            Answer::Refused { number, .. } => counts.verdicts.count(Some(number)),
+        }
+    }
+
+    pub fn count_cells(&mut self, capture: &[u8], answer: Result<u32, Refusal>) {
+        self.of_layout(capture)
+            .cell_lists
             .count(answer.err().map(|refusal| refusal.number));
     }
 
@@ -63,13 +97,8 @@ impl Tally {
 
     /// What was counted, by name.
     fn counts(&self) -> Vec<(String, u64)> {
-        let mut counts = vec![("judge: clean".to_string(), self.verdicts.given)];
-        for (rule, &count) in (1..).zip(&self.rules) {
-            counts.push((format!("judge: rule {rule}"), count));
-        }
-        counts.extend(refusals("judge", &self.verdicts, &OF_JUDGE));
-        counts.push(("cells: written".to_string(), self.cell_lists.given));
-        counts.extend(refusals("cells", &self.cell_lists, &OF_CELLS));
+        let mut counts = self.awake.counts(SETTINGS);
+        counts.extend(self.sleeping.counts(SLEEP_SETTINGS));
         counts.push(("schedule: written".to_string(), self.schedules.given));
         counts.extend(refusals("schedule", &self.schedules, &OF_SCHEDULE));
         counts

@@ -2,25 +2,25 @@
 #![allow(dead_code)] // each test file uses the ones it needs
 
 use second::capture::{bytes_of, Event, SETTINGS};
-use second::command::{Command, Named};
+use second::command::{Asked, Command, Named};
 use second::{cells, judge, schedule, Answer, Refusal};
 
 /// The settings of document 01's cases: CL 3, BL 4, sequential.
 pub const CASE: [u32; SETTINGS] = [1, 13, 10, 0x32, 3, 3, 7, 10, 2, 3, 1, 12, 2, 1000];
 
-pub fn with(mut settings: [u32; SETTINGS], changes: &[(usize, u32)]) -> [u32; SETTINGS] {
+pub fn with<const N: usize>(mut settings: [u32; N], changes: &[(usize, u32)]) -> [u32; N] {
     for &(place, value) in changes {
         settings[place] = value;
     }
     settings
 }
 
-pub fn capture(settings: &[u32; SETTINGS], events: &[(u32, Command)]) -> Vec<u8> {
+pub fn capture<A: Into<Asked> + Copy>(settings: &[u32], events: &[(u32, A)]) -> Vec<u8> {
     let events: Vec<Event> = events
         .iter()
-        .map(|&(cycle, command)| Event {
+        .map(|&(cycle, asked)| Event {
             cycle,
-            pins: command.pins(),
+            pins: asked.into().pins(),
         })
         .collect();
     bytes_of(settings, &events)
@@ -84,14 +84,14 @@ pub fn mode_set(register: u32, address: u32) -> Command {
 
 /// Expects the events to be clean.
 #[track_caller]
-pub fn clean(settings: &[u32; SETTINGS], events: &[(u32, Command)]) {
+pub fn clean<A: Into<Asked> + Copy>(settings: &[u32], events: &[(u32, A)]) {
     let judged = events.len() as u32;
     assert_eq!(judge(&capture(settings, events)), Answer::Clean { judged });
 }
 
 /// Expects the last of the events to be the first that breaks a rule.
 #[track_caller]
-pub fn breaks(rule: u32, settings: &[u32; SETTINGS], events: &[(u32, Command)]) {
+pub fn breaks<A: Into<Asked> + Copy>(rule: u32, settings: &[u32], events: &[(u32, A)]) {
     let event = events.len() as u32 - 1;
     let cycle = events[events.len() - 1].0;
     let expected = Answer::Broken {
@@ -108,14 +108,14 @@ pub fn refuses(number: u32, place: u32, capture: &[u8]) {
     assert_eq!(judge(capture), Answer::Refused { number, place });
 }
 
-pub fn cells_of(settings: &[u32; SETTINGS], events: &[(u32, Command)]) -> Vec<u32> {
+pub fn cells_of<A: Into<Asked> + Copy>(settings: &[u32], events: &[(u32, A)]) -> Vec<u32> {
     let mut out = vec![0; 16 * events.len()];
     let written = cells(&capture(settings, events), &mut out).expect("a clean capture");
     out.truncate(written as usize);
     out
 }
 
-pub fn schedule_of(settings: &[u32; SETTINGS], requests: &[u32]) -> Result<Vec<u8>, Refusal> {
+pub fn schedule_of(settings: &[u32], requests: &[u32]) -> Result<Vec<u8>, Refusal> {
     let mut out = vec![0; 80 + 24 * requests.len()];
     let written = schedule(settings, requests, &mut out)?;
     out.truncate(written as usize);

@@ -1,4 +1,4 @@
--- The invariant: there is a place for each of the seven kinds.
+-- The invariant: there is a place for each of the nine kinds.
 use Prim.Native.Nat.{_≤_, _-_}
 use mathlib.Core.Path.{_≡_}
 use borrow.Author.Needs.{needs}
@@ -7,7 +7,7 @@ use Rattle.listing.proofs.events.last_of_each.Statement.{statement}
 use Rattle.listing.proofs.events.last_of_each.Tie as tie
 
 abbrev Inv-loop : tie.InvT-loop
-Inv-loop capture end last₀ i₀ last i = (i ≤ end) × (length last ≡ 7)
+Inv-loop capture end last₀ i₀ last i = (i ≤ end) × (length last ≡ 9)
 
 abbrev μ-loop : tie.MeasureT-loop
 μ-loop capture end last₀ i₀ last i = end - i

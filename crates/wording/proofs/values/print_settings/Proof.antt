@@ -4,13 +4,16 @@ use Rattle.wording.proofs.values.print_settings.Statement.{statement}
 use Rattle.wording.proofs.values.print_settings.Tie as tie
 
 abbrev Inv-loop : tie.InvT-loop
-Inv-loop out₀ settings i₀ out i = i ≤ 14
+Inv-loop out₀ settings n i₀ out i = (i ≤ n) × (n ≤ 16)
 
 abbrev μ-loop : tie.MeasureT-loop
-μ-loop out₀ settings i₀ out i = 14 - i
+μ-loop out₀ settings n i₀ out i = n - i
+
+shown-count-requires : tie.Need-shown-count-requires Inv-loop μ-loop
+shown-count-requires c κs = tt
 
 loop-holds : tie.Need-loop-holds Inv-loop μ-loop
-loop-holds c = omega arith
+loop-holds c = (omega arith, c .shown-count .ensures)
 
 cast-print-setting : tie.Need-cast-print-setting Inv-loop μ-loop
 cast-print-setting c = omega arith
@@ -42,6 +45,7 @@ print-settings-spec =
     (tie.spec
     Inv-loop
     μ-loop
+    shown-count-requires
     loop-holds
     cast-print-setting
     mul-print-setting
