@@ -172,7 +172,11 @@ module _ (ws : List ℕ) (es : List Event) (fourteen : length ws ≡ 14) (good :
       let m : 80 + 4 * j ≡ 4 * (20 + j) = omega arith in
       let n : 20 ≡ length (header es ++ ws) = omega (arith, length-append (header es) ws) in
       let f : getD W (20 + j) 0 ≡ v = ap (λ (x : ℕ). getD W (x + j) 0) n ∙ getD-append-add (header es ++ ws) (eventWords es) j 0 ∙ e in
-      ap (λ (n : ℕ). wordAt (drop (eventsStart n) C) (4 * j)) held ∙ word-drop 80 C (4 * j) ∙ ap (wordAt C) m ∙ word ws es fourteen (20 + j) (omega (arith, all-length ws es fourteen)) (rw f k) ∙ f
+      ap (λ (n : ℕ). wordAt (drop (eventsStart n) C) (4 * j)) held
+      ∙ word-drop 80 C (4 * j)
+      ∙ ap (wordAt C) m
+      ∙ word ws es fourteen (20 + j) (omega (arith, all-length ws es fourteen)) (rw f k)
+      ∙ f
 
   cycle-back : (i : ℕ) → i < length es → eventAt (eventBytes C) i .cycle ≡ eventOf es i .cycle
   cycle-back i l =
