@@ -22,7 +22,7 @@ use Rattle.settings.specs.declared.Checked.{Checked}
 use Rattle.settings.specs.declared.Checked.the-variants as checked
 use Rattle.settings.specs.Meaning as check
 use Rattle.settings.specs.Meaning.{padded}
-use Rattle.settings.proofs.Padded.{padded-settings}
+use Rattle.settings.proofs.Padded.{padded-at, padded-settings}
 use Rattle.capture.proofs.Accepted.{Sound, count-range, accepted-sound, accepted-rest, refused-rest}
 use Rattle.judge.specs.Meaning.{eventsIn}
 use Rattle.judge.proofs.Judging as judging
@@ -111,7 +111,7 @@ module _ (c : List ℕ) (buffer : List ℕ) (o : Checked) (opened : check.means 
                 columns = at-most 2 (getD (settingWords c) 2 0) (sound .settings 2 (omega (arith, count-range c .0)));
               });
           moded =
-              rw (e, padded-settings (settingWords c))
+              rw (e, padded-at (settingWords c) 3)
               (mode-valid (getD (settingWords c) 3 0) (sound .settings 3 (omega (arith, count-range c .0))));
         }
 

@@ -13,7 +13,7 @@ use Rattle.settings.specs.declared.Checked.{Checked}
 use Rattle.settings.specs.declared.Checked.the-variants as checked
 use Rattle.settings.specs.Meaning as check
 use Rattle.settings.specs.Meaning.{padded}
-use Rattle.settings.proofs.Padded.{padded-settings}
+use Rattle.settings.proofs.Padded.{padded-at, padded-settings}
 use Rattle.capture.proofs.Accepted.{Sound, count-range, accepted-sound, accepted-rest, refused-rest}
 use Rattle.judge.specs.declared.Verdict.the-variants.{Refused}
 use Rattle.judge.specs.Meaning.{means, said, Fit, eventsIn, verdictOn}
@@ -40,7 +40,7 @@ module _ (c : List ℕ) (o : Checked) (opened : check.means o ≡ accepted c (an
           few = omega (arith, f, sound .sized .few);
           long = rw (f, g, length-drop (eventsStart (countIn c)) c) (omega (arith, sound .sized .size));
           rows =
-              rw (e, padded-settings (settingWords c))
+              rw (e, padded-at (settingWords c) 1)
               (omega (arith, at-most 1 (getD (settingWords c) 1 0) (sound .settings 1 (omega (arith, count-range c .0)))));
           events = λ i l. rw g (sound .events i (omega (arith, f)));
         }

@@ -5,6 +5,8 @@ use borrow.Author.Tests.{ne-eqb}
 use borrow.Author.Needs.{needs}
 use Rattle.reading.specs.Settings.{settingsOf}
 use Rattle.pins.specs.Pins.{codeOf, quietCode}
+use Rattle.deadlines.specs.Deadlines.{lowAfter}
+use Rattle.steps.specs.Steps.{highBreaks}
 use Rattle.steps.proofs.Codes as codes
 use Rattle.steps.proofs.Codes.{met-paced, quiet-is, barred}
 use Rattle.part.proofs.low.Statement.{statement}
@@ -59,8 +61,9 @@ returns-3 c =
     let asked = c .before .before in
     let start = asked .before .before .before .before in
     let a = start .args in
-    let k = codes.low-command (settingsOf (a .s .now)) (a .d .now) (a .pace .now) (a .t) (a .w) (start .pre) (no-refresh asked) (no-quiet asked) in
-    rw (k .breaks, k .leaves) (c .command-low .ensures, barred _ _ _)
+    let s = settingsOf (a .s .now) in
+    let k = codes.low-command s (a .d .now) (a .pace .now) (a .t) (a .w) (start .pre) (no-refresh asked) (no-quiet asked) in
+    rw (k .breaks, k .leaves) (c .command-low .ensures, barred (highBreaks s (a .d .now) (a .t) (a .w)) (lowAfter (a .d .now) (a .t)) (a .d .now))
 
 pub low-spec : {M : Type 1} → statement M
 low-spec =

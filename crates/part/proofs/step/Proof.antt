@@ -169,7 +169,7 @@ returns-10 c =
     let matched = c .before .before in
     let coded = matched .before in
     let a = coded .before .args in
-    let is = low-code (a .w) (sym (coded .wide-code .ensures) ∙ matched .match .keys9) in
+    let is = low-code (a .w) {k = 14} (sym (coded .wide-code .ensures) ∙ matched .match .keys9) in
     met-paced
     (codes.low-quiet (settingsOf (a .s .now)) (a .d .now) (a .pace .now) (a .t) (a .w) refl (is .1) (quiet-is _ (ap quietCode (is .0))))
     (c .quiet-low .ensures .0) (c .quiet-low .ensures .1)
