@@ -173,6 +173,7 @@ pub fn enter_after(d: &mut Deadlines)
 {
     d[ASLEEP] = d[OVERDUE];
     d[OVERDUE] = 0;
+    d[WAKE] = 0;
 }
 
 // Self refresh: it stands still.
@@ -181,6 +182,7 @@ pub fn self_after(d: &mut Deadlines)
 {
     d[ASLEEP] = clock::FAR;
     d[OVERDUE] = 0;
+    d[WAKE] = 0;
     d[SELF] = 1;
 }
 

@@ -31,14 +31,17 @@ ghost use Rattle.reading.specs.Rules.{everyBank};
 ghost use Rattle.deadlines.specs.Deadlines as is;
 ghost use Rattle.deadlines.specs.Deadlines.{at, orElse};
 
-// Rule 14, or 15 asleep.
+// Rule 14, or 15 asleep. Awake is asked for itself, so that no branch of `last_breaks` is like another (docs/PERFORMANCE.md).
 fn late(d: &Deadlines, t: u32) -> u32
     ensures { λ r. ⌜ r ≡ orElse (ltb t (at (now (d .entry)) is.ASLEEP)) 14 15 ⌝ }
 {
-    if (t as u64) < d[ASLEEP] {
-        return 15;
+    if d[ASLEEP] == 0 {
+        return 14;
     }
-    14
+    if d[ASLEEP] <= (t as u64) {
+        return 14;
+    }
+    15
 }
 
 fn last_breaks(d: &Deadlines, t: u32) -> u32
@@ -98,10 +101,10 @@ fn all_held(d: &Deadlines, t: u32) -> u32
     ensures { λ r. ⌜ r ≡ orElse (is.allHeld (now (d .entry)) t) 9 0 ⌝ }
 {
     'banks: for i in 0..4 {
-        if past(d[CLOSE + i], t) {
+        if d[OPENED + i] == 0 {
             continue 'banks;
         }
-        if d[OPENED + i] == 0 {
+        if past(d[CLOSE + i], t) {
             continue 'banks;
         }
         return 9;
@@ -113,10 +116,10 @@ fn all_written(d: &Deadlines, t: u32) -> u32
     ensures { λ r. ⌜ r ≡ orElse (is.allWritten (now (d .entry)) t) 10 0 ⌝ }
 {
     'banks: for i in 0..4 {
-        if past(d[WRITTEN + i], t) {
+        if d[OPENED + i] == 0 {
             continue 'banks;
         }
-        if d[OPENED + i] == 0 {
+        if past(d[WRITTEN + i], t) {
             continue 'banks;
         }
         return 10;

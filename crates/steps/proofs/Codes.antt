@@ -2,7 +2,6 @@
 use Prim.Native.Nat.{ℕ}
 use mathlib.Core.Bool.{Bool, true, false, cond}
 use mathlib.Core.List.{List}
-use mathlib.Core.Option.{Option}
 use mathlib.Core.Path.{_≡_, refl}
 use lib.Dec.{eqb}
 use borrow.Author.Tests.{ne-eqb}
@@ -10,7 +9,7 @@ use Rattle.reading.specs.Settings.{Settings}
 use Rattle.deadlines.specs.Deadlines.{quietBreaks, lowBreaks, selfBreaks, activeBreaks, readBreaks, writeBreaks, terminateBreaks, closeBreaks, closeAllBreaks, refreshBreaks, modeBreaks}
 use Rattle.deadlines.specs.Deadlines.{paceOf, quietAfter, lowAfter, selfAfter, activeAfter, readAfter, writeAfter, cutRead, closeAfter, closeAllAfter, refreshAfter, modeSetAfter}
 use Rattle.pins.specs.Pins.{codeOf, bankOf, addressOf, tenOf, lowOf, quietCode}
-use Rattle.steps.specs.Steps.{ruleOf, leftBy, unlessLower, highBreaks, stepBreaks, stepAfter, paceAfter}
+use Rattle.steps.specs.Steps.{leftBy, unlessLower, highBreaks, stepBreaks, stepAfter, paceAfter}
 
 module _ (s : Settings) (d m : List ℕ) (t w : ℕ) where
   -- which rule a step breaks, the deadlines after it, and h and CL
@@ -108,10 +107,10 @@ module _ (s : Settings) (d m : List ℕ) (t w : ℕ) where
   unfolding stepBreaks stepAfter
   low-command l e n = record { breaks = rw (l, n, e); leaves = rw (l, e); sets = refl }
 
-  -- so a function that answers and leaves what its command does meets the step's contract
-  abbrev pub Meets : Option ℕ → List ℕ → List ℕ → Type 0
+  -- so a function that tells and leaves what its command does meets the step's contract
+  abbrev pub Meets : ℕ → List ℕ → List ℕ → Type 0
   Meets told d′ m′ =
-      (told ≡ ruleOf (stepBreaks s d t w))
+      (told ≡ stepBreaks s d t w)
       × ((d′ ≡ leftBy (stepBreaks s d t w) (stepAfter s d m t w) d) × (m′ ≡ leftBy (stepBreaks s d t w) (paceAfter m w) m))
 
 untouched : (rule : ℕ) (x : List ℕ) → x ≡ leftBy rule x x
@@ -122,14 +121,11 @@ untouched rule x = go (eqb rule 0)
     go false = refl
 
 module _ {s : Settings} {d m : List ℕ} {t w : ℕ} where
-  pub met : {rule : ℕ} {after pace : List ℕ} → Does s d m t w rule after pace → {told : Option ℕ} {d′ m′ : List ℕ} →
-      told ≡ ruleOf rule → d′ ≡ leftBy rule after d → m′ ≡ leftBy rule pace m → Meets s d m t w told d′ m′
+  pub met : {rule : ℕ} {after pace : List ℕ} → Does s d m t w rule after pace → {told : ℕ} {d′ m′ : List ℕ} →
+      told ≡ rule → d′ ≡ leftBy rule after d → m′ ≡ leftBy rule pace m → Meets s d m t w told d′ m′
   met k a b e = rw (k .breaks, k .leaves, k .sets) (a, (b, e))
 
-  -- where h and CL, and where the deadlines too, are left alone
-  pub met-paced : {rule : ℕ} {after : List ℕ} → Does s d m t w rule after m → {told : Option ℕ} {d′ : List ℕ} →
-      told ≡ ruleOf rule → d′ ≡ leftBy rule after d → Meets s d m t w told d′ m
+  -- where h and CL are left alone
+  pub met-paced : {rule : ℕ} {after : List ℕ} → Does s d m t w rule after m → {told : ℕ} {d′ : List ℕ} →
+      told ≡ rule → d′ ≡ leftBy rule after d → Meets s d m t w told d′ m
   met-paced {rule} k a b = met k a b (untouched rule m)
-
-  pub met-quiet : {rule : ℕ} → Does s d m t w rule d m → {told : Option ℕ} → told ≡ ruleOf rule → Meets s d m t w told d m
-  met-quiet {rule} k a = met-paced k a (untouched rule d)

@@ -54,8 +54,11 @@ highAfter s d m t w =
     (modeSetAfter s d t)
     (quietAfter s d t)
 
+abbrev pub lowStepAfter : List ℕ → ℕ → ℕ → List ℕ
+lowStepAfter d t w = cond (eqb (codeOf w) 8) (selfAfter d) (lowAfter d t)
+
 unfoldable pub stepAfter : Settings → List ℕ → List ℕ → ℕ → ℕ → List ℕ
-stepAfter s d m t w = cond (lowOf w) (cond (eqb (codeOf w) 8) (selfAfter d) (lowAfter d t)) (highAfter s d m t w)
+stepAfter s d m t w = cond (lowOf w) (lowStepAfter d t w) (highAfter s d m t w)
 
 unfoldable pub paceAfter : List ℕ → ℕ → List ℕ
 paceAfter m w = cond (eqb (codeOf w) 0 && eqb (bankOf w) 0) (paceOf (addressOf w)) m
