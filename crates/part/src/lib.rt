@@ -235,7 +235,13 @@ fn low(s: &Settings, d: &mut Deadlines, t: u32, code: u32, w: u32) -> u32
         pins::NOP_LOW => quiet_low(s, d, t),
         17 | 19 | 21 | 23 | 25 | 27 | 29 => quiet_low(s, d, t),
         pins::REFRESH_LOW => refresh_low(s, d, t),
-        pins::ACTIVE_LOW => barred(rules::active_breaks(s, &*d, t, pins::bank(w), pins::address(w))),
+        pins::ACTIVE_LOW => barred(rules::active_breaks(
+            s,
+            &*d,
+            t,
+            pins::bank(w),
+            pins::address(w),
+        )),
         pins::READ_LOW => barred(rules::read_breaks(&*d, t, pins::bank(w))),
         pins::WRITE_LOW => barred(rules::write_breaks(&*d, t, pins::bank(w))),
         pins::PRECHARGE_LOW => {

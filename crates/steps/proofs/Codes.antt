@@ -113,7 +113,7 @@ module _ (s : Settings) (d m : List ℕ) (t w : ℕ) where
       (told ≡ stepBreaks s d t w)
       × ((d′ ≡ leftBy (stepBreaks s d t w) (stepAfter s d m t w) d) × (m′ ≡ leftBy (stepBreaks s d t w) (paceAfter m w) m))
 
-untouched : (rule : ℕ) (x : List ℕ) → x ≡ leftBy rule x x
+pub untouched : (rule : ℕ) (x : List ℕ) → x ≡ leftBy rule x x
 untouched rule x = go (eqb rule 0)
   where
     go : (v : Bool) → x ≡ cond v x x
