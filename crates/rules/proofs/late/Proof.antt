@@ -15,10 +15,10 @@ element-copy-out-if2 : tie.Need-element-copy-out-if2
 element-copy-out-if2 c = search needs
 
 returns-2 : tie.Need-returns-2
-returns-2 c = rw (le-ltb _ _ (c .if2 .taken))
+returns-2 c = rw (lt-ltb _ _ (c .if2 .taken))
 
 returns-3 : tie.Need-returns-3
-returns-3 c = rw (lt-ltb _ _ (c .if2 .left))
+returns-3 c = rw (le-ltb _ _ (c .if2 .left))
 
 pub late-spec : {M : Type 1} → statement M
 late-spec = tie.close (tie.spec element-copy-out-if1 returns element-copy-out-if2 returns-2 returns-3)
