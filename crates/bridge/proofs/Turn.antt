@@ -18,7 +18,7 @@ use Rattle.reading.proofs.Cuts.{nil}
 use Rattle.reading.proofs.Found.{find-none}
 use Rattle.deadlines.specs.Deadlines.{FAR, paceOf, startOf, closeBreaks, closeAllBreaks}
 use Rattle.pins.specs.Pins.{codeOf, bankOf, addressOf, tenOf, lowOf, quietCode}
-use Rattle.steps.specs.Steps.{unlessLower, highBreaks, stepBreaks, stepAfter, paceAfter}
+use Rattle.steps.specs.Steps.{unlessLower, highBreaks, Quiet, stepBreaks, stepAfter, paceAfter}
 use Rattle.steps.proofs.Codes as codes
 use Rattle.pins.proofs.Pins.{turned, op-is}
 use Rattle.bridge.specs.Summary.{Held, laid, summary, from}
@@ -206,7 +206,7 @@ module _ (s : Settings) (wide : s .rowBits < 32) (p : Part) (from₀ t : ℕ) (l
       which true = refl
       which false = refl
 
-  turn-quiet : lowOf w ≡ false → (q : ℕ) → codeOf w ≡ q → codes.Quiet s (laid X) (paceOf (p .mode)) t w q → opOf (turned q) ≡ NOP → Turned (commandOf w)
+  turn-quiet : lowOf w ≡ false → (q : ℕ) → codeOf w ≡ q → Quiet q → opOf (turned q) ≡ NOP → Turned (commandOf w)
   unfolding b a ten
   turn-quiet k q e n o =
       turn q c (carries w q false k e ∙ ap (λ (y : Op). does y b a ten) o) (codes.quiet s (laid X) (paceOf (p .mode)) t w (sym e) k n) (quiet s p t early b a ten)
@@ -215,7 +215,7 @@ module _ (s : Settings) (wide : s .rowBits < 32) (p : Part) (from₀ t : ℕ) (l
       c : Command
       c = does NOP b a ten
 
-  turn-deselect : lowOf w ≡ false → (q : ℕ) → codeOf w ≡ q → codes.Quiet s (laid X) (paceOf (p .mode)) t w q → opOf (turned q) ≡ DESELECT → Turned (commandOf w)
+  turn-deselect : lowOf w ≡ false → (q : ℕ) → codeOf w ≡ q → Quiet q → opOf (turned q) ≡ DESELECT → Turned (commandOf w)
   unfolding b a ten
   turn-deselect k q e n o =
       turn q c (carries w q false k e ∙ ap (λ (y : Op). does y b a ten) o) (codes.quiet s (laid X) (paceOf (p .mode)) t w (sym e) k n) (deselect s p t early b a ten)
@@ -225,7 +225,7 @@ module _ (s : Settings) (wide : s .rowBits < 32) (p : Part) (from₀ t : ℕ) (l
       c = does DESELECT b a ten
 
   -- the seven commands have the even codes below 14
-  silent : (q : ℕ) → ((n : ℕ) → n < 7 → q ≡ 2 * n → ⊥) → codes.Quiet s (laid X) (paceOf (p .mode)) t w q
+  silent : (q : ℕ) → ((n : ℕ) → n < 7 → q ≡ 2 * n → ⊥) → Quiet q
   silent q f =
       record {
         no-active = f 6 (omega arith);
@@ -239,7 +239,7 @@ module _ (s : Settings) (wide : s .rowBits < 32) (p : Part) (from₀ t : ℕ) (l
 
   -- ---- with CKE low
 
-  turn-low-quiet : lowOf w ≡ true → (q : ℕ) → codeOf w ≡ q → codes.Quiet s (laid X) (paceOf (p .mode)) t w q → opOf (turned q) ≡ NOP → Turned (commandOf w)
+  turn-low-quiet : lowOf w ≡ true → (q : ℕ) → codeOf w ≡ q → Quiet q → opOf (turned q) ≡ NOP → Turned (commandOf w)
   unfolding b a ten
   turn-low-quiet k q e n o =
       turn q c (carries w q true k e ∙ ap (λ (y : Op). doesLow y b a ten) o) (codes.low-quiet s (laid X) (paceOf (p .mode)) t w (sym e) k n)
@@ -249,7 +249,7 @@ module _ (s : Settings) (wide : s .rowBits < 32) (p : Part) (from₀ t : ℕ) (l
       c : Command
       c = doesLow NOP b a ten
 
-  turn-low-deselect : lowOf w ≡ true → (q : ℕ) → codeOf w ≡ q → codes.Quiet s (laid X) (paceOf (p .mode)) t w q → opOf (turned q) ≡ DESELECT →
+  turn-low-deselect : lowOf w ≡ true → (q : ℕ) → codeOf w ≡ q → Quiet q → opOf (turned q) ≡ DESELECT →
       Turned (commandOf w)
   unfolding b a ten
   turn-low-deselect k q e n o =

@@ -21,7 +21,9 @@ use Rattle.settings.proofs.Fitting.{at-most, mode-valid}
 use Rattle.settings.specs.declared.Checked.{Checked}
 use Rattle.settings.specs.declared.Checked.the-variants as checked
 use Rattle.settings.specs.Meaning as check
-use Rattle.capture.proofs.Accepted.{Sound, accepted-sound, accepted-rest, refused-rest}
+use Rattle.settings.specs.Meaning.{padded}
+use Rattle.settings.proofs.Padded.{padded-at, padded-settings}
+use Rattle.capture.proofs.Accepted.{Sound, count-range, accepted-sound, accepted-rest, refused-rest}
 use Rattle.judge.specs.Meaning.{eventsIn}
 use Rattle.judge.proofs.Judging as judging
 use Rattle.cells.specs.Meaning.{Listable, cellsOn, lackingIn, listing}
@@ -91,7 +93,7 @@ module _ (c : List ℕ) (buffer : List ℕ) (o : Checked) (opened : check.means 
       (refused-rest c (unless 8 (notClean (verdictIn c)) (fitting buffer (cellsIn c))) (sym opened ∙ ap check.means e)))
 
   module _ (fine : o ≡ checked.Fine) {settings : List ℕ} {n : ℕ} {bytes : List ℕ}
-      (e : settings ≡ settingWords c) (f : n ≡ eventCount c) (g : bytes ≡ eventBytes c) where
+      (e : settings ≡ padded (settingWords c)) (f : n ≡ eventCount c) (g : bytes ≡ eventBytes c) where
     open-to : accepted c (answered (tt {0})) ≡ answered tt
     open-to = sym opened ∙ ap check.means fine
 
@@ -103,16 +105,18 @@ module _ (c : List ℕ) (buffer : List ℕ) (o : Checked) (opened : check.means 
         record {
           fit = judging.fit c o opened fine e f g;
           sized =
-              rw e
+              rw (e, padded-settings (settingWords c))
               (record {
-                rows = at-most 1 (getD (settingWords c) 1 0) (sound .settings 1 (omega arith));
-                columns = at-most 2 (getD (settingWords c) 2 0) (sound .settings 2 (omega arith));
+                rows = at-most 1 (getD (settingWords c) 1 0) (sound .settings 1 (omega (arith, count-range c .0)));
+                columns = at-most 2 (getD (settingWords c) 2 0) (sound .settings 2 (omega (arith, count-range c .0)));
               });
-          moded = rw e (mode-valid (getD (settingWords c) 3 0) (sound .settings 3 (omega arith)));
+          moded =
+              rw (e, padded-at (settingWords c) 3)
+              (mode-valid (getD (settingWords c) 3 0) (sound .settings 3 (omega (arith, count-range c .0))));
         }
 
     pub listed-so : {a : Answer ℕ} {out : List ℕ} → Meets a out (listing (settingsOf settings) bytes n buffer) → Meets a out (cellsOutcome c buffer)
     listed-so {a} {out} m = (m .0 ∙ ap (λ (x : Outcome). x .answer) same, m .1 ∙ ap (λ (x : Outcome). x .buffer) same)
       where
         same : listing (settingsOf settings) bytes n buffer ≡ cellsOutcome c buffer
-        same = rw (e, f, g) (on-capture c buffer open-to)
+        same = rw (e, padded-settings (settingWords c), f, g) (on-capture c buffer open-to)

@@ -29,7 +29,7 @@ use Rattle.deadlines.proofs.sums.latest.Reads as deadlines-sums-latest
 use Rattle.deadlines.proofs.sums.pick.Reads as deadlines-sums-pick
 use Rattle.deadlines.proofs.sums.pace.Reads as deadlines-sums-pace
 use Rattle.deadlines.proofs.sums.rows.Reads as deadlines-sums-rows
-use Rattle.rules.proofs.due_breaks.Reads as rules-due-breaks
+use Rattle.deadlines.proofs.clock.overdue_from.Reads as deadlines-clock-overdue-from
 use Rattle.rules.proofs.active_breaks.Reads as rules-active-breaks
 use Rattle.rules.proofs.read_breaks.Reads as rules-read-breaks
 use Rattle.rules.proofs.write_breaks.Reads as rules-write-breaks
@@ -38,6 +38,8 @@ use Rattle.rules.proofs.close_breaks.Reads as rules-close-breaks
 use Rattle.rules.proofs.close_all_breaks.Reads as rules-close-all-breaks
 use Rattle.rules.proofs.refresh_breaks.Reads as rules-refresh-breaks
 use Rattle.rules.proofs.mode_breaks.Reads as rules-mode-breaks
+use Rattle.rules.proofs.enter_breaks.Reads as rules-enter-breaks
+use Rattle.rules.proofs.self_breaks.Reads as rules-self-breaks
 use Rattle.effects.proofs.active_after.Reads as effects-active-after
 use Rattle.effects.proofs.read_after.Reads as effects-read-after
 use Rattle.effects.proofs.write_after.Reads as effects-write-after
@@ -47,6 +49,9 @@ use Rattle.effects.proofs.close_all_after.Reads as effects-close-all-after
 use Rattle.effects.proofs.refresh_after.Reads as effects-refresh-after
 use Rattle.effects.proofs.mode_set_after.Reads as effects-mode-set-after
 use Rattle.effects.proofs.start.Reads as effects-start
+use Rattle.effects.proofs.enter_after.Reads as effects-enter-after
+use Rattle.effects.proofs.self_after.Reads as effects-self-after
+use Rattle.effects.proofs.leave_after.Reads as effects-leave-after
 use Rattle.part.proofs.step.Reads as part-step
 use Rattle.judge.proofs.walk.Reads as judge-walk
 use Rattle.judge.proofs.judge.Reads as judge-judge
@@ -71,12 +76,13 @@ use Rattle.morgazell.proofs.morgazell_judge.Reads as morgazell-morgazell-judge
 use Rattle.morgazell.proofs.morgazell_cells.Reads as morgazell-morgazell-cells
 use Rattle.morgazell.proofs.morgazell_schedule.Reads as morgazell-morgazell-schedule
 use Rattle.capture.proofs.event_bytes.Reads as capture-event-bytes
-use Rattle.deadlines.proofs.clock.due_at_start.Reads as deadlines-clock-due-at-start
-use Rattle.deadlines.proofs.clock.due_after_refresh.Reads as deadlines-clock-due-after-refresh
+use Rattle.capture.proofs.events_start.Reads as capture-events-start
 use Rattle.pins.proofs.code.Reads as pins-code
 use Rattle.pins.proofs.bank.Reads as pins-bank
 use Rattle.pins.proofs.address.Reads as pins-address
 use Rattle.pins.proofs.ten.Reads as pins-ten
+use Rattle.pins.proofs.wide_code.Reads as pins-wide-code
+use Rattle.pins.proofs.low.Reads as pins-low
 
 -- ---- words
 
@@ -123,6 +129,10 @@ pub capture-event-bytes-settles : (κs : _) (a : _) (z z′ : _) (e e′ : _) �
     now z ≡ now z′
 capture-event-bytes-settles κs a z z′ e e′ p q = p ∙ sym q
 
+pub capture-events-start-settles : (κs : _) (a : _) (z z′ : _) (e e′ : _) → capture-events-start.Post κs a z e → capture-events-start.Post κs a z′ e′ →
+    z ≡ z′
+capture-events-start-settles κs a z z′ e e′ p q = p .0 ∙ sym (q .0)
+
 -- ---- deadlines
 
 pub deadlines-sums-past-settles : (κs : _) (a : _) (z z′ : _) (e e′ : _) → deadlines-sums-past.Post κs a z e → deadlines-sums-past.Post κs a z′ e′ →
@@ -165,13 +175,9 @@ pub deadlines-sums-rows-settles : (κs : _) (a : _) (z z′ : _) (e e′ : _) �
     z ≡ z′
 deadlines-sums-rows-settles κs a z z′ e e′ p q = p ∙ sym q
 
-pub deadlines-clock-due-at-start-settles : (κs : _) (a : _) (z z′ : _) (e e′ : _) → deadlines-clock-due-at-start.Post κs a z e → deadlines-clock-due-at-start.Post κs a z′ e′ →
+pub deadlines-clock-overdue-from-settles : (κs : _) (a : _) (z z′ : _) (e e′ : _) → deadlines-clock-overdue-from.Post κs a z e → deadlines-clock-overdue-from.Post κs a z′ e′ →
     z ≡ z′
-deadlines-clock-due-at-start-settles κs a z z′ e e′ p q = p ∙ sym q
-
-pub deadlines-clock-due-after-refresh-settles : (κs : _) (a : _) (z z′ : _) (e e′ : _) → deadlines-clock-due-after-refresh.Post κs a z e → deadlines-clock-due-after-refresh.Post κs a z′ e′ →
-    z ≡ z′
-deadlines-clock-due-after-refresh-settles κs a z z′ e e′ p q = p ∙ sym q
+deadlines-clock-overdue-from-settles κs a z z′ e e′ p q = p ∙ sym q
 
 -- ---- pins
 
@@ -187,10 +193,13 @@ pins-address-settles κs a z z′ e e′ p q = p .0 ∙ sym (q .0)
 pub pins-ten-settles : (κs : _) (a : _) (z z′ : _) (e e′ : _) → pins-ten.Post κs a z e → pins-ten.Post κs a z′ e′ → z ≡ z′
 pins-ten-settles κs a z z′ e e′ p q = p ∙ sym q
 
--- ---- rules
+pub pins-wide-code-settles : (κs : _) (a : _) (z z′ : _) (e e′ : _) → pins-wide-code.Post κs a z e → pins-wide-code.Post κs a z′ e′ → z ≡ z′
+pins-wide-code-settles κs a z z′ e e′ p q = p ∙ sym q
 
-pub rules-due-breaks-settles : (κs : _) (a : _) (z z′ : _) (e e′ : _) → rules-due-breaks.Post κs a z e → rules-due-breaks.Post κs a z′ e′ → z ≡ z′
-rules-due-breaks-settles κs a z z′ e e′ p q = p ∙ sym q
+pub pins-low-settles : (κs : _) (a : _) (z z′ : _) (e e′ : _) → pins-low.Post κs a z e → pins-low.Post κs a z′ e′ → z ≡ z′
+pins-low-settles κs a z z′ e e′ p q = p ∙ sym q
+
+-- ---- rules
 
 pub rules-active-breaks-settles : (κs : _) (a : _) (z z′ : _) (e e′ : _) → rules-active-breaks.Post κs a z e → rules-active-breaks.Post κs a z′ e′ →
     z ≡ z′
@@ -221,6 +230,13 @@ rules-refresh-breaks-settles κs a z z′ e e′ p q = p ∙ sym q
 
 pub rules-mode-breaks-settles : (κs : _) (a : _) (z z′ : _) (e e′ : _) → rules-mode-breaks.Post κs a z e → rules-mode-breaks.Post κs a z′ e′ → z ≡ z′
 rules-mode-breaks-settles κs a z z′ e e′ p q = p ∙ sym q
+
+pub rules-enter-breaks-settles : (κs : _) (a : _) (z z′ : _) (e e′ : _) → rules-enter-breaks.Post κs a z e → rules-enter-breaks.Post κs a z′ e′ →
+    z ≡ z′
+rules-enter-breaks-settles κs a z z′ e e′ p q = p ∙ sym q
+
+pub rules-self-breaks-settles : (κs : _) (a : _) (z z′ : _) (e e′ : _) → rules-self-breaks.Post κs a z e → rules-self-breaks.Post κs a z′ e′ → z ≡ z′
+rules-self-breaks-settles κs a z z′ e e′ p q = p ∙ sym q
 
 -- ---- effects
 
@@ -258,6 +274,18 @@ effects-mode-set-after-settles κs a z z′ e e′ p q = p ∙ sym q
 
 pub effects-start-settles : (κs : _) (a : _) (z z′ : _) (e e′ : _) → effects-start.Post κs a z e → effects-start.Post κs a z′ e′ → z ≡ z′
 effects-start-settles κs a z z′ e e′ p q = p ∙ sym q
+
+pub effects-enter-after-settles : (κs : _) (a : _) (z z′ : _) (e e′ : _) → effects-enter-after.Post κs a z e → effects-enter-after.Post κs a z′ e′ →
+    now (e .0) ≡ now (e′ .0)
+effects-enter-after-settles κs a z z′ e e′ p q = p ∙ sym q
+
+pub effects-self-after-settles : (κs : _) (a : _) (z z′ : _) (e e′ : _) → effects-self-after.Post κs a z e → effects-self-after.Post κs a z′ e′ →
+    now (e .0) ≡ now (e′ .0)
+effects-self-after-settles κs a z z′ e e′ p q = p ∙ sym q
+
+pub effects-leave-after-settles : (κs : _) (a : _) (z z′ : _) (e e′ : _) → effects-leave-after.Post κs a z e → effects-leave-after.Post κs a z′ e′ →
+    now (e .1 .0) ≡ now (e′ .1 .0)
+effects-leave-after-settles κs a z z′ e e′ p q = p ∙ sym q
 
 -- ---- part
 

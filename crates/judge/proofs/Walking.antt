@@ -17,8 +17,8 @@ use Rattle.reading.specs.Part.{Part, start, step, run}
 use Rattle.reading.specs.Rules.{keepsRule, rules, brokenBy}
 use Rattle.reading.specs.Verdict as is
 use Rattle.reading.specs.Verdict.{broken, brokenOr, judgeFrom, verdictOf, judgedOf, judgeBy, verdictBy}
-use Rattle.capture.proofs.Accepted.{cycle-rises}
-use Rattle.deadlines.specs.Deadlines.{paceOf}
+use Rattle.capture.proofs.Accepted.{cycle-fits, cycle-rises}
+use Rattle.deadlines.specs.Deadlines.{FAR, paceOf}
 use Rattle.part.specs.declared.Answer.{Answer}
 use Rattle.part.specs.declared.Answer.the-variants.{Kept, Broke}
 use Rattle.part.specs.Means.{means}
@@ -119,8 +119,11 @@ module _ (settings bytes : List ℕ) (n : ℕ) where
     abbrev w : ℕ
     w = eventAt bytes i .pins
 
-    turn : Turned s (fit .rows) (b .reached) (b .from) t (b .above l) (b .sound) w (commandOf w)
-    turn = turned-event s (fit .rows) (b .reached) (b .from) (eventAt bytes i .cycle) (b .above l) (b .sound) (eventAt bytes i .pins)
+    early : t < FAR
+    early = omega (arith, cycle-fits bytes i (fit .events i l))
+
+    turn : Turned s (fit .rows) (b .reached) (b .from) t (b .above l) early (b .sound) w (commandOf w)
+    turn = turned-event s (fit .rows) (b .reached) (b .from) (eventAt bytes i .cycle) (b .above l) early (b .sound) (eventAt bytes i .pins)
 
     -- the step's answer is the reading's
     breaks-is : stepBreaks s d t w ≡ num (brokenBy s (b .reached) (eventAt bytes i))

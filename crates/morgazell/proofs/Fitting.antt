@@ -23,7 +23,7 @@ use Rattle.reading.specs.Schedule.{Schedule, planned, late, requestFits, badReq
 use Rattle.reading.specs.Answers.{Answer, Report, refused, answered, unless, accepted, settingsIn, verdictIn, judgeAnswer, leaves, fitting, notClean, cellsIn, cellsOutcome, whenPlanned, scheduleOutcome}
 use Rattle.reading.proofs.Meaning.{BrokenAt, verdict-broken}
 use Rattle.reading.proofs.Cuts.{All, nil, cons, Whole, bursts-whole}
-use Rattle.capture.proofs.Accepted.{sized, words-count}
+use Rattle.capture.proofs.Accepted.{sized, count-range, words-count}
 use Rattle.beats.proofs.Columns.{half-le}
 use Rattle.judge.proofs.Events.{length-count}
 use Rattle.plan.proofs.Ready.{few-requests}
@@ -70,13 +70,13 @@ at-zero : (b : Bool) (place : ℕ) → given 0 b ≡ some place → Value place
 at-zero true place e = let z : 0 ≡ place = cc in omega arith
 at-zero false place e = let z : _≡_ {A = ℕ} 0 1 = cc in absurd (omega arith)
 
-bad-setting : (ws : List ℕ) (place : ℕ) → length ws ≤ 14 → badSetting ws ≡ some place → Value place
+bad-setting : (ws : List ℕ) (place : ℕ) → length ws ≤ 16 → badSetting ws ≡ some place → Value place
 unfolding badSetting
 bad-setting ws place l e = omega (arith, below (λ i. not (settingFits i (getD ws i 0))) (length ws) place e)
 
-bad-event : (bits : ℕ) (bytes : List ℕ) (n place : ℕ) → n ≤ 8000 → badEvent limit bytes n ≡ some place → Value place
+bad-event : (limit : ℕ) (bytes : List ℕ) (n place : ℕ) → n ≤ 8000 → badEvent limit bytes n ≡ some place → Value place
 unfolding badEvent
-bad-event bits bytes n place l e = omega (arith, below (λ i. not (eventFits limit bytes i)) n place e)
+bad-event limit bytes n place l e = omega (arith, below (λ i. not (eventFits limit bytes i)) n place e)
 
 -- what holds of small refusals, and of what follows when there are at most 8,000 events, holds
 pub on-accepted : {A : Type 0} (P : Answer A → Type 0) (capture : List ℕ) (rest : Answer A) →
@@ -90,7 +90,7 @@ on-accepted {A} P capture rest refusing going-on =
         badEvent (pinLimit capture) (eventBytes capture) (eventCount capture) ≡ d → P (unless 1 a (unless 2 b (unless 3 c (unless 4 d rest))))
     go (some place) b c d p q r s = refusing 1 place (omega arith) (at-zero (not (lengthFits capture)) place p)
     go none (some place) c d p q r s = refusing 2 place (omega arith) (at-zero (not (headerFits capture)) place q)
-    go none none (some place) d p q r s = refusing 3 place (omega arith) (bad-setting (settingWords capture) place (omega (arith, words-count capture)) r)
+    go none none (some place) d p q r s = refusing 3 place (omega arith) (bad-setting (settingWords capture) place (omega (arith, words-count capture, count-range capture .1)) r)
     go none none none (some place) p q r s = refusing 4 place (omega arith) (bad-event (pinLimit capture) (eventBytes capture) (eventCount capture) place (few capture p q) s)
     go none none none none p q r s = going-on (few capture p q)
 

@@ -1,15 +1,14 @@
 -- NOP and DESELECT by the number of the five pins.
 use Prim.Native.Nat.{ℕ, _+_, _%_, _≤_, _<_}
 use mathlib.Core.Bool.{true, false}
-use mathlib.Core.List.{List, [], _∷_}
+use mathlib.Core.List.{[], _∷_}
 use mathlib.Core.Logic.{inl, inr}
 use mathlib.Core.Path.{_≡_, refl}
 use native.Mathlib.Omega.{arith}
 use types.Run.{OneOf}
-use Rattle.reading.specs.Settings.{Settings}
 use Rattle.pins.specs.Pins.{codeOf, wideCodeOf, lowOf}
 use Rattle.pins.proofs.Pins.{high-at, low-at}
-use Rattle.steps.proofs.Codes.{Quiet}
+use Rattle.steps.specs.Steps.{Quiet}
 
 abbrev Odd : ℕ → Type 0
 Odd = OneOf (1 ∷ 3 ∷ 5 ∷ 7 ∷ 9 ∷ 11 ∷ 13 ∷ 15 ∷ [])
@@ -17,11 +16,8 @@ Odd = OneOf (1 ∷ 3 ∷ 5 ∷ 7 ∷ 9 ∷ 11 ∷ 13 ∷ 15 ∷ [])
 abbrev OddLow : ℕ → Type 0
 OddLow = OneOf (17 ∷ 19 ∷ 21 ∷ 23 ∷ 25 ∷ 27 ∷ 29 ∷ [])
 
-module _ (s : Settings) (d m : List ℕ) (t w : ℕ) where
-  abbrev Silent : Type 0
-  Silent = Quiet s d m t w (codeOf w)
-
-  pub nop-quiet : codeOf w ≡ 14 → Silent
+module _ (w : ℕ) where
+  pub nop-quiet : codeOf w ≡ 14 → Quiet (codeOf w)
   nop-quiet e =
       record {
         no-active = λ f. omega (arith, e, f);
@@ -33,7 +29,7 @@ module _ (s : Settings) (d m : List ℕ) (t w : ℕ) where
         no-mode-set = λ f. omega (arith, e, f);
       }
 
-  odd-quiet : codeOf w % 2 ≡ 1 → Silent
+  odd-quiet : codeOf w % 2 ≡ 1 → Quiet (codeOf w)
   odd-quiet e =
       record {
         no-active = λ f. omega (arith, e, f);
@@ -45,10 +41,10 @@ module _ (s : Settings) (d m : List ℕ) (t w : ℕ) where
         no-mode-set = λ f. omega (arith, e, f);
       }
 
-  high-odd : (k : ℕ) → k % 2 ≡ 1 → k < 16 → {q : ℕ} → q ≡ wideCodeOf w → q ≡ k → (lowOf w ≡ false) × Silent
+  high-odd : (k : ℕ) → k % 2 ≡ 1 → k < 16 → {q : ℕ} → q ≡ wideCodeOf w → q ≡ k → (lowOf w ≡ false) × Quiet (codeOf w)
   high-odd k o l told e = let (n, c) = high-at w k told e l in (n, odd-quiet (omega (arith, o, c)))
 
-  pub deselects : {q : ℕ} → q ≡ wideCodeOf w → Odd q → (lowOf w ≡ false) × Silent
+  pub deselects : {q : ℕ} → q ≡ wideCodeOf w → Odd q → (lowOf w ≡ false) × Quiet (codeOf w)
   deselects told (inl e) = high-odd 1 refl (omega arith) told e
   deselects told (inr (inl e)) = high-odd 3 refl (omega arith) told e
   deselects told (inr (inr (inl e))) = high-odd 5 refl (omega arith) told e
@@ -58,10 +54,10 @@ module _ (s : Settings) (d m : List ℕ) (t w : ℕ) where
   deselects told (inr (inr (inr (inr (inr (inr (inl e))))))) = high-odd 13 refl (omega arith) told e
   deselects told (inr (inr (inr (inr (inr (inr (inr e))))))) = high-odd 15 refl (omega arith) told e
 
-  low-odd : (k : ℕ) → k % 2 ≡ 1 → {q : ℕ} → q ≡ wideCodeOf w → q ≡ k + 16 → (lowOf w ≡ true) × Silent
+  low-odd : (k : ℕ) → k % 2 ≡ 1 → {q : ℕ} → q ≡ wideCodeOf w → q ≡ k + 16 → (lowOf w ≡ true) × Quiet (codeOf w)
   low-odd k o told e = let (n, c) = low-at w k told e in (n, odd-quiet (omega (arith, o, c)))
 
-  pub deselects-low : {q : ℕ} → q ≡ wideCodeOf w → OddLow q → (lowOf w ≡ true) × Silent
+  pub deselects-low : {q : ℕ} → q ≡ wideCodeOf w → OddLow q → (lowOf w ≡ true) × Quiet (codeOf w)
   deselects-low told (inl e) = low-odd 1 refl told e
   deselects-low told (inr (inl e)) = low-odd 3 refl told e
   deselects-low told (inr (inr (inl e))) = low-odd 5 refl told e

@@ -13,7 +13,7 @@ use Rattle.reading.specs.RefreshClock.{inTime}
 use Rattle.reading.specs.Capture.{Event}
 use Rattle.reading.specs.Commands.{Command, AUTO-REFRESH, is, quiet, commandOf}
 use Rattle.reading.specs.Sleep.{Sleep, sleepAtStart, inSelfRefresh, sleepAfter, sleepAllows}
-use Rattle.reading.specs.Part.{Part, start, step, run, clockAfter, refreshes}
+use Rattle.reading.specs.Part.{Part, start, step, run, clockAfter}
 use Rattle.reading.specs.Rules.{rule14, rule15, dataOver}
 use Rattle.plan.specs.Behind.{partOf}
 use Rattle.plan.proofs.Reached.{Rises, Reached}

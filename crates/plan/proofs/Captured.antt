@@ -9,7 +9,7 @@ use native.Mathlib.Omega.{arith}
 use lib.Dec.{leb, eqb, eqb·suc-zero}
 use lib.ListN.{length, getD, drop, length-append, List·getD-append}
 use lib.Seq.{getD-append-add}
-use borrow.Author.Tests.{leb-true, le-leb, lt-ltb, le-ltb, eq-eqb}
+use borrow.Author.Tests.{leb-true, le-leb, lt-ltb, eq-eqb}
 use Rattle.reading.specs.Search.{every, find, count}
 use Rattle.reading.specs.Words.{wordAt, bytesOf}
 use Rattle.reading.specs.Settings.{Limits, settingsCount, sleepingCount, limits, settingsOf, settingFits, badSetting}
@@ -118,7 +118,8 @@ module _ (ws : List ℕ) (es : List Event) (fourteen : length ws ≡ 14) where
   pub in-words : captureOf ws es ≡ bytesOf all
   unfolding captureOf
   in-words =
-      ap (λ (n : ℕ). bytesOf ((captureSize n (length es) ∷ n ∷ settingsStart ∷ length es ∷ eventsStart n ∷ 0 ∷ []) ++ ws ++ eventWords es)) fourteen
+      let size : ℕ → ℕ = λ n. captureSize n (length es) in
+      ap (λ (n : ℕ). bytesOf ((size n ∷ n ∷ settingsStart ∷ length es ∷ eventsStart n ∷ 0 ∷ []) ++ ws ++ eventWords es)) fourteen
 
   pub size : length (captureOf ws es) ≡ 80 + 8 * length es
   size = ap length in-words ∙ omega (arith, bytesOf-length all, all-length)
@@ -171,7 +172,11 @@ module _ (ws : List ℕ) (es : List Event) (fourteen : length ws ≡ 14) (good :
       let m : 80 + 4 * j ≡ 4 * (20 + j) = omega arith in
       let n : 20 ≡ length (header es ++ ws) = omega (arith, length-append (header es) ws) in
       let f : getD W (20 + j) 0 ≡ v = ap (λ (x : ℕ). getD W (x + j) 0) n ∙ getD-append-add (header es ++ ws) (eventWords es) j 0 ∙ e in
-      ap (λ (n : ℕ). wordAt (drop (eventsStart n) C) (4 * j)) held ∙ word-drop 80 C (4 * j) ∙ ap (wordAt C) m ∙ word ws es fourteen (20 + j) (omega (arith, all-length ws es fourteen)) (rw f k) ∙ f
+      ap (λ (n : ℕ). wordAt (drop (eventsStart n) C) (4 * j)) held
+      ∙ word-drop 80 C (4 * j)
+      ∙ ap (wordAt C) m
+      ∙ word ws es fourteen (20 + j) (omega (arith, all-length ws es fourteen)) (rw f k)
+      ∙ f
 
   cycle-back : (i : ℕ) → i < length es → eventAt (eventBytes C) i .cycle ≡ eventOf es i .cycle
   cycle-back i l =

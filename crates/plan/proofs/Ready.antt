@@ -53,8 +53,8 @@ in-time-is {s} g {es} r idle =
     ∙ sym (ap (λ (asleep : Bool). ltb (later (freeFrom 0 es) (refreshSoonest (deadlinesOf s es))) (cond asleep 0 (overdueOf s es))) (awake-now r))
 
 -- a command in time for rule 14
-timely-clean : {s : Settings} {es : List Event} {pins soonest : ℕ} {d : List ℕ} → Reached s es → Sent s es pins soonest d → verdictOf s es ≡ clean →
-    placed placing s es pins < overdueOf s es → verdictOf s (send placing s es pins) ≡ clean
+timely-clean : {s : Settings} {es : List Event} {pins soonest : ℕ} {d : List ℕ} → Reached s es → Sent s es pins soonest d →
+    verdictOf s es ≡ clean → placed placing s es pins < overdueOf s es → verdictOf s (send placing s es pins) ≡ clean
 timely-clean {s} {es} {pins} r w c l =
     let p = partOf s es in
     let t = placed placing s es pins in

@@ -75,15 +75,16 @@ clean-more s p i (x ∷ es) e c n = go (brokenBy s p x) c (λ k. clean-more s (s
     go none k ih = ih k
     go (some r) k ih = let z : _≡_ {A = ℕ} 0 1 = cc in absurd (omega arith)
 
--- a list of rules, and two more
-none-with : (f : ℕ → Bool) (r₁ r₂ : ℕ) → f r₁ ≡ true → f r₂ ≡ true → (rs : List ℕ) → every f rs ≡ true → find (λ q. not (f q)) (rs ++ (r₁ ∷ r₂ ∷ [])) ≡ none
-none-with f r₁ r₂ a b [] k = rw (a, b)
-none-with f r₁ r₂ a b (q ∷ rs) k = go (f q) refl k (none-with f r₁ r₂ a b rs)
+-- a list of rules that pass, and others
+none-with : (f : ℕ → Bool) (others : List ℕ) → find (λ r. not (f r)) others ≡ none → (rs : List ℕ) → every f rs ≡ true →
+    find (λ r. not (f r)) (rs ++ others) ≡ none
+none-with f others a [] k = a
+none-with f others a (r ∷ rs) k = go (f r) k (none-with f others a rs)
   where
-    go : (v : Bool) → f q ≡ v → (v && every f rs) ≡ true → (every f rs ≡ true → find (λ x. not (f x)) (rs ++ (r₁ ∷ r₂ ∷ [])) ≡ none) →
-        cond (not v) (some q) (find (λ x. not (f x)) (rs ++ (r₁ ∷ r₂ ∷ []))) ≡ none
-    go true e k ih = ih k
-    go false e k ih = let z : _≡_ {A = ℕ} 0 1 = cc in absurd (omega arith)
+    go : (v : Bool) → (v && every f rs) ≡ true → (every f rs ≡ true → find (λ x. not (f x)) (rs ++ others) ≡ none) →
+        cond (not v) (some r) (find (λ x. not (f x)) (rs ++ others)) ≡ none
+    go true k ih = ih k
+    go false k ih = let z : _≡_ {A = ℕ} 0 1 = cc in absurd (omega arith)
 
 -- ---- a command behind a list of events
 
@@ -107,13 +108,15 @@ module _ (s : Settings) (es : List Event) (pins : ℕ) where
   unfolding send
   part-sent = run-more s (start s) es event
 
+  abbrev keeps : ℕ → Bool
+  keeps r = keepsRule r s (partOf s es) (placed placing s es pins) (commandOf pins)
+
   -- where rules 1 to 13 pass it, and 14 and 15 too, it is judged clean
   pub clean-sent : verdictOf s es ≡ clean → passes placing s (partOf s es) pins (placed placing s es pins) ≡ true →
-      rule14 s (partOf s es) (placed placing s es pins) (commandOf pins) ≡ true → rule15 s (partOf s es) (placed placing s es pins) (commandOf pins) ≡ true →
-      verdictOf s (send placing s es pins) ≡ clean
+      rule14 s (partOf s es) (placed placing s es pins) (commandOf pins) ≡ true →
+      rule15 s (partOf s es) (placed placing s es pins) (commandOf pins) ≡ true → verdictOf s (send placing s es pins) ≡ clean
   unfolding verdictBy send passes
-  clean-sent c k l m =
-      clean-more s (start s) 0 es event c (none-with (λ r. keepsRule r s (partOf s es) (placed placing s es pins) (commandOf pins)) 14 15 l m placing k)
+  clean-sent c k l m = clean-more s (start s) 0 es event c (none-with keeps (14 ∷ 15 ∷ []) (rw (l, m)) placing k)
 
 -- rules 1 to 13 pass it from the cycle `soonest` on, which is not far
 pub record Goes (s : Settings) (es : List Event) (pins soonest : ℕ) : Type 0 where

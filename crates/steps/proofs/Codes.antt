@@ -9,7 +9,7 @@ use Rattle.reading.specs.Settings.{Settings}
 use Rattle.deadlines.specs.Deadlines.{quietBreaks, lowBreaks, selfBreaks, activeBreaks, readBreaks, writeBreaks, terminateBreaks, closeBreaks, closeAllBreaks, refreshBreaks, modeBreaks}
 use Rattle.deadlines.specs.Deadlines.{paceOf, quietAfter, lowAfter, selfAfter, activeAfter, readAfter, writeAfter, cutRead, closeAfter, closeAllAfter, refreshAfter, modeSetAfter}
 use Rattle.pins.specs.Pins.{codeOf, bankOf, addressOf, tenOf, lowOf, quietCode}
-use Rattle.steps.specs.Steps.{leftBy, unlessLower, highBreaks, stepBreaks, stepAfter, paceAfter}
+use Rattle.steps.specs.Steps.{leftBy, unlessLower, highBreaks, Quiet, stepBreaks, stepAfter, paceAfter}
 
 module _ (s : Settings) (d m : List ℕ) (t w : ℕ) where
   -- which rule a step breaks, the deadlines after it, and h and CL
@@ -52,16 +52,6 @@ module _ (s : Settings) (d m : List ℕ) (t w : ℕ) where
       Does (modeBreaks d t b a) (modeSetAfter s d t) (cond (eqb b 0) (paceOf a) m)
   unfolding stepBreaks stepAfter paceAfter
   mode-set f g n e = record { breaks = rw (f, g, n, e); leaves = rw (n, e); sets = rw (f, g, e) }
-
-  -- none of the seven
-  pub record Quiet (q : ℕ) : Type 0 where
-    pub no-active : q ≡ 12 → ⊥
-    pub no-read : q ≡ 10 → ⊥
-    pub no-write : q ≡ 2 → ⊥
-    pub no-close : q ≡ 4 → ⊥
-    pub no-terminate : q ≡ 6 → ⊥
-    pub no-refresh : q ≡ 8 → ⊥
-    pub no-mode-set : q ≡ 0 → ⊥
 
   pub quiet : {q : ℕ} → q ≡ codeOf w → lowOf w ≡ false → Quiet q → Does (quietBreaks d t) (quietAfter s d t) m
   unfolding stepBreaks stepAfter paceAfter

@@ -9,8 +9,8 @@ use Rattle.reading.specs.Settings.{Settings}
 use Rattle.deadlines.specs.Deadlines.{lowBreaks, selfBreaks, activeBreaks, readBreaks, writeBreaks, terminateBreaks, closeBreaks, closeAllBreaks, modeBreaks}
 use Rattle.deadlines.specs.Deadlines.{paceOf, lowAfter, selfAfter}
 use Rattle.pins.specs.Pins.{codeOf, bankOf, addressOf, tenOf, lowOf, quietCode}
-use Rattle.steps.specs.Steps.{leftBy, unlessLower, highBreaks, lowStepAfter, stepBreaks, stepAfter, paceAfter}
-use Rattle.steps.proofs.Codes.{Quiet, low-quiet, low-refresh, low-command, Meets, untouched}
+use Rattle.steps.specs.Steps.{leftBy, unlessLower, highBreaks, Quiet, lowStepAfter, stepBreaks, stepAfter, paceAfter}
+use Rattle.steps.proofs.Codes.{low-quiet, low-refresh, low-command, Meets, untouched}
 
 -- a command that may not come leaves nothing
 never-left : (rule : ℕ) (after before : List ℕ) → before ≡ leftBy (unlessLower rule) after before
@@ -24,7 +24,7 @@ module _ (s : Settings) (d m : List ℕ) (t w : ℕ) where
   abbrev pub MeetsLow : ℕ → List ℕ → Type 0
   MeetsLow told d′ = (told ≡ stepBreaks s d t w) × (d′ ≡ leftBy (stepBreaks s d t w) (lowStepAfter d t w) d)
 
-  pub met-quiet : lowOf w ≡ true → Quiet s d m t w (codeOf w) → {told : ℕ} {d′ : List ℕ} →
+  pub met-quiet : lowOf w ≡ true → Quiet (codeOf w) → {told : ℕ} {d′ : List ℕ} →
       told ≡ lowBreaks s d t → d′ ≡ leftBy (lowBreaks s d t) (lowAfter d t) d → MeetsLow told d′
   met-quiet l n a b = rw (low-quiet s d m t w refl l n .breaks, ne-eqb (codeOf w) 8 (n .no-refresh)) (a, b)
 

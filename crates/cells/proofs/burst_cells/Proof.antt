@@ -3,6 +3,7 @@ use mathlib.Core.List.{List}
 use native.Mathlib.Omega.{arith}
 use lib.ListN.{length}
 use borrow.Author.Needs.{needs}
+use Rattle.reading.specs.Capture.{countIn, eventsStart}
 use Rattle.judge.proofs.Judging.{long}
 use Rattle.cells.proofs.Listing.{refused-so, listable, listed-so}
 use Rattle.cells.proofs.burst_cells.Statement.{statement}
@@ -12,7 +13,7 @@ use Rattle.cells.proofs.burst_cells.Tie as tie
 abbrev capture-of : tie.After-enum-told → List ℕ
 capture-of c = c .before .before .before .before .before .args .capture .now
 
-holds-settings : (c : tie.After-enum-told) → 80 ≤ length (capture-of c)
+holds-settings : (c : tie.After-enum-told) → eventsStart (countIn (capture-of c)) ≤ length (capture-of c)
 holds-settings c = long (capture-of c) (c .before .before .«open» .result) (c .before .before .«open» .ensures) (c .enum-told .given .1)
 
 open-requires : tie.Need-open-requires

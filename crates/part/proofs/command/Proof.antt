@@ -162,7 +162,7 @@ returns-9 c =
     let coded = matched .before in
     let a = coded .before .args in
     let (n, e) = high-at (a .w) 14 (coded .wide-code .ensures) (matched .match .keys8) (omega arith) in
-    let silent = nop-quiet (settingsOf (a .s .now)) (a .d .now) (a .pace .now) (a .t) (a .w) e in
+    let silent = nop-quiet (a .w) e in
     met-paced (codes.quiet (settingsOf (a .s .now)) (a .d .now) (a .pace .now) (a .t) (a .w) refl n silent)
     (c .quiet .ensures .0) (c .quiet .ensures .1)
 
@@ -171,9 +171,7 @@ returns-10 c =
     let matched = c .before .before in
     let coded = matched .before in
     let a = coded .before .args in
-    let (n, silent) =
-    deselects (settingsOf (a .s .now)) (a .d .now) (a .pace .now) (a .t) (a .w) (coded .wide-code .ensures) (matched .match .keys9)
-    in
+    let (n, silent) = deselects (a .w) (coded .wide-code .ensures) (matched .match .keys9) in
     met-paced (codes.quiet (settingsOf (a .s .now)) (a .d .now) (a .pace .now) (a .t) (a .w) refl n silent)
     (c .quiet2 .ensures .0) (c .quiet2 .ensures .1)
 

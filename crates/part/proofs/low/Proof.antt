@@ -101,13 +101,13 @@ returns-2 c =
     let matched = c .before .before in
     let a = matched .before .args in
     let (l, e) = low-at (a .w) 14 (matched .before .pre .0) (matched .match .keys1) in
-    steps.met-quiet (settingsOf (a .s .now)) (a .d .now) [] (a .t) (a .w) l (nop-quiet (settingsOf (a .s .now)) (a .d .now) [] (a .t) (a .w) e) (c .quiet-low .ensures .0) (c .quiet-low .ensures .1)
+    steps.met-quiet (settingsOf (a .s .now)) (a .d .now) [] (a .t) (a .w) l (nop-quiet (a .w) e) (c .quiet-low .ensures .0) (c .quiet-low .ensures .1)
 
 returns-3 : tie.Need-returns-3
 returns-3 c =
     let matched = c .before .before in
     let a = matched .before .args in
-    let (l, n) = deselects-low (settingsOf (a .s .now)) (a .d .now) [] (a .t) (a .w) (matched .before .pre .0) (matched .match .keys2) in
+    let (l, n) = deselects-low (a .w) (matched .before .pre .0) (matched .match .keys2) in
     steps.met-quiet (settingsOf (a .s .now)) (a .d .now) [] (a .t) (a .w) l n (c .quiet-low2 .ensures .0) (c .quiet-low2 .ensures .1)
 
 returns-4 : tie.Need-returns-4

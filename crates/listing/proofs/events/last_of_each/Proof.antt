@@ -18,6 +18,9 @@ loop-holds c = search needs
 event-at-requires : tie.Need-event-at-requires Inv-loop μ-loop
 event-at-requires c κs = tt
 
+pins-before-requires : tie.Need-pins-before-requires Inv-loop μ-loop
+pins-before-requires c κs = tt
+
 kind-requires : tie.Need-kind-requires Inv-loop μ-loop
 kind-requires c κs = tt
 
@@ -47,6 +50,7 @@ last-of-each-spec =
     μ-loop
     loop-holds
     event-at-requires
+    pins-before-requires
     kind-requires
     mul-last
     array-write-last
