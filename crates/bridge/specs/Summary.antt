@@ -100,7 +100,7 @@ laid x =
     (four (x .banks) (λ b. b .locked)
     (x .busy ∷ x .sleep .overdue
     ∷ x .read .bus ∷ x .read .reads ∷ x .write .writes ∷ x .write .end ∷ x .read .reader ∷ x .write .writer
-    ∷ x .sleep .wake ∷ x .sleep .asleep ∷ x .sleep .self ∷ []))))))))
+    ∷ x .sleep .asleep ∷ x .sleep .wake ∷ x .sleep .self ∷ []))))))))
 
 -- ---- of the reading's part
 

@@ -62,12 +62,12 @@ READER = 38
 abbrev pub WRITER : ℕ
 WRITER = 39
 
--- rule 15, awake; asleep, the first cycle at which rule 14 is broken, and 0 awake; 1 in self refresh
-abbrev pub WAKE : ℕ
-WAKE = 40
-
+-- asleep, the first cycle at which rule 14 is broken, and 0 awake; rule 15, awake; 1 in self refresh
 abbrev pub ASLEEP : ℕ
-ASLEEP = 41
+ASLEEP = 40
+
+abbrev pub WAKE : ℕ
+WAKE = 41
 
 abbrev pub SELF : ℕ
 SELF = 42

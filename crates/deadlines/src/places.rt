@@ -35,9 +35,9 @@ pub const READER: usize = 38;
 pub const WRITER: usize = 39;
 
 // Of sleep.
-pub const WAKE: usize = 40;
+pub const ASLEEP: usize = 40;
 
-pub const ASLEEP: usize = 41;
+pub const WAKE: usize = 41;
 
 pub const SELF: usize = 42;
 

@@ -5,13 +5,13 @@ use deadlines::places::ASLEEP;
 use deadlines::places::OVERDUE;
 use settings::Settings;
 ghost use mathlib.Core.Path.{_≡_};
-ghost use mathlib.Core.Bool.{true, false, cond};
-ghost use Prim.Native.Nat.{_<_};
+ghost use mathlib.Core.Bool.{true, cond};
+ghost use Prim.Native.Nat.{_≤_, _<_};
 ghost use lib.Dec.{eqb};
 ghost use Rattle.reading.specs.Settings.{settingsOf};
 ghost use Rattle.deadlines.specs.Deadlines as is;
-ghost use Rattle.pins.specs.Pins.{codeOf, lowOf, quietCode};
-ghost use Rattle.steps.specs.Steps.{ruleOf, leftBy, unlessLower, highBreaks, Quiet, stepBreaks, stepAfter, paceAfter};
+ghost use Rattle.pins.specs.Pins.{wideCodeOf};
+ghost use Rattle.steps.specs.Steps.{ruleOf, leftBy, unlessLower, lowStepAfter, stepBreaks, stepAfter, paceAfter};
 ghost use Rattle.part.specs.Means.{means};
 
 // What an event answers: all rules are kept, or some are broken, of which this is the lowest.
@@ -20,108 +20,108 @@ pub enum Answer {
     Broke(u32),
 }
 
-// Each command: where it breaks a rule, the deadlines stay as they were.
+// Each command: the lowest rule that it breaks, 0 for none, and the deadlines after it, which stay as they were where it breaks one.
 
-fn active(s: &Settings, d: &mut Deadlines, t: u32, b: usize, row: u32) -> Answer
+fn active(s: &Settings, d: &mut Deadlines, t: u32, b: usize, row: u32) -> u32
     requires { ⌜ b < 4 ⌝ }
-    ensures { λ r. ⌜ means r ≡ ruleOf (is.activeBreaks (settingsOf (now (s .entry))) (now (d .entry)) t b row) ⌝ }
+    ensures { λ r. ⌜ r ≡ is.activeBreaks (settingsOf (now (s .entry))) (now (d .entry)) t b row ⌝ }
     ensures { λ r.
         ⌜ now (d .exit) ≡ leftBy (is.activeBreaks (settingsOf (now (s .entry))) (now (d .entry)) t b row)
         (is.activeAfter (settingsOf (now (s .entry))) (now (d .entry)) t b) (now (d .entry)) ⌝ }
 {
     let rule = rules::active_breaks(s, &*d, t, b, row);
     if rule != 0 {
-        return Answer::Broke(rule);
+        return rule;
     }
     effects::active_after(s, d, t, b);
-    Answer::Kept
+    0
 }
 
-fn read(s: &Settings, d: &mut Deadlines, pace: &Pace, t: u32, b: usize, auto: bool) -> Answer
+fn read(s: &Settings, d: &mut Deadlines, pace: &Pace, t: u32, b: usize, auto: bool) -> u32
     requires { ⌜ b < 4 ⌝ }
-    ensures { λ r. ⌜ means r ≡ ruleOf (is.readBreaks (now (d .entry)) t b) ⌝ }
+    ensures { λ r. ⌜ r ≡ is.readBreaks (now (d .entry)) t b ⌝ }
     ensures { λ r.
         ⌜ now (d .exit) ≡ leftBy (is.readBreaks (now (d .entry)) t b)
         (is.readAfter (settingsOf (now (s .entry))) (now (d .entry)) (now (pace .entry)) t b auto) (now (d .entry)) ⌝ }
 {
     let rule = rules::read_breaks(&*d, t, b);
     if rule != 0 {
-        return Answer::Broke(rule);
+        return rule;
     }
     effects::read_after(s, d, pace, t, b, auto);
-    Answer::Kept
+    0
 }
 
-fn write(s: &Settings, d: &mut Deadlines, pace: &Pace, t: u32, b: usize, auto: bool) -> Answer
+fn write(s: &Settings, d: &mut Deadlines, pace: &Pace, t: u32, b: usize, auto: bool) -> u32
     requires { ⌜ b < 4 ⌝ }
-    ensures { λ r. ⌜ means r ≡ ruleOf (is.writeBreaks (now (d .entry)) t b) ⌝ }
+    ensures { λ r. ⌜ r ≡ is.writeBreaks (now (d .entry)) t b ⌝ }
     ensures { λ r.
         ⌜ now (d .exit) ≡ leftBy (is.writeBreaks (now (d .entry)) t b)
         (is.writeAfter (settingsOf (now (s .entry))) (now (d .entry)) (now (pace .entry)) t b auto) (now (d .entry)) ⌝ }
 {
     let rule = rules::write_breaks(&*d, t, b);
     if rule != 0 {
-        return Answer::Broke(rule);
+        return rule;
     }
     effects::write_after(s, d, pace, t, b, auto);
-    Answer::Kept
+    0
 }
 
-fn close_all(s: &Settings, d: &mut Deadlines, pace: &Pace, t: u32) -> Answer
-    ensures { λ r. ⌜ means r ≡ ruleOf (is.closeAllBreaks (now (d .entry)) t) ⌝ }
+fn close_all(s: &Settings, d: &mut Deadlines, pace: &Pace, t: u32) -> u32
+    ensures { λ r. ⌜ r ≡ is.closeAllBreaks (now (d .entry)) t ⌝ }
     ensures { λ r.
         ⌜ now (d .exit) ≡ leftBy (is.closeAllBreaks (now (d .entry)) t)
         (is.closeAllAfter (settingsOf (now (s .entry))) (now (d .entry)) (now (pace .entry)) t) (now (d .entry)) ⌝ }
 {
     let rule = rules::close_all_breaks(&*d, t);
     if rule != 0 {
-        return Answer::Broke(rule);
+        return rule;
     }
     effects::close_all_after(s, d, pace, t);
-    Answer::Kept
+    0
 }
 
-fn close(s: &Settings, d: &mut Deadlines, pace: &Pace, t: u32, b: usize) -> Answer
+fn close(s: &Settings, d: &mut Deadlines, pace: &Pace, t: u32, b: usize) -> u32
     requires { ⌜ b < 4 ⌝ }
-    ensures { λ r. ⌜ means r ≡ ruleOf (is.closeBreaks (now (d .entry)) t b) ⌝ }
+    ensures { λ r. ⌜ r ≡ is.closeBreaks (now (d .entry)) t b ⌝ }
     ensures { λ r.
         ⌜ now (d .exit) ≡ leftBy (is.closeBreaks (now (d .entry)) t b)
         (is.closeAfter (settingsOf (now (s .entry))) (now (d .entry)) (now (pace .entry)) t b) (now (d .entry)) ⌝ }
 {
     let rule = rules::close_breaks(&*d, t, b);
     if rule != 0 {
-        return Answer::Broke(rule);
+        return rule;
     }
     effects::close_after(s, d, pace, t, b);
-    Answer::Kept
+    0
 }
 
-fn terminate(s: &Settings, d: &mut Deadlines, pace: &Pace, t: u32) -> Answer
-    ensures { λ r. ⌜ means r ≡ ruleOf (is.terminateBreaks (settingsOf (now (s .entry))) (now (d .entry)) t) ⌝ }
+fn terminate(s: &Settings, d: &mut Deadlines, pace: &Pace, t: u32) -> u32
+    ensures { λ r. ⌜ r ≡ is.terminateBreaks (settingsOf (now (s .entry))) (now (d .entry)) t ⌝ }
     ensures { λ r.
         ⌜ now (d .exit) ≡ leftBy (is.terminateBreaks (settingsOf (now (s .entry))) (now (d .entry)) t)
         (is.cutRead (now (d .entry)) (now (pace .entry)) t true) (now (d .entry)) ⌝ }
 {
     let rule = rules::terminate_breaks(s, &*d, t);
     if rule != 0 {
-        return Answer::Broke(rule);
+        return rule;
     }
     effects::cut_read(d, pace, t, true);
-    Answer::Kept
+    0
 }
 
-fn refresh(s: &Settings, d: &mut Deadlines, t: u32) -> Answer
-    ensures { λ r. ⌜ means r ≡ ruleOf (is.refreshBreaks (now (d .entry)) t) ⌝ }
+fn refresh(s: &Settings, d: &mut Deadlines, t: u32) -> u32
+    ensures { λ r. ⌜ r ≡ is.refreshBreaks (now (d .entry)) t ⌝ }
     ensures { λ r.
         ⌜ now (d .exit) ≡ leftBy (is.refreshBreaks (now (d .entry)) t)
         (is.refreshAfter (settingsOf (now (s .entry))) (now (d .entry)) t) (now (d .entry)) ⌝ }
 {
     let rule = rules::refresh_breaks(&*d, t);
     if rule != 0 {
-        return Answer::Broke(rule);
+        return rule;
     }
     effects::refresh_after(s, d, t);
-    Answer::Kept
+    0
 }
 
 fn set_register(pace: &mut Pace, b: usize, word: u32)
@@ -132,8 +132,8 @@ fn set_register(pace: &mut Pace, b: usize, word: u32)
     }
 }
 
-fn mode_set(s: &Settings, d: &mut Deadlines, pace: &mut Pace, t: u32, b: usize, word: u32) -> Answer
-    ensures { λ r. ⌜ means r ≡ ruleOf (is.modeBreaks (now (d .entry)) t b word) ⌝ }
+fn mode_set(s: &Settings, d: &mut Deadlines, pace: &mut Pace, t: u32, b: usize, word: u32) -> u32
+    ensures { λ r. ⌜ r ≡ is.modeBreaks (now (d .entry)) t b word ⌝ }
     ensures { λ r.
         ⌜ now (d .exit) ≡ leftBy (is.modeBreaks (now (d .entry)) t b word)
         (is.modeSetAfter (settingsOf (now (s .entry))) (now (d .entry)) t) (now (d .entry)) ⌝ }
@@ -143,157 +143,123 @@ fn mode_set(s: &Settings, d: &mut Deadlines, pace: &mut Pace, t: u32, b: usize, 
 {
     let rule = rules::mode_breaks(&*d, t, b, word);
     if rule != 0 {
-        return Answer::Broke(rule);
+        return rule;
     }
     effects::mode_set_after(s, d, t);
     set_register(pace, b, word);
-    Answer::Kept
+    0
 }
 
 // NOP and DESELECT; asleep they leave it.
-fn quiet(s: &Settings, d: &mut Deadlines, t: u32) -> Answer
-    ensures { λ r. ⌜ means r ≡ ruleOf (is.quietBreaks (now (d .entry)) t) ⌝ }
+fn quiet(s: &Settings, d: &mut Deadlines, t: u32) -> u32
+    ensures { λ r. ⌜ r ≡ is.quietBreaks (now (d .entry)) t ⌝ }
     ensures { λ r.
         ⌜ now (d .exit) ≡ leftBy (is.quietBreaks (now (d .entry)) t)
         (is.quietAfter (settingsOf (now (s .entry))) (now (d .entry)) t) (now (d .entry)) ⌝ }
 {
     if (t as u64) < d[OVERDUE] {
-        return Answer::Kept;
+        return 0;
     }
     if (t as u64) < d[ASLEEP] {
         effects::leave_after(s, d, t);
-        return Answer::Kept;
+        return 0;
     }
-    Answer::Broke(14)
+    14
 }
 
 // With CKE low: NOP and DESELECT, which enter power-down or stay asleep; AUTO REFRESH, which enters self refresh; and every
 // other command, which breaks a rule, if not a lower one then rule 15.
 
-fn enter(s: &Settings, d: &mut Deadlines, t: u32) -> Answer
-    ensures { λ r. ⌜ means r ≡ ruleOf (is.enterBreaks (settingsOf (now (s .entry))) (now (d .entry)) t) ⌝ }
+fn enter(s: &Settings, d: &mut Deadlines, t: u32) -> u32
+    ensures { λ r. ⌜ r ≡ is.enterBreaks (settingsOf (now (s .entry))) (now (d .entry)) t ⌝ }
     ensures { λ r.
         ⌜ now (d .exit) ≡ leftBy (is.enterBreaks (settingsOf (now (s .entry))) (now (d .entry)) t)
         (is.enterAfter (now (d .entry))) (now (d .entry)) ⌝ }
 {
     let rule = rules::enter_breaks(s, &*d, t);
     if rule != 0 {
-        return Answer::Broke(rule);
+        return rule;
     }
     effects::enter_after(d);
-    Answer::Kept
+    0
 }
 
-fn quiet_low(s: &Settings, d: &mut Deadlines, t: u32) -> Answer
-    ensures { λ r. ⌜ means r ≡ ruleOf (is.lowBreaks (settingsOf (now (s .entry))) (now (d .entry)) t) ⌝ }
+fn quiet_low(s: &Settings, d: &mut Deadlines, t: u32) -> u32
+    ensures { λ r. ⌜ r ≡ is.lowBreaks (settingsOf (now (s .entry))) (now (d .entry)) t ⌝ }
     ensures { λ r.
         ⌜ now (d .exit) ≡ leftBy (is.lowBreaks (settingsOf (now (s .entry))) (now (d .entry)) t)
         (is.lowAfter (now (d .entry)) t) (now (d .entry)) ⌝ }
 {
     if (t as u64) < d[ASLEEP] {
-        return Answer::Kept;
+        return 0;
     }
     if d[ASLEEP] != 0 {
-        return Answer::Broke(14);
+        return 14;
     }
     enter(s, d, t)
 }
 
-fn refresh_low(s: &Settings, d: &mut Deadlines, t: u32) -> Answer
-    ensures { λ r. ⌜ means r ≡ ruleOf (is.selfBreaks (settingsOf (now (s .entry))) (now (d .entry)) t) ⌝ }
+fn refresh_low(s: &Settings, d: &mut Deadlines, t: u32) -> u32
+    ensures { λ r. ⌜ r ≡ is.selfBreaks (settingsOf (now (s .entry))) (now (d .entry)) t ⌝ }
     ensures { λ r.
         ⌜ now (d .exit) ≡ leftBy (is.selfBreaks (settingsOf (now (s .entry))) (now (d .entry)) t)
         (is.selfAfter (now (d .entry))) (now (d .entry)) ⌝ }
 {
     let rule = rules::self_breaks(s, &*d, t);
     if rule != 0 {
-        return Answer::Broke(rule);
+        return rule;
     }
     effects::self_after(d);
-    Answer::Kept
+    0
 }
 
-// The rule that a command other than AUTO REFRESH would break with CKE high.
-fn command_breaks(s: &Settings, d: &Deadlines, t: u32, w: u32) -> u32
-    requires { ⌜ (quietCode (codeOf w) ≡ false) × (eqb (codeOf w) 8 ≡ false) ⌝ }
-    ensures { λ r. ⌜ r ≡ highBreaks (settingsOf (now (s .entry))) (now (d .entry)) t w ⌝ }
+// A command that may not come.
+fn barred(rule: u32) -> u32
+    ensures { λ r. ⌜ r ≡ unlessLower rule ⌝ }
 {
-    match pins::code(w) {
-        pins::ACTIVE => rules::active_breaks(s, d, t, pins::bank(w), pins::address(w)),
-        pins::READ => rules::read_breaks(d, t, pins::bank(w)),
-        pins::WRITE => rules::write_breaks(d, t, pins::bank(w)),
-        pins::PRECHARGE => {
-            if pins::ten(w) {
-                return rules::close_all_breaks(d, t);
-            }
-            rules::close_breaks(d, t, pins::bank(w))
-        }
-        pins::TERMINATE => rules::terminate_breaks(s, d, t),
-        _ => rules::mode_breaks(d, t, pins::bank(w), pins::address(w)),
-    }
-}
-
-fn command_low(s: &Settings, d: &Deadlines, t: u32, w: u32) -> Answer
-    requires { ⌜ (quietCode (codeOf w) ≡ false) × (eqb (codeOf w) 8 ≡ false) ⌝ }
-    ensures { λ r. ⌜ means r ≡ ruleOf (unlessLower (highBreaks (settingsOf (now (s .entry))) (now (d .entry)) t w)) ⌝ }
-{
-    let rule = command_breaks(s, d, t, w);
     if rule != 0 {
-        return Answer::Broke(rule);
+        return rule;
     }
-    Answer::Broke(15)
+    15
 }
 
-fn is_quiet(code: u32) -> bool
-    ensures { λ r. ⌜ r ≡ quietCode code ⌝ }
+fn low(s: &Settings, d: &mut Deadlines, t: u32, code: u32, w: u32) -> u32
+    requires { ⌜ code ≡ wideCodeOf w ⌝ }
+    requires { ⌜ 16 ≤ code ⌝ }
+    ensures { λ r. ⌜ r ≡ stepBreaks (settingsOf (now (s .entry))) (now (d .entry)) t w ⌝ }
+    ensures { λ r.
+        ⌜ now (d .exit) ≡ leftBy (stepBreaks (settingsOf (now (s .entry))) (now (d .entry)) t w)
+        (lowStepAfter (now (d .entry)) t w) (now (d .entry)) ⌝ }
 {
     match code {
-        pins::ACTIVE => false,
-        pins::READ => false,
-        pins::WRITE => false,
-        pins::PRECHARGE => false,
-        pins::TERMINATE => false,
-        pins::REFRESH => false,
-        pins::MODE_SET => false,
-        _ => true,
+        pins::NOP_LOW => quiet_low(s, d, t),
+        17 | 19 | 21 | 23 | 25 | 27 | 29 => quiet_low(s, d, t),
+        pins::REFRESH_LOW => refresh_low(s, d, t),
+        pins::ACTIVE_LOW => barred(rules::active_breaks(
+            s,
+            &*d,
+            t,
+            pins::bank(w),
+            pins::address(w),
+        )),
+        pins::READ_LOW => barred(rules::read_breaks(&*d, t, pins::bank(w))),
+        pins::WRITE_LOW => barred(rules::write_breaks(&*d, t, pins::bank(w))),
+        pins::PRECHARGE_LOW => {
+            if pins::ten(w) {
+                return barred(rules::close_all_breaks(&*d, t));
+            }
+            barred(rules::close_breaks(&*d, t, pins::bank(w)))
+        }
+        pins::TERMINATE_LOW => barred(rules::terminate_breaks(s, &*d, t)),
+        pins::MODE_SET_LOW => barred(rules::mode_breaks(&*d, t, pins::bank(w), pins::address(w))),
+        _ => quiet_low(s, d, t),
     }
 }
 
-fn low(s: &Settings, d: &mut Deadlines, pace: &Pace, t: u32, w: u32) -> Answer
-    requires { ⌜ lowOf w ≡ true ⌝ }
-    ensures { λ r. ⌜ means r ≡ ruleOf (stepBreaks (settingsOf (now (s .entry))) (now (d .entry)) t w) ⌝ }
-    ensures { λ r.
-        ⌜ now (d .exit) ≡ leftBy (stepBreaks (settingsOf (now (s .entry))) (now (d .entry)) t w)
-        (stepAfter (settingsOf (now (s .entry))) (now (d .entry)) (now (pace .entry)) t w) (now (d .entry)) ⌝ }
-{
-    let code = pins::code(w);
-    if code == pins::REFRESH {
-        return refresh_low(s, d, t);
-    }
-    if is_quiet(code) {
-        return quiet_low(s, d, t);
-    }
-    command_low(s, &*d, t, w)
-}
-
-// DESELECT, and what has CKE low.
-fn seldom(s: &Settings, d: &mut Deadlines, pace: &Pace, t: u32, w: u32) -> Answer
-    requires { ⌜ (lowOf w ≡ false → Quiet (codeOf w)) ⌝ }
-    ensures { λ r. ⌜ means r ≡ ruleOf (stepBreaks (settingsOf (now (s .entry))) (now (d .entry)) t w) ⌝ }
-    ensures { λ r.
-        ⌜ now (d .exit) ≡ leftBy (stepBreaks (settingsOf (now (s .entry))) (now (d .entry)) t w)
-        (stepAfter (settingsOf (now (s .entry))) (now (d .entry)) (now (pace .entry)) t w) (now (d .entry)) ⌝ }
-{
-    if pins::low(w) {
-        return low(s, d, pace, t, w);
-    }
-    quiet(s, d, t)
-}
-
-// One event: what it answers by the deadlines kept of the events before it, and the deadlines with it. An event that
-// breaks a rule leaves them as they were.
-pub fn step(s: &Settings, d: &mut Deadlines, pace: &mut Pace, t: u32, w: u32) -> Answer
-    ensures { λ r. ⌜ means r ≡ ruleOf (stepBreaks (settingsOf (now (s .entry))) (now (d .entry)) t w) ⌝ }
+// By the five pins that tell what an event asks. Every number that they can be stands in an arm of its own, but 31, so that
+// the compiler needs no test before it jumps.
+fn command(s: &Settings, d: &mut Deadlines, pace: &mut Pace, t: u32, w: u32) -> u32
+    ensures { λ r. ⌜ r ≡ stepBreaks (settingsOf (now (s .entry))) (now (d .entry)) t w ⌝ }
     ensures { λ r.
         ⌜ now (d .exit) ≡ leftBy (stepBreaks (settingsOf (now (s .entry))) (now (d .entry)) t w)
         (stepAfter (settingsOf (now (s .entry))) (now (d .entry)) (now (pace .entry)) t w) (now (d .entry)) ⌝ }
@@ -316,7 +282,25 @@ pub fn step(s: &Settings, d: &mut Deadlines, pace: &mut Pace, t: u32, w: u32) ->
         pins::REFRESH => refresh(s, d, t),
         pins::MODE_SET => mode_set(s, d, pace, t, pins::bank(w), pins::address(w)),
         pins::NOP => quiet(s, d, t),
-        pins::NOP_LOW => quiet_low(s, d, t),
-        _ => seldom(s, d, &*pace, t, w),
+        1 | 3 | 5 | 7 | 9 | 11 | 13 | 15 => quiet(s, d, t),
+        _ => low(s, d, t, code, w),
     }
+}
+
+// One event: what it answers by the deadlines kept of the events before it, and the deadlines with it. An event that
+// breaks a rule leaves them as they were.
+pub fn step(s: &Settings, d: &mut Deadlines, pace: &mut Pace, t: u32, w: u32) -> Answer
+    ensures { λ r. ⌜ means r ≡ ruleOf (stepBreaks (settingsOf (now (s .entry))) (now (d .entry)) t w) ⌝ }
+    ensures { λ r.
+        ⌜ now (d .exit) ≡ leftBy (stepBreaks (settingsOf (now (s .entry))) (now (d .entry)) t w)
+        (stepAfter (settingsOf (now (s .entry))) (now (d .entry)) (now (pace .entry)) t w) (now (d .entry)) ⌝ }
+    ensures { λ r.
+        ⌜ now (pace .exit) ≡ leftBy (stepBreaks (settingsOf (now (s .entry))) (now (d .entry)) t w)
+        (paceAfter (now (pace .entry)) w) (now (pace .entry)) ⌝ }
+{
+    let rule = command(s, d, pace, t, w);
+    if rule == 0 {
+        return Answer::Kept;
+    }
+    Answer::Broke(rule)
 }

@@ -4,7 +4,7 @@ use mathlib.Core.Bool.{true, false}
 use mathlib.Core.Path.{_≡_, sym, ap, _∙_}
 use native.Mathlib.Nat.{div-div-eq-div-mul}
 use native.Mathlib.Omega.{arith}
-use borrow.Author.Tests.{eq-eqb, ne-eqb, eqb-false}
+use borrow.Author.Tests.{eq-eqb, ne-eqb}
 use Rattle.reading.specs.Commands.{opOf, commandOf}
 use Rattle.pins.specs.Pins.{codeOf, wideCodeOf, lowOf}
 
@@ -22,24 +22,17 @@ op-is w =
     let over : (k : ℕ) → w / (65536 * k) ≡ w / 65536 / k = λ k. sym (div-div-eq-div-mul w 65536 k) in
     ap opOf ((λ i. 8 * (w / 65536 % 2) + 4 * (over 2 i % 2) + 2 * (over 4 i % 2) + over 8 i % 2) ∙ low-four (w / 65536))
 
--- ---- the command pins and CKE of the number that has both
+-- ---- the command pins and CKE, of the number that has both
 
 module _ (w : ℕ) where
   wide-is : wideCodeOf w ≡ codeOf w + 16 * (w / 1048576 % 2)
   wide-is = omega arith
 
-  pub high-is : wideCodeOf w < 16 → (codeOf w ≡ wideCodeOf w) × (lowOf w ≡ false)
-  high-is h = (omega (arith, wide-is), ne-eqb (w / 1048576 % 2) 1 (λ e. omega (arith, wide-is)))
+  pub low-is : {q : ℕ} → q ≡ wideCodeOf w → 16 ≤ q → (lowOf w ≡ true) × (q ≡ codeOf w + 16)
+  low-is e l = (eq-eqb (w / 1048576 % 2) 1 (omega (arith, wide-is, e)), omega (arith, wide-is, e))
 
-  pub low-is : 16 ≤ wideCodeOf w → (codeOf w + 16 ≡ wideCodeOf w) × (lowOf w ≡ true)
-  low-is h = (omega (arith, wide-is), eq-eqb (w / 1048576 % 2) 1 (omega (arith, wide-is)))
+  pub low-at : {q : ℕ} (k : ℕ) → q ≡ wideCodeOf w → q ≡ k + 16 → (lowOf w ≡ true) × (codeOf w ≡ k)
+  low-at k e f = let (l, c) = low-is e (omega (arith, f)) in (l, omega (arith, c, f))
 
-  pub awake-code : lowOf w ≡ false → codeOf w ≡ wideCodeOf w
-  awake-code e = omega (arith, wide-is, eqb-false (w / 1048576 % 2) 1 e)
-
-  -- by a number
-  pub high-code : {k : ℕ} → wideCodeOf w ≡ k → k < 16 → (codeOf w ≡ k) × (lowOf w ≡ false)
-  high-code e l = let h = high-is (omega arith) in (h .0 ∙ e, h .1)
-
-  pub low-code : {k : ℕ} → wideCodeOf w ≡ k + 16 → (codeOf w ≡ k) × (lowOf w ≡ true)
-  low-code e = let h = low-is (omega arith) in (omega (arith, h .0), h .1)
+  pub high-at : {q : ℕ} (k : ℕ) → q ≡ wideCodeOf w → q ≡ k → k < 16 → (lowOf w ≡ false) × (codeOf w ≡ k)
+  high-at k e f l = (ne-eqb (w / 1048576 % 2) 1 (λ o. omega (arith, wide-is, e, f)), omega (arith, wide-is, e, f))

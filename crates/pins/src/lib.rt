@@ -32,7 +32,19 @@ pub fn code(w: u32) -> u32
 }
 
 // With CKE low 16 is added.
+pub const ACTIVE_LOW: u32 = 28;
+
+pub const READ_LOW: u32 = 26;
+
+pub const WRITE_LOW: u32 = 18;
+
+pub const TERMINATE_LOW: u32 = 22;
+
+pub const PRECHARGE_LOW: u32 = 20;
+
 pub const REFRESH_LOW: u32 = 24;
+
+pub const MODE_SET_LOW: u32 = 16;
 
 pub const NOP_LOW: u32 = 30;
 

@@ -31,10 +31,13 @@ ghost use Rattle.reading.specs.Rules.{everyBank};
 ghost use Rattle.deadlines.specs.Deadlines as is;
 ghost use Rattle.deadlines.specs.Deadlines.{at, orElse};
 
-// Rule 14, or 15 asleep.
+// Rule 14, or 15 asleep. Awake is asked for itself, so that no branch of `last_breaks` is like another (docs/PERFORMANCE.md).
 fn late(d: &Deadlines, t: u32) -> u32
     ensures { λ r. ⌜ r ≡ orElse (ltb t (at (now (d .entry)) is.ASLEEP)) 14 15 ⌝ }
 {
+    if d[ASLEEP] == 0 {
+        return 14;
+    }
     if (t as u64) < d[ASLEEP] {
         return 15;
     }
@@ -98,10 +101,10 @@ fn all_held(d: &Deadlines, t: u32) -> u32
     ensures { λ r. ⌜ r ≡ orElse (is.allHeld (now (d .entry)) t) 9 0 ⌝ }
 {
     'banks: for i in 0..4 {
-        if past(d[CLOSE + i], t) {
+        if d[OPENED + i] == 0 {
             continue 'banks;
         }
-        if d[OPENED + i] == 0 {
+        if past(d[CLOSE + i], t) {
             continue 'banks;
         }
         return 9;
@@ -113,15 +116,22 @@ fn all_written(d: &Deadlines, t: u32) -> u32
     ensures { λ r. ⌜ r ≡ orElse (is.allWritten (now (d .entry)) t) 10 0 ⌝ }
 {
     'banks: for i in 0..4 {
-        if past(d[WRITTEN + i], t) {
+        if d[OPENED + i] == 0 {
             continue 'banks;
         }
-        if d[OPENED + i] == 0 {
+        if past(d[WRITTEN + i], t) {
             continue 'banks;
         }
         return 10;
     }
     0
+}
+
+// The data of the last write have been taken; rule 11's deadline is tWTR later.
+fn taken(s: &Settings, d: &Deadlines, t: u32) -> bool
+    ensures { λ r. ⌜ r ≡ leb (at (now (d .entry)) is.END) (t + settingsOf (now (s .entry)) .tWTR) ⌝ }
+{
+    d[END] <= after(t, s[T_WTR])
 }
 
 // The lowest rule that a command breaks, 0 for none. Each reads the deadlines of the banks and the part that it concerns.
@@ -205,7 +215,7 @@ pub fn terminate_breaks(s: &Settings, d: &Deadlines, t: u32) -> u32
     if (t as u64) < d[READS] {
         return 13;
     }
-    if after(t, s[T_WTR]) < d[END] {
+    if !taken(s, d, t) {
         return 13;
     }
     last_breaks(d, t)
@@ -289,19 +299,19 @@ pub fn mode_breaks(d: &Deadlines, t: u32, b: usize, word: u32) -> u32
 pub fn enter_breaks(s: &Settings, d: &Deadlines, t: u32) -> u32
     ensures { λ r. ⌜ r ≡ is.enterBreaks (settingsOf (now (s .entry))) (now (d .entry)) t ⌝ }
 {
-    if (t as u64) < d[BUSY] {
+    if !past(d[BUSY], t) {
         return 4;
     }
-    if d[OVERDUE] <= (t as u64) {
+    if past(d[OVERDUE], t) {
         return 14;
     }
-    if (t as u64) < d[BUS] {
+    if !past(d[BUS], t) {
         return 15;
     }
-    if after(t, s[T_WTR]) < d[END] {
+    if !taken(s, d, t) {
         return 15;
     }
-    if (t as u64) < d[WAKE] {
+    if !past(d[WAKE], t) {
         return 15;
     }
     0
@@ -315,7 +325,7 @@ pub fn self_breaks(s: &Settings, d: &Deadlines, t: u32) -> u32
     if rule != 0 {
         return rule;
     }
-    if after(t, s[T_WTR]) < d[END] {
+    if !taken(s, d, t) {
         return 15;
     }
     0

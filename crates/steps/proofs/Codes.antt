@@ -2,16 +2,14 @@
 use Prim.Native.Nat.{ℕ}
 use mathlib.Core.Bool.{Bool, true, false, cond}
 use mathlib.Core.List.{List}
-use mathlib.Core.Option.{Option}
-use mathlib.Core.Path.{_≡_, refl, sym, ap, _∙_}
+use mathlib.Core.Path.{_≡_, refl}
 use lib.Dec.{eqb}
-use native.Mathlib.Omega.{arith}
-use borrow.Author.Tests.{ne-eqb, eqb-true}
+use borrow.Author.Tests.{ne-eqb}
 use Rattle.reading.specs.Settings.{Settings}
 use Rattle.deadlines.specs.Deadlines.{quietBreaks, lowBreaks, selfBreaks, activeBreaks, readBreaks, writeBreaks, terminateBreaks, closeBreaks, closeAllBreaks, refreshBreaks, modeBreaks}
 use Rattle.deadlines.specs.Deadlines.{paceOf, quietAfter, lowAfter, selfAfter, activeAfter, readAfter, writeAfter, cutRead, closeAfter, closeAllAfter, refreshAfter, modeSetAfter}
 use Rattle.pins.specs.Pins.{codeOf, bankOf, addressOf, tenOf, lowOf, quietCode}
-use Rattle.steps.specs.Steps.{ruleOf, leftBy, unlessLower, highBreaks, Quiet, stepBreaks, stepAfter, paceAfter}
+use Rattle.steps.specs.Steps.{leftBy, unlessLower, highBreaks, Quiet, stepBreaks, stepAfter, paceAfter}
 
 module _ (s : Settings) (d m : List ℕ) (t w : ℕ) where
   -- which rule a step breaks, the deadlines after it, and h and CL
@@ -99,13 +97,13 @@ module _ (s : Settings) (d m : List ℕ) (t w : ℕ) where
   unfolding stepBreaks stepAfter
   low-command l e n = record { breaks = rw (l, n, e); leaves = rw (l, e); sets = refl }
 
-  -- so a function that answers and leaves what its command does meets the step's contract
-  abbrev pub Meets : Option ℕ → List ℕ → List ℕ → Type 0
+  -- so a function that tells and leaves what its command does meets the step's contract
+  abbrev pub Meets : ℕ → List ℕ → List ℕ → Type 0
   Meets told d′ m′ =
-      (told ≡ ruleOf (stepBreaks s d t w))
+      (told ≡ stepBreaks s d t w)
       × ((d′ ≡ leftBy (stepBreaks s d t w) (stepAfter s d m t w) d) × (m′ ≡ leftBy (stepBreaks s d t w) (paceAfter m w) m))
 
-untouched : (rule : ℕ) (x : List ℕ) → x ≡ leftBy rule x x
+pub untouched : (rule : ℕ) (x : List ℕ) → x ≡ leftBy rule x x
 untouched rule x = go (eqb rule 0)
   where
     go : (v : Bool) → x ≡ cond v x x
@@ -113,88 +111,11 @@ untouched rule x = go (eqb rule 0)
     go false = refl
 
 module _ {s : Settings} {d m : List ℕ} {t w : ℕ} where
-  pub met : {rule : ℕ} {after pace : List ℕ} → Does s d m t w rule after pace → {told : Option ℕ} {d′ m′ : List ℕ} →
-      told ≡ ruleOf rule → d′ ≡ leftBy rule after d → m′ ≡ leftBy rule pace m → Meets s d m t w told d′ m′
+  pub met : {rule : ℕ} {after pace : List ℕ} → Does s d m t w rule after pace → {told : ℕ} {d′ m′ : List ℕ} →
+      told ≡ rule → d′ ≡ leftBy rule after d → m′ ≡ leftBy rule pace m → Meets s d m t w told d′ m′
   met k a b e = rw (k .breaks, k .leaves, k .sets) (a, (b, e))
 
-  -- where h and CL, and where the deadlines too, are left alone
-  pub met-paced : {rule : ℕ} {after : List ℕ} → Does s d m t w rule after m → {told : Option ℕ} {d′ : List ℕ} →
-      told ≡ ruleOf rule → d′ ≡ leftBy rule after d → Meets s d m t w told d′ m
+  -- where h and CL are left alone
+  pub met-paced : {rule : ℕ} {after : List ℕ} → Does s d m t w rule after m → {told : ℕ} {d′ : List ℕ} →
+      told ≡ rule → d′ ≡ leftBy rule after d → Meets s d m t w told d′ m
   met-paced {rule} k a b = met k a b (untouched rule m)
-
-  pub met-quiet : {rule : ℕ} → Does s d m t w rule d m → {told : Option ℕ} → told ≡ ruleOf rule → Meets s d m t w told d m
-  met-quiet {rule} k a = met-paced k a (untouched rule d)
-
--- ---- numbers of the command pins
-
-pub quiet-by : (q : ℕ) → Quiet q → quietCode q ≡ true
-quiet-by q n =
-    rw (
-      ne-eqb q 12 (n .no-active),
-      ne-eqb q 10 (n .no-read),
-      ne-eqb q 2 (n .no-write),
-      ne-eqb q 4 (n .no-close),
-      ne-eqb q 6 (n .no-terminate),
-      ne-eqb q 8 (n .no-refresh),
-      ne-eqb q 0 (n .no-mode-set),
-    )
-
-module _ (q : ℕ) (e : quietCode q ≡ true) where
-  unlike : (k : ℕ) → quietCode k ≡ false → q ≡ k → ⊥
-  unlike k f g = let z : _≡_ {A = ℕ} 0 1 = no (sym f ∙ sym (ap quietCode g) ∙ e) in omega arith
-    where
-      no : false ≡ true → _≡_ {A = ℕ} 0 1
-      no h = cc
-
-  pub quiet-is : Quiet q
-  quiet-is =
-      record {
-        no-active = unlike 12 refl;
-        no-read = unlike 10 refl;
-        no-write = unlike 2 refl;
-        no-close = unlike 4 refl;
-        no-terminate = unlike 6 refl;
-        no-refresh = unlike 8 refl;
-        no-mode-set = unlike 0 refl;
-      }
-
--- a command that is none of the others is a MODE REGISTER SET
-pub last-code : (q : ℕ) → quietCode q ≡ false → eqb q 8 ≡ false → (q ≡ 12 → ⊥) → (q ≡ 10 → ⊥) → (q ≡ 2 → ⊥) → (q ≡ 4 → ⊥) → (q ≡ 6 → ⊥) → q ≡ 0
-last-code q e f a b c d g = go (eqb q 0) refl (rw (ne-eqb q 12 a, ne-eqb q 10 b, ne-eqb q 2 c, ne-eqb q 4 d, ne-eqb q 6 g, f) at e)
-  where
-    go : (v : Bool) → eqb q 0 ≡ v → cond v false true ≡ false → q ≡ 0
-    go true h z = eqb-true q 0 h
-    go false h z = let y : _≡_ {A = ℕ} 0 1 = cc in absurd (omega arith)
-
--- a command that may not come leaves all as it was
-pub barred : (r : ℕ) (x y : List ℕ) → y ≡ leftBy (unlessLower r) x y
-barred r x y = by (eqb r 0) refl
-  where
-    by : (v : Bool) → eqb r 0 ≡ v → y ≡ leftBy (cond v 15 r) x y
-    by true e = refl
-    by false e = rw e
-
--- h and CL are left alone by what does not set a mode word, or may not come
-module _ (s : Settings) (d m : List ℕ) (t w : ℕ) where
-  paced-high : Quiet (codeOf w) → m ≡ leftBy (stepBreaks s d t w) (paceAfter m w) m
-  unfolding paceAfter
-  paced-high n = rw (ne-eqb (codeOf w) 0 (n .no-mode-set)) (untouched (stepBreaks s d t w) m)
-
-  paced-low : lowOf w ≡ true → m ≡ leftBy (stepBreaks s d t w) (paceAfter m w) m
-  unfolding paceAfter
-  paced-low l = go (eqb (codeOf w) 0) refl
-    where
-      go : (v : Bool) → eqb (codeOf w) 0 ≡ v → m ≡ leftBy (stepBreaks s d t w) (paceAfter m w) m
-      go false e = rw e (untouched (stepBreaks s d t w) m)
-      go true e =
-          let k : codeOf w ≡ 0 = eqb-true (codeOf w) 0 e in
-          let broken : stepBreaks s d t w ≡ unlessLower (highBreaks s d t w) =
-          low-command s d m t w l (ap (λ (q : ℕ). eqb q 8) k) (ap quietCode k) .breaks in
-          barred (highBreaks s d t w) (paceAfter m w) m ∙ ap (λ (rule : ℕ). leftBy rule (paceAfter m w) m) (sym broken)
-
-  pub paced : (lowOf w ≡ false → Quiet (codeOf w)) → m ≡ leftBy (stepBreaks s d t w) (paceAfter m w) m
-  paced n = go (lowOf w) refl
-    where
-      go : (v : Bool) → lowOf w ≡ v → m ≡ leftBy (stepBreaks s d t w) (paceAfter m w) m
-      go true l = paced-low l
-      go false l = paced-high (n l)

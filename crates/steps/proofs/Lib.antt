@@ -1,2 +1,3 @@
 -- What an event does, by its command pins.
 pub mod Codes
+pub mod Low

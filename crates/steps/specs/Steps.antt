@@ -55,8 +55,11 @@ highAfter s d m t w =
     (modeSetAfter s d t)
     (quietAfter s d t)
 
+abbrev pub lowStepAfter : List ℕ → ℕ → ℕ → List ℕ
+lowStepAfter d t w = cond (eqb (codeOf w) 8) (selfAfter d) (lowAfter d t)
+
 unfoldable pub stepAfter : Settings → List ℕ → List ℕ → ℕ → ℕ → List ℕ
-stepAfter s d m t w = cond (lowOf w) (cond (eqb (codeOf w) 8) (selfAfter d) (lowAfter d t)) (highAfter s d m t w)
+stepAfter s d m t w = cond (lowOf w) (lowStepAfter d t w) (highAfter s d m t w)
 
 -- the number of the command pins is that of none of the seven
 pub record Quiet (q : ℕ) : Type 0 where

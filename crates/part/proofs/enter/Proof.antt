@@ -1,3 +1,4 @@
+use mathlib.Core.Path.{sym, _∙_}
 use borrow.Author.Tests.{eq-eqb, ne-eqb}
 use borrow.Author.Needs.{needs}
 use Rattle.part.proofs.enter.Statement.{statement}
@@ -10,7 +11,7 @@ returns : tie.Need-returns
 returns c =
     let told = c .before .enter-breaks .ensures in
     let broke = ne-eqb _ _ (c .if1 .taken) in
-    (rw (← told, broke), rw (← told, broke))
+    (told, rw (← told, broke))
 
 enter-after-requires : tie.Need-enter-after-requires
 enter-after-requires c κs = search needs
@@ -20,8 +21,7 @@ returns-2 c =
     let asked = c .before .before in
     let told = asked .before .enter-breaks .ensures in
     let kept = eq-eqb _ _ (asked .if1 .left) in
-    (rw (← told, kept), rw (← told, kept) (c .enter-after .ensures))
+    (sym (asked .if1 .left) ∙ told, rw (← told, kept) (c .enter-after .ensures))
 
 pub enter-spec : {M : Type 1} → statement M
-enter-spec =
-    tie.close (tie.spec enter-breaks-requires returns enter-after-requires returns-2)
+enter-spec = tie.close (tie.spec enter-breaks-requires returns enter-after-requires returns-2)

@@ -1,3 +1,4 @@
+use mathlib.Core.Path.{sym, _∙_}
 use borrow.Author.Tests.{eq-eqb, ne-eqb}
 use borrow.Author.Needs.{needs}
 use Rattle.part.proofs.mode_set.Statement.{statement}
@@ -10,7 +11,7 @@ returns : tie.Need-returns
 returns c =
     let told = c .before .mode-breaks .ensures in
     let broke = ne-eqb _ _ (c .if1 .taken) in
-    (rw (← told, broke), (rw (← told, broke), rw (← told, broke)))
+    (told, (rw (← told, broke), rw (← told, broke)))
 
 mode-set-after-requires : tie.Need-mode-set-after-requires
 mode-set-after-requires c κs = search needs
@@ -24,7 +25,7 @@ returns-2 c =
     let asked = timed .before .before in
     let told = asked .before .mode-breaks .ensures in
     let kept = eq-eqb _ _ (asked .if1 .left) in
-    (rw (← told, kept), (rw (← told, kept) (timed .mode-set-after .ensures), rw (← told, kept) (c .set-register .ensures)))
+    (sym (asked .if1 .left) ∙ told, (rw (← told, kept) (timed .mode-set-after .ensures), rw (← told, kept) (c .set-register .ensures)))
 
 pub mode-set-spec : {M : Type 1} → statement M
 mode-set-spec =

@@ -9,15 +9,13 @@ element-copy-out-if1 c = search needs
 
 returns : tie.Need-returns
 unfolding lowBreaks lowAfter
-returns c =
-    let asleep = lt-ltb _ _ (c .if1 .taken) in
-    (rw asleep, rw asleep)
+returns c = let early = lt-ltb _ _ (c .if1 .taken) in (rw early, rw early)
 
 element-copy-out-if2 : tie.Need-element-copy-out-if2
 element-copy-out-if2 c = search needs
 
 returns-2 : tie.Need-returns-2
-unfolding lowBreaks
+unfolding lowBreaks lowAfter
 returns-2 c =
     let late = le-ltb _ _ (c .before .before .if1 .left) in
     let asleep = ne-eqb _ _ (c .if2 .taken) in
@@ -29,18 +27,12 @@ enter-requires c κs = search needs
 returns-3 : tie.Need-returns-3
 unfolding lowBreaks lowAfter
 returns-3 c =
-    let asked = c .before .before in
-    let late = le-ltb _ _ (asked .before .before .if1 .left) in
-    let awake = eq-eqb _ _ (asked .if2 .left) in
+    let asked₂ = c .before .before in
+    let late = le-ltb _ _ (asked₂ .before .before .if1 .left) in
+    let awake = eq-eqb _ _ (asked₂ .if2 .left) in
     (rw (late, awake) (c .enter .ensures .0), rw (late, awake) (c .enter .ensures .1))
 
 pub quiet-low-spec : {M : Type 1} → statement M
 quiet-low-spec =
     tie.close
-    (tie.spec
-    element-copy-out-if1
-    returns
-    element-copy-out-if2
-    returns-2
-    enter-requires
-    returns-3)
+    (tie.spec element-copy-out-if1 returns element-copy-out-if2 returns-2 enter-requires returns-3)

@@ -1,3 +1,4 @@
+use mathlib.Core.Path.{sym, _∙_}
 use borrow.Author.Tests.{eq-eqb, ne-eqb}
 use borrow.Author.Needs.{needs}
 use Rattle.part.proofs.terminate.Statement.{statement}
@@ -10,7 +11,7 @@ returns : tie.Need-returns
 returns c =
     let told = c .before .terminate-breaks .ensures in
     let broke = ne-eqb _ _ (c .if1 .taken) in
-    (rw (← told, broke), rw (← told, broke))
+    (told, rw (← told, broke))
 
 cut-read-requires : tie.Need-cut-read-requires
 cut-read-requires c κs = search needs
@@ -20,7 +21,7 @@ returns-2 c =
     let asked = c .before .before in
     let told = asked .before .terminate-breaks .ensures in
     let kept = eq-eqb _ _ (asked .if1 .left) in
-    (rw (← told, kept), rw (← told, kept) (c .cut-read .ensures))
+    (sym (asked .if1 .left) ∙ told, rw (← told, kept) (c .cut-read .ensures))
 
 pub terminate-spec : {M : Type 1} → statement M
 terminate-spec = tie.close (tie.spec terminate-breaks-requires returns cut-read-requires returns-2)

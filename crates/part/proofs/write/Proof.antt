@@ -1,3 +1,4 @@
+use mathlib.Core.Path.{sym, _∙_}
 use borrow.Author.Tests.{eq-eqb, ne-eqb}
 use borrow.Author.Needs.{needs}
 use Rattle.part.proofs.write.Statement.{statement}
@@ -10,7 +11,7 @@ returns : tie.Need-returns
 returns c =
     let told = c .before .write-breaks .ensures in
     let broke = ne-eqb _ _ (c .if1 .taken) in
-    (rw (← told, broke), rw (← told, broke))
+    (told, rw (← told, broke))
 
 write-after-requires : tie.Need-write-after-requires
 write-after-requires c κs = search needs
@@ -20,7 +21,7 @@ returns-2 c =
     let asked = c .before .before in
     let told = asked .before .write-breaks .ensures in
     let kept = eq-eqb _ _ (asked .if1 .left) in
-    (rw (← told, kept), rw (← told, kept) (c .write-after .ensures))
+    (sym (asked .if1 .left) ∙ told, rw (← told, kept) (c .write-after .ensures))
 
 pub write-spec : {M : Type 1} → statement M
 write-spec = tie.close (tie.spec write-breaks-requires returns write-after-requires returns-2)

@@ -19,6 +19,24 @@ abbrev μ-banks : tie.MeasureT-banks
 banks-holds : tie.Need-banks-holds Inv-banks μ-banks
 banks-holds c = none
 
+add-if1 : tie.Need-add-if1 Inv-banks μ-banks
+add-if1 c = omega arith
+
+mul-if1 : tie.Need-mul-if1 Inv-banks μ-banks
+mul-if1 c = omega arith
+
+element-copy-out-if1 : tie.Need-element-copy-out-if1 Inv-banks μ-banks
+element-copy-out-if1 c = omega arith
+
+add-i : tie.Need-add-i Inv-banks μ-banks
+add-i c = omega arith
+
+banks-less : tie.Need-banks-less Inv-banks μ-banks
+banks-less c = omega arith
+
+banks-again : tie.Need-banks-again Inv-banks μ-banks
+banks-again c = more (c .before .before .before .banks .inv) (rw (eq-eqb _ _ (c .if1 .taken), or-true _))
+
 add-past : tie.Need-add-past Inv-banks μ-banks
 add-past c = omega arith
 
@@ -31,24 +49,6 @@ element-copy-out-past c = omega arith
 past-requires : tie.Need-past-requires Inv-banks μ-banks
 past-requires c κs = search needs
 
-add-i : tie.Need-add-i Inv-banks μ-banks
-add-i c = omega arith
-
-banks-less : tie.Need-banks-less Inv-banks μ-banks
-banks-less c = omega arith
-
-banks-again : tie.Need-banks-again Inv-banks μ-banks
-banks-again c = more (c .before .before .before .before .banks .inv) (rw (sym (c .before .past .ensures) ∙ c .if1 .taken))
-
-add-if2 : tie.Need-add-if2 Inv-banks μ-banks
-add-if2 c = omega arith
-
-mul-if2 : tie.Need-mul-if2 Inv-banks μ-banks
-mul-if2 c = omega arith
-
-element-copy-out-if2 : tie.Need-element-copy-out-if2 Inv-banks μ-banks
-element-copy-out-if2 c = omega arith
-
 add-i-2 : tie.Need-add-i-2 Inv-banks μ-banks
 add-i-2 c = omega arith
 
@@ -56,14 +56,17 @@ banks-less-2 : tie.Need-banks-less-2 Inv-banks μ-banks
 banks-less-2 c = omega arith
 
 banks-again-2 : tie.Need-banks-again-2 Inv-banks μ-banks
-banks-again-2 c = more (c .before .before .before .before .before .before .banks .inv) (rw (eq-eqb _ _ (c .if2 .taken), or-true _))
+banks-again-2 c =
+    let told = c .before in
+    let asked = told .before .before in
+    more (asked .before .before .before .banks .inv) (rw (sym (told .past .ensures) ∙ c .if2 .taken))
 
 returns : tie.Need-returns Inv-banks μ-banks
 returns c =
-    let asked = c .before .before in
-    let told = asked .before in
-    left (told .before .before .before .banks .inv) (omega arith)
-    (rw (sym (told .past .ensures) ∙ asked .if1 .left, ne-eqb _ _ (c .if2 .left))) _ _
+    let told = c .before in
+    let asked = told .before .before in
+    left (asked .before .before .before .banks .inv) (omega arith)
+    (rw (sym (told .past .ensures) ∙ c .if2 .left, ne-eqb _ _ (asked .if1 .left))) _ _
 
 returns-2 : tie.Need-returns-2 Inv-banks μ-banks
 returns-2 c = passed (c .before .banks .inv) (omega arith) _ _
@@ -75,16 +78,16 @@ all-written-spec =
     Inv-banks
     μ-banks
     banks-holds
+    add-if1
+    mul-if1
+    element-copy-out-if1
+    add-i
+    banks-less
+    banks-again
     add-past
     mul-past
     element-copy-out-past
     past-requires
-    add-i
-    banks-less
-    banks-again
-    add-if2
-    mul-if2
-    element-copy-out-if2
     add-i-2
     banks-less-2
     banks-again-2

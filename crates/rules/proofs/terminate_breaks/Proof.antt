@@ -1,4 +1,5 @@
-use borrow.Author.Tests.{le-leb, lt-leb}
+use mathlib.Core.Path.{sym, _∙_}
+use borrow.Author.Tests.{le-leb, lt-leb, not-true, not-false}
 use Rattle.deadlines.specs.Deadlines.{terminateBreaks}
 use borrow.Author.Needs.{needs}
 use Rattle.rules.proofs.terminate_breaks.Statement.{statement}
@@ -18,25 +19,18 @@ returns-2 : tie.Need-returns-2
 unfolding terminateBreaks
 returns-2 c = rw (le-leb _ _ (c .before .before .if1 .left), lt-leb _ _ (c .if2 .taken))
 
-element-copy-out-after : tie.Need-element-copy-out-after
-element-copy-out-after c = search needs
-
-after-requires : tie.Need-after-requires
-after-requires c κs = search needs
-
-element-copy-out-if3 : tie.Need-element-copy-out-if3
-element-copy-out-if3 c = search needs
+taken-requires : tie.Need-taken-requires
+taken-requires c κs = search needs
 
 returns-3 : tie.Need-returns-3
 unfolding terminateBreaks
 returns-3 c =
-    let asked₂ = c .before .before .before .before in
+    let asked₂ = c .before .before in
     let asked₁ = asked₂ .before .before in
     rw (
       le-leb _ _ (asked₁ .if1 .left),
       le-leb _ _ (asked₂ .if2 .left),
-      ← c .before .before .after .ensures,
-      lt-leb _ _ (c .if3 .taken),
+      sym (c .before .taken .ensures) ∙ not-true _ (c .if3 .taken),
     )
 
 last-breaks-requires : tie.Need-last-breaks-requires
@@ -46,13 +40,12 @@ returns-4 : tie.Need-returns-4
 unfolding terminateBreaks
 returns-4 c =
     let asked₃ = c .before in
-    let asked₂ = asked₃ .before .before .before .before in
+    let asked₂ = asked₃ .before .before in
     let asked₁ = asked₂ .before .before in
     rw (
       le-leb _ _ (asked₁ .if1 .left),
       le-leb _ _ (asked₂ .if2 .left),
-      ← asked₃ .before .before .after .ensures,
-      le-leb _ _ (asked₃ .if3 .left),
+      sym (asked₃ .before .taken .ensures) ∙ not-false _ (asked₃ .if3 .left),
       c .last-breaks .ensures,
     )
 
@@ -64,9 +57,7 @@ terminate-breaks-spec =
     returns
     element-copy-out-if2
     returns-2
-    element-copy-out-after
-    after-requires
-    element-copy-out-if3
+    taken-requires
     returns-3
     last-breaks-requires
     returns-4)
