@@ -309,7 +309,11 @@ fn setting(i: u32, word: u32, number: u32, place: u32)
     say(b": list ");
     print_answer(checked(i, word), number, place);
     say(b", capture ");
-    print_answer(opened(14, 104, LANE + 4 * i, word, NOWHERE, 0), number, place);
+    print_answer(
+        opened(14, 104, LANE + 4 * i, word, NOWHERE, 0),
+        number,
+        place,
+    );
     say(b"\n");
 }
 
