@@ -3,11 +3,10 @@
 use cells::Listed;
 use console::plain::print;
 use console::plain::say;
-use settings::Settings;
 ghost use Prim.Native.Nat.{_≤_};
 
 // The settings of 01's cases; the mode word is setting 3, at byte 36.
-const SETTINGS: Settings = [1, 13, 10, 0x32, 3, 3, 7, 10, 2, 3, 1, 12, 2, 1000];
+const SETTINGS: [u32; settings::COUNT] = [1, 13, 10, 0x32, 3, 3, 7, 10, 2, 3, 1, 12, 2, 1000];
 
 const MODE: u32 = 36;
 

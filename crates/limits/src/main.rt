@@ -5,8 +5,7 @@ use console::plain::print;
 use console::plain::say;
 use libc::STDOUT_FILENO;
 use settings::Checked;
-use settings::Settings;
-ghost use Prim.Native.Nat.{_<_};
+ghost use Prim.Native.Nat.{_<_, _≤_};
 
 // Where words of a capture stand.
 const TOTAL: u32 = 0;
@@ -31,6 +30,10 @@ const T_MRD: u32 = 72;
 
 const GAP: u32 = 76;
 
+const T_XP: u32 = 80;
+
+const T_XSR: u32 = 84;
+
 const CYCLE_0: u32 = 80;
 
 const PINS_0: u32 = 84;
@@ -51,7 +54,7 @@ const PINS_7999: u32 = 64_076;
 const NOWHERE: u32 = 100_000;
 
 // The settings of 01's cases.
-const SETTINGS: Settings = [1, 13, 10, 0x32, 3, 3, 7, 10, 2, 3, 1, 12, 2, 1000];
+const SETTINGS: [u32; settings::COUNT] = [1, 13, 10, 0x32, 3, 3, 7, 10, 2, 3, 1, 12, 2, 1000];
 
 // A number of 01's table and a place; 0 and 0 for what is accepted.
 struct Answer(u32, u32);
@@ -76,20 +79,30 @@ fn store(out: &mut [u8], at: u32, word: u32) {
     words::put_word(out, place, word);
 }
 
-// As many events as a capture of `size` bytes has room for.
-fn room(size: u32) -> u32 {
-    if size < 80 {
-        return 0;
+// Where events start behind so many settings.
+fn events_at(count: u32) -> u32
+    ensures { λ r. ⌜ r ≤ 88 ⌝ }
+{
+    if count == 16 {
+        return 88;
     }
-    (size - 80) / 8
+    80
 }
 
-fn store_header(out: &mut [u8], size: u32) {
+// As many events as a capture of `size` bytes has room for.
+fn room(size: u32, events: u32) -> u32 {
+    if size < events {
+        return 0;
+    }
+    (size - events) / 8
+}
+
+fn store_header(out: &mut [u8], size: u32, count: u32) {
     store(out, TOTAL, size);
-    store(out, SETTINGS_COUNT, 14);
+    store(out, SETTINGS_COUNT, count);
     store(out, SETTINGS_OFFSET, 24);
-    store(out, EVENTS_COUNT, room(size));
-    store(out, EVENTS_OFFSET, 80);
+    store(out, EVENTS_COUNT, room(size, events_at(count)));
+    store(out, EVENTS_OFFSET, events_at(count));
     store(out, LAST_WORD, 0);
 }
 
@@ -102,18 +115,22 @@ fn store_settings(out: &mut [u8]) {
 }
 
 // Event i is a NOP (CS# low, RAS#, CAS# and WE# high) at cycle 10 i.
-fn store_events(out: &mut [u8]) {
+fn store_events(out: &mut [u8], events: u32)
+    requires { ⌜ events ≤ 88 ⌝ }
+{
     for i in 0..8_001 {
-        store(out, CYCLE_0 + 8 * i, 10 * i);
-        store(out, PINS_0 + 8 * i, 0x000E_0000);
+        store(out, events + 8 * i, 10 * i);
+        store(out, events + 4 + 8 * i, 0x000E_0000);
     }
 }
 
-fn opened(size: u32, at: u32, word: u32, other: u32, second: u32) -> Answer {
+fn opened(count: u32, size: u32, at: u32, word: u32, other: u32, second: u32) -> Answer {
     let mut buffer = io::large_buffer();
-    store_header(&mut buffer, size);
+    store_header(&mut buffer, size, count);
     store_settings(&mut buffer);
-    store_events(&mut buffer);
+    store(&mut buffer, T_XP, 2); // the events behind fourteen settings are stored over these two
+    store(&mut buffer, T_XSR, 20);
+    store_events(&mut buffer, events_at(count));
     store(&mut buffer, at, word);
     store(&mut buffer, other, second);
     let n = io::count(size as isize, &buffer);
@@ -152,7 +169,7 @@ fn twice_changed(size: u32, at: u32, word: u32, other: u32, second: u32, number:
     print_change(at, word);
     print_change(other, second);
     say(b": ");
-    print_answer(opened(size, at, word, other, second), number, place);
+    print_answer(opened(14, size, at, word, other, second), number, place);
     say(b"\n");
 }
 
@@ -292,7 +309,11 @@ fn setting(i: u32, word: u32, number: u32, place: u32)
     say(b": list ");
     print_answer(checked(i, word), number, place);
     say(b", capture ");
-    print_answer(opened(104, LANE + 4 * i, word, NOWHERE, 0), number, place);
+    print_answer(
+        opened(14, 104, LANE + 4 * i, word, NOWHERE, 0),
+        number,
+        place,
+    );
     say(b"\n");
 }
 
@@ -369,6 +390,61 @@ fn lists() {
     list(&[0u32; 13], 2, 0);
     list(&[0u32; settings::COUNT], 3, 0);
     list(&[0u32; 15], 2, 0);
+    list(&[0u32; settings::SLEEPING], 2, 0);
+}
+
+// ---- sixteen settings (K1): "events from byte 88, total 88 + 8N, lengths 88 and 64,088 in refusal 1", and bit 20 is CKE
+
+fn sleeping(size: u32, at: u32, word: u32, number: u32, place: u32) {
+    say(b"16 settings, ");
+    print(size);
+    say(b" bytes");
+    print_change(at, word);
+    say(b": ");
+    print_answer(opened(16, size, at, word, NOWHERE, 0), number, place);
+    say(b"\n");
+}
+
+fn sleeping_lengths() {
+    sleeping(80, NOWHERE, 0, 1, 0); // under 88
+    sleeping(87, NOWHERE, 0, 1, 0);
+    sleeping(88, NOWHERE, 0, 0, 0); // no events
+    sleeping(96, NOWHERE, 0, 0, 0); // one event
+    sleeping(64_088, NOWHERE, 0, 0, 0); // 8,000 events
+    sleeping(64_089, NOWHERE, 0, 1, 0);
+    sleeping(64_096, NOWHERE, 0, 1, 0); // 8,001 events
+    sleeping(88, TOTAL, 87, 1, 0);
+}
+
+fn sleeping_headers() {
+    sleeping(89, NOWHERE, 0, 2, 0); // 89 is not 88
+    sleeping(88, EVENTS_COUNT, 1, 2, 0);
+    sleeping(88, EVENTS_OFFSET, 80, 2, 0);
+    sleeping(88, SETTINGS_OFFSET, 32, 2, 0);
+    sleeping(88, SETTINGS_COUNT, 14, 2, 0); // 88 is room for an event behind 14 settings, and none is stated
+    sleeping(88, SETTINGS_COUNT, 15, 2, 0); // the lengths are those of 14 settings
+    sleeping(88, SETTINGS_COUNT, 17, 2, 0);
+    sleeping(64_088, SETTINGS_COUNT, 15, 1, 0);
+}
+
+// tXP and tXSR from 1 to 10,000.
+fn sleeping_settings() {
+    sleeping(88, T_XP, 0, 3, 14);
+    sleeping(88, T_XP, 1, 0, 0);
+    sleeping(88, T_XP, 10_000, 0, 0);
+    sleeping(88, T_XP, 10_001, 3, 14);
+    sleeping(88, T_XSR, 0, 3, 15);
+    sleeping(88, T_XSR, 1, 0, 0);
+    sleeping(88, T_XSR, 10_000, 0, 0);
+    sleeping(88, T_XSR, 10_001, 3, 15);
+}
+
+// The second of three events has its pins at byte 100.
+fn sleeping_pins() {
+    sleeping(112, 100, 0x001F_FFFF, 0, 0); // bits 0 to 20
+    for bit in 21u32..32 {
+        sleeping(112, 100, 1 << bit, 4, 1);
+    }
 }
 
 fn main() {
@@ -386,4 +462,8 @@ fn main() {
     burst_lengths();
     latencies();
     mode_range();
+    sleeping_lengths();
+    sleeping_headers();
+    sleeping_settings();
+    sleeping_pins();
 }

@@ -4,7 +4,6 @@ use console::plain::print;
 use console::plain::say;
 use judge::Verdict;
 use schedule::Scheduled;
-use settings::Settings;
 
 // A request to write, to which the cell is added.
 const WRITE: u32 = 0x8000_0000;
@@ -13,7 +12,7 @@ const WRITE: u32 = 0x8000_0000;
 const BANK_1: u32 = 8_388_608;
 
 // The settings of 01's cases but for GAP.
-fn settings(gap: u32) -> Settings {
+fn settings(gap: u32) -> [u32; settings::COUNT] {
     [1, 13, 10, 0x32, 3, 3, 7, 10, 2, 3, 1, 12, 2, gap]
 }
 

@@ -8,10 +8,10 @@ use Rattle.limits.proofs.store_events.Statement.{statement}
 use Rattle.limits.proofs.store_events.Tie as tie
 
 abbrev Inv-loop : tie.InvT-loop
-Inv-loop out₀ i₀ out i = (i ≤ 8001) × (length out ≡ length out₀)
+Inv-loop out₀ events i₀ out i = (i ≤ 8001) × (length out ≡ length out₀)
 
 abbrev μ-loop : tie.MeasureT-loop
-μ-loop out₀ i₀ out i = 8001 - i
+μ-loop out₀ events i₀ out i = 8001 - i
 
 loop-holds : tie.Need-loop-holds Inv-loop μ-loop
 loop-holds c = search needs
@@ -28,11 +28,14 @@ mul-store-2 c = omega arith
 store-requires : tie.Need-store-requires Inv-loop μ-loop
 store-requires c κs = tt
 
+add-store-2 : tie.Need-add-store-2 Inv-loop μ-loop
+add-store-2 c = omega arith
+
 mul-store-3 : tie.Need-mul-store-3 Inv-loop μ-loop
 mul-store-3 c = omega arith
 
-add-store-2 : tie.Need-add-store-2 Inv-loop μ-loop
-add-store-2 c = omega arith
+add-store-3 : tie.Need-add-store-3 Inv-loop μ-loop
+add-store-3 c = omega arith
 
 store-requires-2 : tie.Need-store-requires-2 Inv-loop μ-loop
 store-requires-2 c κs = tt
@@ -63,8 +66,9 @@ store-events-spec =
     add-store
     mul-store-2
     store-requires
-    mul-store-3
     add-store-2
+    mul-store-3
+    add-store-3
     store-requires-2
     add-i
     loop-less
