@@ -114,15 +114,15 @@ module _ (s : Settings) (k : Clock) (t : ℕ) (early : t < FAR) where
       (orElse (implies (not (a && v)) (inTime s k t)) 14
       (orElse (cond a true ((bus && end) && after (cond v (s .tXSR) (s .tXP)) left t)) 15 0)) ≡
       cond (ltb t (sleepHeld s k (sleepOf a v left) .asleep)) 0
-      (cond (eqb (sleepHeld s k (sleepOf a v left) .asleep) 0) (entered (sleepHeld s k (sleepOf a v left)) busy bus end) 14)
+      (cond (eqb (sleepHeld s k (sleepOf a v left) .overdue) 0) 14 (entered (sleepHeld s k (sleepOf a v left)) busy bus end))
   low-is true true left busy bus end = rw (lt-ltb t FAR early)
-  low-is true false left busy bus end = rw (in-time-is t (k .since + s .GAP), not-zero (k .since + s .GAP)) (go (ltb t (k .since + s .GAP + 1)))
+  low-is true false left busy bus end = rw (in-time-is t (k .since + s .GAP)) (go (ltb t (k .since + s .GAP + 1)))
     where
       go : (v : Bool) → orElse v 14 0 ≡ cond v 0 14
       go true = refl
       go false = refl
   low-is false v left busy bus end =
-      rw (never t, in-time-is t (k .since + s .GAP), after-is (cond v (s .tXSR) (s .tXP)) left t)
+      rw (never t, in-time-is t (k .since + s .GAP), not-zero (k .since + s .GAP), after-is (cond v (s .tXSR) (s .tXP)) left t)
       (go busy (ltb t (k .since + s .GAP + 1)) bus end _)
     where
       go : (b i u e w : Bool) → orElse b 4 (orElse i 14 (orElse ((u && e) && w) 15 0)) ≡ orElse b 4 (orElse i 14 (orElse u 15 (orElse e 15 (orElse w 15 0))))

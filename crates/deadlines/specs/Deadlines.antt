@@ -215,7 +215,7 @@ enterBreaks s d t =
     (orElse (leb (at d WAKE) t) 15 0))))
 
 unfoldable pub lowBreaks : Settings → List ℕ → ℕ → ℕ
-lowBreaks s d t = cond (ltb t (at d ASLEEP)) 0 (cond (eqb (at d ASLEEP) 0) (enterBreaks s d t) 14)
+lowBreaks s d t = cond (ltb t (at d ASLEEP)) 0 (cond (eqb (at d OVERDUE) 0) 14 (enterBreaks s d t))
 
 -- AUTO REFRESH with CKE low enters self refresh
 unfoldable pub selfBreaks : Settings → List ℕ → ℕ → ℕ

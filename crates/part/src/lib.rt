@@ -193,7 +193,7 @@ fn quiet_low(s: &Settings, d: &mut Deadlines, t: u32) -> u32
     if (t as u64) < d[ASLEEP] {
         return 0;
     }
-    if d[ASLEEP] != 0 {
+    if d[OVERDUE] == 0 {
         return 14;
     }
     enter(s, d, t)

@@ -1,7 +1,7 @@
 -- A step with CKE low, by what is told and left of it.
 use Prim.Native.Nat.{ℕ}
 use mathlib.Core.Bool.{Bool, true, false, cond, _&&_}
-use mathlib.Core.List.{List}
+use mathlib.Core.List.{List, []}
 use mathlib.Core.Path.{_≡_, refl, ap, _∙_}
 use lib.Dec.{eqb}
 use borrow.Author.Tests.{eqb-true, ne-eqb}
@@ -20,24 +20,24 @@ never-left rule after before = go (eqb rule 0) refl
     go true e = refl
     go false e = rw e
 
-module _ (s : Settings) (d m : List ℕ) (t w : ℕ) where
+module _ (s : Settings) (d : List ℕ) (t w : ℕ) where
   abbrev pub MeetsLow : ℕ → List ℕ → Type 0
   MeetsLow told d′ = (told ≡ stepBreaks s d t w) × (d′ ≡ leftBy (stepBreaks s d t w) (lowStepAfter d t w) d)
 
   pub met-quiet : lowOf w ≡ true → Quiet (codeOf w) → {told : ℕ} {d′ : List ℕ} →
       told ≡ lowBreaks s d t → d′ ≡ leftBy (lowBreaks s d t) (lowAfter d t) d → MeetsLow told d′
-  met-quiet l n a b = rw (low-quiet s d m t w refl l n .breaks, ne-eqb (codeOf w) 8 (n .no-refresh)) (a, b)
+  met-quiet l n a b = rw (low-quiet s d [] t w refl l n .breaks, ne-eqb (codeOf w) 8 (n .no-refresh)) (a, b)
 
   pub met-refresh : lowOf w ≡ true → codeOf w ≡ 8 → {told : ℕ} {d′ : List ℕ} →
       told ≡ selfBreaks s d t → d′ ≡ leftBy (selfBreaks s d t) (selfAfter d) d → MeetsLow told d′
-  met-refresh l e a b = rw (low-refresh s d m t w l e .breaks, e) (a, b)
+  met-refresh l e a b = rw (low-refresh s d [] t w l e .breaks, e) (a, b)
 
   -- the six commands that may not come, by the rule that each breaks with CKE high
   pub met-barred : (k : ℕ) → eqb k 8 ≡ false → quietCode k ≡ false → lowOf w ≡ true → codeOf w ≡ k → {rule told : ℕ} →
       rule ≡ highBreaks s d t w → told ≡ unlessLower rule → MeetsLow told d
   met-barred k n q l e f a =
       let broken : stepBreaks s d t w ≡ unlessLower (highBreaks s d t w) =
-      low-command s d m t w l (ap (λ (c : ℕ). eqb c 8) e ∙ n) (ap quietCode e ∙ q) .breaks
+      low-command s d [] t w l (ap (λ (c : ℕ). eqb c 8) e ∙ n) (ap quietCode e ∙ q) .breaks
       in
       rw broken (a ∙ ap unlessLower f, never-left (highBreaks s d t w) (lowStepAfter d t w) d)
 
@@ -62,6 +62,7 @@ module _ (s : Settings) (d m : List ℕ) (t w : ℕ) where
   pub high-mode-set : {b a : ℕ} → b ≡ bankOf w → a ≡ addressOf w → codeOf w ≡ 0 → modeBreaks d t b a ≡ highBreaks s d t w
   high-mode-set f g e = rw (f, g, e)
 
+module _ (s : Settings) (d m : List ℕ) (t w : ℕ) where
   -- h and CL stay: MODE REGISTER SET may not come
   paced : lowOf w ≡ true → m ≡ leftBy (stepBreaks s d t w) (paceAfter m w) m
   unfolding paceAfter
@@ -74,6 +75,6 @@ module _ (s : Settings) (d m : List ℕ) (t w : ℕ) where
           rw broken (never-left (highBreaks s d t w) (cond (eqb (bankOf w) 0) (paceOf (addressOf w)) m) m)
       go false e = untouched (stepBreaks s d t w) m
 
-  pub met-low : lowOf w ≡ true → {told : ℕ} {d′ : List ℕ} → MeetsLow told d′ → Meets s d m t w told d′ m
+  pub met-low : lowOf w ≡ true → {told : ℕ} {d′ : List ℕ} → MeetsLow s d t w told d′ → Meets s d m t w told d′ m
   unfolding stepAfter
   met-low l k = (k .0, (rw l (k .1), paced l))

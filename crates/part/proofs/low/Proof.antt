@@ -1,5 +1,4 @@
 use Prim.Native.Nat.{ℕ, _+_}
-use mathlib.Core.List.{[]}
 use mathlib.Core.Path.{_≡_, refl, sym, ap, _∙_}
 use Rattle.reading.specs.Settings.{settingsOf}
 use Rattle.pins.proofs.Pins.{low-is, low-at}
@@ -63,8 +62,11 @@ returns c =
     let matched = c .before .before .before .before .before in
     let a = matched .before .args in
     let (l, e) = low-at (a .w) 4 (matched .before .pre .0) (matched .match .keys7) in
-    let high = steps.high-close-all (settingsOf (a .s .now)) (a .d .now) [] (a .t) (a .w) e (sym (c .before .before .before .before .ten .ensures) ∙ c .before .before .before .if1 .taken) in
-    steps.met-barred (settingsOf (a .s .now)) (a .d .now) [] (a .t) (a .w) 4 refl refl l e (c .before .close-all-breaks .ensures ∙ high) (c .barred4 .ensures)
+    let asked = c .before .before .before in
+    let all = sym (asked .before .ten .ensures) ∙ asked .if1 .taken in
+    let high = steps.high-close-all (settingsOf (a .s .now)) (a .d .now) (a .t) (a .w) e all in
+    steps.met-barred (settingsOf (a .s .now)) (a .d .now) (a .t) (a .w) 4 refl refl l e
+    (c .before .close-all-breaks .ensures ∙ high) (c .barred4 .ensures)
 
 bank-requires-4 : tie.Need-bank-requires-4
 bank-requires-4 c κs = search needs
@@ -101,69 +103,84 @@ returns-2 c =
     let matched = c .before .before in
     let a = matched .before .args in
     let (l, e) = low-at (a .w) 14 (matched .before .pre .0) (matched .match .keys1) in
-    steps.met-quiet (settingsOf (a .s .now)) (a .d .now) [] (a .t) (a .w) l (nop-quiet (a .w) e) (c .quiet-low .ensures .0) (c .quiet-low .ensures .1)
+    steps.met-quiet (settingsOf (a .s .now)) (a .d .now) (a .t) (a .w) l (nop-quiet (a .w) e)
+    (c .quiet-low .ensures .0) (c .quiet-low .ensures .1)
 
 returns-3 : tie.Need-returns-3
 returns-3 c =
     let matched = c .before .before in
     let a = matched .before .args in
     let (l, n) = deselects-low (a .w) (matched .before .pre .0) (matched .match .keys2) in
-    steps.met-quiet (settingsOf (a .s .now)) (a .d .now) [] (a .t) (a .w) l n (c .quiet-low2 .ensures .0) (c .quiet-low2 .ensures .1)
+    steps.met-quiet (settingsOf (a .s .now)) (a .d .now) (a .t) (a .w) l n
+    (c .quiet-low2 .ensures .0) (c .quiet-low2 .ensures .1)
 
 returns-4 : tie.Need-returns-4
 returns-4 c =
     let matched = c .before .before in
     let a = matched .before .args in
     let (l, e) = low-at (a .w) 8 (matched .before .pre .0) (matched .match .keys3) in
-    steps.met-refresh (settingsOf (a .s .now)) (a .d .now) [] (a .t) (a .w) l e (c .refresh-low .ensures .0) (c .refresh-low .ensures .1)
+    steps.met-refresh (settingsOf (a .s .now)) (a .d .now) (a .t) (a .w) l e
+    (c .refresh-low .ensures .0) (c .refresh-low .ensures .1)
 
 returns-5 : tie.Need-returns-5
 returns-5 c =
     let matched = c .before .before .before .before .before in
     let a = matched .before .args in
     let (l, e) = low-at (a .w) 12 (matched .before .pre .0) (matched .match .keys4) in
-    let high = steps.high-active (settingsOf (a .s .now)) (a .d .now) [] (a .t) (a .w) (c .before .before .before .bank .ensures .0) (c .before .before .address .ensures .0) e in
-    steps.met-barred (settingsOf (a .s .now)) (a .d .now) [] (a .t) (a .w) 12 refl refl l e (c .before .active-breaks .ensures ∙ high) (c .barred .ensures)
+    let bank = c .before .before .before .bank .ensures .0 in
+    let address = c .before .before .address .ensures .0 in
+    let high = steps.high-active (settingsOf (a .s .now)) (a .d .now) (a .t) (a .w) bank address e in
+    steps.met-barred (settingsOf (a .s .now)) (a .d .now) (a .t) (a .w) 12 refl refl l e
+    (c .before .active-breaks .ensures ∙ high) (c .barred .ensures)
 
 returns-6 : tie.Need-returns-6
 returns-6 c =
     let matched = c .before .before .before .before in
     let a = matched .before .args in
     let (l, e) = low-at (a .w) 10 (matched .before .pre .0) (matched .match .keys5) in
-    let high = steps.high-read (settingsOf (a .s .now)) (a .d .now) [] (a .t) (a .w) (c .before .before .bank2 .ensures .0) e in
-    steps.met-barred (settingsOf (a .s .now)) (a .d .now) [] (a .t) (a .w) 10 refl refl l e (c .before .read-breaks .ensures ∙ high) (c .barred2 .ensures)
+    let high = steps.high-read (settingsOf (a .s .now)) (a .d .now) (a .t) (a .w) (c .before .before .bank2 .ensures .0) e in
+    steps.met-barred (settingsOf (a .s .now)) (a .d .now) (a .t) (a .w) 10 refl refl l e
+    (c .before .read-breaks .ensures ∙ high) (c .barred2 .ensures)
 
 returns-7 : tie.Need-returns-7
 returns-7 c =
     let matched = c .before .before .before .before in
     let a = matched .before .args in
     let (l, e) = low-at (a .w) 2 (matched .before .pre .0) (matched .match .keys6) in
-    let high = steps.high-write (settingsOf (a .s .now)) (a .d .now) [] (a .t) (a .w) (c .before .before .bank3 .ensures .0) e in
-    steps.met-barred (settingsOf (a .s .now)) (a .d .now) [] (a .t) (a .w) 2 refl refl l e (c .before .write-breaks .ensures ∙ high) (c .barred3 .ensures)
+    let high = steps.high-write (settingsOf (a .s .now)) (a .d .now) (a .t) (a .w) (c .before .before .bank3 .ensures .0) e in
+    steps.met-barred (settingsOf (a .s .now)) (a .d .now) (a .t) (a .w) 2 refl refl l e
+    (c .before .write-breaks .ensures ∙ high) (c .barred3 .ensures)
 
 returns-8 : tie.Need-returns-8
 returns-8 c =
     let matched = c .before .before .before .before .before .before in
     let a = matched .before .args in
     let (l, e) = low-at (a .w) 4 (matched .before .pre .0) (matched .match .keys7) in
-    let high = steps.high-close (settingsOf (a .s .now)) (a .d .now) [] (a .t) (a .w) (c .before .before .bank4 .ensures .0) e (sym (c .before .before .before .before .before .ten .ensures) ∙ c .before .before .before .before .if1 .left) in
-    steps.met-barred (settingsOf (a .s .now)) (a .d .now) [] (a .t) (a .w) 4 refl refl l e (c .before .close-breaks .ensures ∙ high) (c .barred5 .ensures)
+    let asked = c .before .before .before .before in
+    let one = sym (asked .before .ten .ensures) ∙ asked .if1 .left in
+    let high = steps.high-close (settingsOf (a .s .now)) (a .d .now) (a .t) (a .w) (c .before .before .bank4 .ensures .0) e one in
+    steps.met-barred (settingsOf (a .s .now)) (a .d .now) (a .t) (a .w) 4 refl refl l e
+    (c .before .close-breaks .ensures ∙ high) (c .barred5 .ensures)
 
 returns-9 : tie.Need-returns-9
 returns-9 c =
     let matched = c .before .before .before in
     let a = matched .before .args in
     let (l, e) = low-at (a .w) 6 (matched .before .pre .0) (matched .match .keys8) in
-    let high = steps.high-terminate (settingsOf (a .s .now)) (a .d .now) [] (a .t) (a .w) e in
-    steps.met-barred (settingsOf (a .s .now)) (a .d .now) [] (a .t) (a .w) 6 refl refl l e (c .before .terminate-breaks .ensures ∙ high) (c .barred6 .ensures)
+    let high = steps.high-terminate (settingsOf (a .s .now)) (a .d .now) (a .t) (a .w) e in
+    steps.met-barred (settingsOf (a .s .now)) (a .d .now) (a .t) (a .w) 6 refl refl l e
+    (c .before .terminate-breaks .ensures ∙ high) (c .barred6 .ensures)
 
 returns-10 : tie.Need-returns-10
 returns-10 c =
     let matched = c .before .before .before .before .before in
     let a = matched .before .args in
     let (l, e) = low-at (a .w) 0 (matched .before .pre .0) (matched .match .keys9) in
-    let high = steps.high-mode-set (settingsOf (a .s .now)) (a .d .now) [] (a .t) (a .w) (c .before .before .before .bank5 .ensures .0) (c .before .before .address2 .ensures .0) e in
-    steps.met-barred (settingsOf (a .s .now)) (a .d .now) [] (a .t) (a .w) 0 refl refl l e (c .before .mode-breaks .ensures ∙ high) (c .barred7 .ensures)
+    let bank = c .before .before .before .bank5 .ensures .0 in
+    let address = c .before .before .address2 .ensures .0 in
+    let high = steps.high-mode-set (settingsOf (a .s .now)) (a .d .now) (a .t) (a .w) bank address e in
+    steps.met-barred (settingsOf (a .s .now)) (a .d .now) (a .t) (a .w) 0 refl refl l e
+    (c .before .mode-breaks .ensures ∙ high) (c .barred7 .ensures)
 
 returns-11 : tie.Need-returns-11
 returns-11 c =
@@ -172,7 +189,7 @@ returns-11 c =
     let no = matched .match .rest in
     let (l, above) = low-is (a .w) (matched .before .pre .0) (matched .before .pre .1) in
     let at : (k : ℕ) → codeOf (a .w) ≡ k → a .code ≡ k + 16 = λ k e. above ∙ ap (λ (q : ℕ). q + 16) e in
-    steps.met-quiet (settingsOf (a .s .now)) (a .d .now) [] (a .t) (a .w) l
+    steps.met-quiet (settingsOf (a .s .now)) (a .d .now) (a .t) (a .w) l
     (record {
       no-active = λ e. no .0 .0 .0 .0 .0 .1 (at 12 e);
       no-read = λ e. no .0 .0 .0 .0 .1 (at 10 e);

@@ -18,7 +18,7 @@ returns-2 : tie.Need-returns-2
 unfolding lowBreaks lowAfter
 returns-2 c =
     let late = le-ltb _ _ (c .before .before .if1 .left) in
-    let asleep = ne-eqb _ _ (c .if2 .taken) in
+    let asleep = eq-eqb _ _ (c .if2 .taken) in
     (rw (late, asleep), rw (late, asleep))
 
 enter-requires : tie.Need-enter-requires
@@ -29,7 +29,7 @@ unfolding lowBreaks lowAfter
 returns-3 c =
     let asked₂ = c .before .before in
     let late = le-ltb _ _ (asked₂ .before .before .if1 .left) in
-    let awake = eq-eqb _ _ (asked₂ .if2 .left) in
+    let awake = ne-eqb _ _ (asked₂ .if2 .left) in
     (rw (late, awake) (c .enter .ensures .0), rw (late, awake) (c .enter .ensures .1))
 
 pub quiet-low-spec : {M : Type 1} → statement M
