@@ -94,6 +94,9 @@ clauses =
     ∷ quietly 5 (at 0 (NOP + LOW) ∷ at 1 NOP ∷ at 3 (REFRESH + LOW) ∷ at 4 NOP ∷ at 24 ACTIVE ∷ [])
     -- nothing more is asked of a second NOP while low, and rule 4 of no NOP that stays
     ∷ quietly 3 (at 0 (NOP + LOW) ∷ at 1 (NOP + LOW) ∷ at 2 (DESELECT + LOW) ∷ [])
+    -- AUTO REFRESH is no exception: it may not come asleep, and waits for leaving to be over
+    ∷ breaking (at 0 (NOP + LOW) ∷ at 5 (REFRESH + LOW) ∷ []) 1 15 5
+    ∷ breaking (at 0 (NOP + LOW) ∷ at 1 NOP ∷ at 2 REFRESH ∷ []) 2 15 2
     -- in power-down rule 14 is asked of what stays, and before rule 15
     ∷ breaking (at 0 (NOP + LOW) ∷ at 1001 (NOP + LOW) ∷ []) 1 14 1001
     ∷ breaking (at 0 (NOP + LOW) ∷ at 1001 (TERMINATE + LOW) ∷ []) 1 14 1001
