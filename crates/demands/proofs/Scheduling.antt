@@ -9,9 +9,10 @@ use lib.Dec.{ltb, eqb}
 use lib.ListN.{length, take, drop}
 use lib.Seq.{take-append-seam, drop-append-seam}
 use borrow.Author.Tests.{eqb-true, not-false}
-use Rattle.reading.specs.Search.{given}
+use Rattle.reading.specs.Search.{given, every}
 use Rattle.reading.specs.Settings.{settingsOf, badSetting}
 use Rattle.reading.specs.Capture.{Event, eventCount, eventsOf}
+use Rattle.reading.specs.Commands.{commandOf}
 use Rattle.reading.specs.Rules.{placing}
 use Rattle.reading.specs.Schedule.{Schedule, planned, late, badRequest, scheduleOf, captureOf}
 use Rattle.reading.specs.Memory.{Run, replay, plain}
@@ -85,23 +86,29 @@ module _ (ws qs out : List ℕ) (n : ℕ) (e : scheduleOutcome ws qs out .answer
   outcome-clean =
       rw (written .bytes) (schedule-clean ws qs (written .fourteen) (written .settings) (written .requests) (written .events) (written .schedule))
 
+  abbrev es : List Event
+  es = written .events
+
+  l : length ws ≡ 14
+  l = written .fourteen
+
+  y : Planned (settingsOf ws) qs es
+  y = schedule-fits ws qs l (written .settings) (written .requests) es (written .schedule)
+
+  few : length es ≤ 8000
+  few = omega (arith, y .few, few-requests (settingsOf ws) qs (written .requests))
+
+  outcome-events : eventsOf capture ≡ es
+  outcome-events = rw (written .bytes) (events-back ws es l (written .settings) few (y .rises) (y .early))
+
   outcome-memory : (r : Run) → replay (settingsIn capture) (eventsOf capture) r ≡ plain (settingsOf ws) qs r
   outcome-memory r =
-      rw (written .bytes, settings-back ws es l (written .settings) few (y .rises) (y .early), events-back ws es l (written .settings) few (y .rises) (y .early))
+      rw (outcome-events, written .bytes, settings-back ws es l (written .settings) few (y .rises) (y .early))
       (schedule-is-plain (settingsOf ws) placing (ranged ws (settings-fit ws (written .fourteen) (written .settings)) .sized) qs es
       (requests-fit (settingsOf ws) qs (written .requests)) (written .schedule) r)
-    where
-      es : List Event
-      es = written .events
 
-      l : length ws ≡ 14
-      l = written .fourteen
-
-      y : Planned (settingsOf ws) qs es
-      y = schedule-fits ws qs l (written .settings) (written .requests) es (written .schedule)
-
-      few : length es ≤ 8000
-      few = omega (arith, y .few, few-requests (settingsOf ws) qs (written .requests))
+  outcome-awake : every (λ x. not (commandOf (x .pins) .low)) (eventsOf capture) ≡ true
+  outcome-awake = rw outcome-events (y .never-sleeps .high)
 
 module _ (ws qs out left : List ℕ) (n : ℕ) (allowed : Schedules ws qs out (said.Written n) left) where
   e : scheduleOutcome ws qs out .answer ≡ answered n
@@ -117,6 +124,11 @@ module _ (ws qs out left : List ℕ) (n : ℕ) (allowed : Schedules ws qs out (s
   pub schedule-is-memory : (r : Run) → replay (settingsIn (take n left)) (eventsOf (take n left)) r ≡ plain (settingsOf ws) qs r
   schedule-is-memory r =
       ap (λ b. replay (settingsIn (take n b)) (eventsOf (take n b)) r) (allowed .1) ∙ outcome-memory ws qs out n e r
+
+  -- A schedule never sleeps: CKE is high at each of its events.
+  pub schedule-never-sleeps : every (λ x. not (commandOf (x .pins) .low)) (eventsOf (take n left)) ≡ true
+  schedule-never-sleeps =
+      ap (λ b. every (λ x. not (commandOf (x .pins) .low)) (eventsOf (take n b))) (allowed .1) ∙ outcome-awake ws qs out n e
 
   -- Bytes of the buffer behind the schedule stay.
   pub bytes-behind-stay : drop n left ≡ drop n out
