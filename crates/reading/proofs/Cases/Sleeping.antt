@@ -82,7 +82,7 @@ clauses : List Case
 clauses =
     -- self refresh inside a read is rule 12: tRAS and tRP 1, tRC 2
     under (set (set (set sleeping 5 1) 6 1) 7 2) (at 0 ACTIVE ∷ at 3 (READ + A10) ∷ at 7 (REFRESH + LOW) ∷ []) (breaks 2 12 2 7)
-    -- power-down does not wait for tWR, nor does self refresh for its data end alone
+    -- power-down waits for a write's data end, not for tWR
     ∷ under (set sleeping 9 30) (at 0 ACTIVE ∷ at 3 WRITE ∷ at 6 (NOP + LOW) ∷ []) (touches 3 (0 ∷ 1 ∷ 2 ∷ 3 ∷ []))
     -- DESELECT low keeps the part asleep, DESELECT high leaves self refresh; leaving restarts rule 14, not rule 4
     ∷ quietly 4 (at 0 (REFRESH + LOW) ∷ at 3000 (DESELECT + LOW) ∷ at 4000 DESELECT ∷ at 5000 NOP ∷ [])
@@ -104,7 +104,7 @@ clauses =
     -- not asked of a command in self refresh, nor of a wrong exit; a wrong entry names lower rules first
     ∷ breaking (at 0 (REFRESH + LOW) ∷ at 5000 (TERMINATE + LOW) ∷ []) 1 15 5000
     ∷ breaking (at 0 REFRESH ∷ at 5 (TERMINATE + LOW) ∷ []) 1 4 5
-    -- an entry before the read end waits though the bank is idle again, and a write's data end counts for self refresh
+    -- self refresh behind a write with auto precharge, as soon as its bank has rested
     ∷ under (set (set (set sleeping 5 1) 6 1) 9 1) (at 0 ACTIVE ∷ at 3 (WRITE + A10) ∷ at 8 (REFRESH + LOW) ∷ []) (touches 3 (0 ∷ 1 ∷ 2 ∷ 3 ∷ []))
     -- a capture may end asleep, and wakes to rule 14's end
     ∷ quietly 1 (at 7 (REFRESH + LOW) ∷ [])
