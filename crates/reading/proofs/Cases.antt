@@ -22,6 +22,7 @@ mod Bytes
 mod Schedules
 mod Memories
 mod Sleeping
+mod Tables
 
 -- pin words, put together by adding: a command, a bank, A10, column or row pins
 abbrev ACTIVE : ℕ

@@ -3,4 +3,5 @@ pub mod Cases
 pub mod Found
 pub mod Meaning
 pub mod Beats
+pub mod Tables
 pub mod Cuts
