@@ -1,5 +1,5 @@
 -- Demand 2, for `cells::burst_cells`: the cells of every burst of a clean capture, and their order.
-use Prim.Native.Nat.{ℕ, _+_, _*_, _≤_, _<_}
+use Prim.Native.Nat.{ℕ, _+_, _*_, _/_, _%_, _≤_, _<_}
 use mathlib.Core.Bool.{false}
 use mathlib.Core.List.{List, [], _∷_, _++_, append-assoc}
 use mathlib.Core.Path.{_≡_, refl, sym, ap, _∙_}
@@ -12,11 +12,13 @@ use lib.Seq.{getD-append-add}
 use Rattle.reading.specs.Search.{count}
 use Rattle.reading.specs.Settings.{Settings}
 use Rattle.reading.specs.Capture.{eventsOf}
-use Rattle.reading.specs.Bursts.{Burst, beatCell, burstCells}
+use Rattle.reading.specs.Mode.{BL, interleaved}
+use Rattle.reading.specs.Bursts.{Burst, place, beatColumn, cellNumber, beatCell, burstCells}
 use Rattle.reading.specs.Cells.{burstsOf, cellsOf}
 use Rattle.reading.specs.Verdict as is
 use Rattle.reading.specs.Answers.{Answer, Outcome, answered, unless, settingsIn, verdictIn, notClean, cellsIn, fitting, leaves, cellsOutcome}
 use Rattle.reading.proofs.Meaning.{verdict-clean}
+use Rattle.reading.proofs.Tables.{tableRow, row-published}
 use Rattle.capture.proofs.Accepted.{accepted-rest}
 use Rattle.cells.specs.declared.Listed.{Listed}
 use Rattle.cells.specs.declared.Listed.the-variants as listed
@@ -56,6 +58,17 @@ module _ (s : Settings) where
       ∙ getD-append-add (cellsOf s xs) (burstCells s x ++ (cellsOf s ys ++ tail)) j 0
       ∙ List·getD-append (burstCells s x) (cellsOf s ys ++ tail) 0 j (omega (arith, burst-length x, l))
       ∙ at-count (beatCell s x) 0 0 (2 * x .n) j l ∙ ap (beatCell s x) (zero-add j)
+
+  -- The cell of beat j is that of the published burst tables: of the row for the burst's length, order and starting column.
+  pub beat-published : (x : Burst) (j : ℕ) → j < BL (x .mode) → beatCell s x j ≡ cellNumber s (x .bank) (x .row)
+      (x .column / BL (x .mode) * BL (x .mode) + getD (tableRow (interleaved (x .mode)) (x .mode % 8) (x .column % BL (x .mode))) j 0)
+  unfolding beatCell beatColumn
+  beat-published x j l =
+      let m = x .mode in
+      let c = x .column in
+      let there : place m c j ≡ getD (tableRow (interleaved m) (m % 8) (c % BL m)) j 0 =
+      sym (at-count (place m c) 0 0 (BL m) j l ∙ ap (place m c) (zero-add j)) ∙ ap (λ (row : List ℕ). getD row j 0) (row-published m c) in
+      ap (λ (p : ℕ). cellNumber s (x .bank) (x .row) (c / BL m * BL m + p)) there
 
 -- ---- the demand
 

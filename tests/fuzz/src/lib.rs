@@ -25,7 +25,7 @@ const MOST_CELLS: usize = 16 * 8_000;
 const MOST_BYTES: usize = 64_080;
 
 thread_local! {
-    static ARCHIVE: RefCell<Archive> = RefCell::new(Archive::start().expect("the archive"));
+    static ARCHIVE: RefCell<Archive> = RefCell::new(Archive::start("quick").expect("the archive"));
 }
 
 /// # Safety

@@ -8,7 +8,7 @@ use std::io::{self, BufReader, Read, Write};
 use std::process::{Child, ChildStdin, ChildStdout, Command, Stdio};
 
 const RUNNER: &str = concat!(env!("CARGO_MANIFEST_DIR"), "/../x86");
-const SERVER: &str = concat!(env!("CARGO_MANIFEST_DIR"), "/../../target/c/serve");
+const SERVERS: &str = concat!(env!("CARGO_MANIFEST_DIR"), "/../../target/c");
 
 #[derive(Clone, Copy)]
 enum Function {
@@ -24,10 +24,11 @@ pub struct Archive {
 }
 
 impl Archive {
-    /// Starts the program that `tests/c/build` made.
-    pub fn start() -> io::Result<Archive> {
+    /// Starts the program that `tests/c/build` made of that build.
+    pub fn start(build: &str) -> io::Result<Archive> {
         let mut process = Command::new(RUNNER)
-            .args(["run", SERVER])
+            .arg("run")
+            .arg(format!("{SERVERS}/{build}/serve"))
             .stdin(Stdio::piped())
             .stdout(Stdio::piped())
             .spawn()?;

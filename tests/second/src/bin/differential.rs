@@ -1,6 +1,6 @@
 //! Holds the verified library against this crate on generated inputs.
 //!
-//!     differential INPUTS SEED
+//!     differential INPUTS SEED BUILD
 //!
 //! Ends with 1 if an answer or any element of a buffer differs, or if the run was too small
 //! for every rule and every refusal to come up.
@@ -22,28 +22,30 @@ const MOST_CELLS: usize = 16 * 8_000;
 const MOST_BYTES: usize = 64_080;
 
 fn main() -> ExitCode {
-    let arguments: Vec<String> = env::args().skip(1).collect();
-    let numbers: Option<Vec<u64>> = arguments.iter().map(|text| text.parse().ok()).collect();
-    match numbers.as_deref() {
-        Some(&[inputs, seed]) => match run(inputs, seed) {
-            Ok(()) => ExitCode::SUCCESS,
-            Err(reason) => {
-                eprintln!("{reason}");
-                ExitCode::FAILURE
-            }
-        },
-        _ => {
-            eprintln!("usage: differential INPUTS SEED");
+    match asked().and_then(|(inputs, seed, build)| run(inputs, seed, &build)) {
+        Ok(()) => ExitCode::SUCCESS,
+        Err(reason) => {
+            eprintln!("{reason}");
             ExitCode::FAILURE
         }
     }
 }
 
-fn run(inputs: u64, seed: u64) -> Result<(), String> {
+fn asked() -> Result<(u64, u64, String), String> {
+    let arguments: Vec<String> = env::args().skip(1).collect();
+    if let [inputs, seed, build] = arguments.as_slice() {
+        if let (Ok(inputs), Ok(seed)) = (inputs.parse(), seed.parse()) {
+            return Ok((inputs, seed, build.clone()));
+        }
+    }
+    Err("usage: differential INPUTS SEED BUILD".to_string())
+}
+
+fn run(inputs: u64, seed: u64, build: &str) -> Result<(), String> {
     let mut comparison = Comparison {
         dice: Dice::new(seed),
         tally: Tally::default(),
-        archive: Archive::start().map_err(|error| format!("the archive: {error}"))?,
+        archive: Archive::start(build).map_err(|error| format!("the archive: {error}"))?,
     };
     for number in 0..inputs {
         comparison
@@ -52,7 +54,7 @@ fn run(inputs: u64, seed: u64) -> Result<(), String> {
     }
     let Comparison { tally, archive, .. } = comparison;
     archive.finish().map_err(|error| error.to_string())?;
-    println!("{inputs} inputs of seed {seed}: no difference");
+    println!("{inputs} inputs of seed {seed}, {build} build: no difference");
     println!("{tally}");
     let missing = tally.missing();
     if missing.is_empty() {
