@@ -7,7 +7,7 @@ use lib.Dec.{eqb}
 use lib.ListN.{set}
 use Rattle.reading.specs.Search.{lesser, later}
 use Rattle.reading.specs.Settings.{Settings}
-use Rattle.deadlines.specs.Deadlines.{OPENED, AGAIN, OTHER, REST, COLUMN, CLOSE, WRITTEN, LOCKED, at, activeAfter, autoAfter, cutWrite, newWrite, restAfter}
+use Rattle.deadlines.specs.Deadlines.{OPENED, OTHER, REST, COLUMN, CLOSE, WRITTEN, LOCKED, at, activeAfter, autoAfter, cutWrite, newWrite, restAfter}
 use Rattle.bridge.specs.Summary.{BankHeld, ReadHeld, WriteHeld, SleepHeld, Held, laid}
 
 -- what holds of each of the four banks
@@ -21,7 +21,6 @@ at-bank P p₀ p₁ p₂ p₃ (suc (suc (suc (suc b)))) l = absurd (omega arith)
 -- what stands at the places of bank b
 pub record Stands (x : Held) (b : ℕ) : Type 0 where
   pub opened : at (laid x) (OPENED + b) ≡ x .banks b .opened
-  pub again : at (laid x) (AGAIN + b) ≡ x .banks b .again
   pub other : at (laid x) (OTHER + b) ≡ x .banks b .other
   pub rest : at (laid x) (REST + b) ≡ x .banks b .rest
   pub column : at (laid x) (COLUMN + b) ≡ x .banks b .column
@@ -32,10 +31,10 @@ pub record Stands (x : Held) (b : ℕ) : Type 0 where
 pub stands : (x : Held) (b : ℕ) → b < 4 → Stands x b
 stands x =
     at-bank (Stands x)
-    (record { opened = refl; again = refl; other = refl; rest = refl; column = refl; close = refl; written = refl; locked = refl })
-    (record { opened = refl; again = refl; other = refl; rest = refl; column = refl; close = refl; written = refl; locked = refl })
-    (record { opened = refl; again = refl; other = refl; rest = refl; column = refl; close = refl; written = refl; locked = refl })
-    (record { opened = refl; again = refl; other = refl; rest = refl; column = refl; close = refl; written = refl; locked = refl })
+    (record { opened = refl; other = refl; rest = refl; column = refl; close = refl; written = refl; locked = refl })
+    (record { opened = refl; other = refl; rest = refl; column = refl; close = refl; written = refl; locked = refl })
+    (record { opened = refl; other = refl; rest = refl; column = refl; close = refl; written = refl; locked = refl })
+    (record { opened = refl; other = refl; rest = refl; column = refl; close = refl; written = refl; locked = refl })
 
 -- two summaries are equal group by group
 pub same : {x y : Held} → ((b : ℕ) → x .banks b ≡ y .banks b) → x .read ≡ y .read → x .write ≡ y .write → x .busy ≡ y .busy →
@@ -71,7 +70,6 @@ abbrev pub activated : Settings → ℕ → Bool → BankHeld → BankHeld
 activated s t own y =
     record {
       opened = cond own 1 (y .opened);
-      again = cond own (t + s .tRC) (y .again);
       other = cond own (t + s .tRRD) (y .other);
       rest = y .rest;
       column = cond own (t + s .tRCD) (y .column);
@@ -85,7 +83,6 @@ abbrev pub shut : ℕ → Bool → BankHeld → BankHeld
 shut c own y =
     record {
       opened = cond own 0 (y .opened);
-      again = y .again;
       other = y .other;
       rest = cond own c (y .rest);
       column = y .column;
@@ -98,7 +95,6 @@ abbrev pub writtenTill : ℕ → Bool → BankHeld → BankHeld
 writtenTill c own y =
     record {
       opened = y .opened;
-      again = y .again;
       other = y .other;
       rest = y .rest;
       column = y .column;

@@ -13,7 +13,7 @@ use Rattle.reading.specs.Commands.{Op, AUTO-REFRESH, NOP, DESELECT, Command, is
 use Rattle.reading.specs.Bursts.{Burst, dataEnd}
 use Rattle.reading.specs.Sleep.{rested}
 use Rattle.reading.specs.Part.{Part, lastWrite}
-use Rattle.reading.specs.Rules.{rule1, rule2, rule3, rule4, rule5, rule6, rule7, rule8, rule9, rule10, rule11, rule12, rule13, rule14, rule15, afterData, rules, lowestBroken}
+use Rattle.reading.specs.Rules.{rule1, rule2, rule3, rule4, rule5, rule7, rule8, rule9, rule10, rule11, rule12, rule13, rule14, rule15, afterData, rules, lowestBroken}
 use Rattle.deadlines.specs.Deadlines.{FAR, orElse, enterBreaks, lowBreaks, selfBreaks}
 use Rattle.steps.specs.Steps.{unlessLower}
 use Rattle.bridge.specs.Summary.{SleepHeld, ended, laid, summary, sleepHeld, overdueBy}
@@ -21,12 +21,12 @@ use Rattle.bridge.proofs.Tests.{num, num-cond, after-is, cleared-is, le
 use Rattle.bridge.proofs.Rules.{does, doesLow, says, refresh-agrees}
 use Rattle.bridge.proofs.Sleeping.{in-time-is, never, sleepOf}
 
--- ---- rules 1 to 14, and what comes last
+-- ---- the rules up to 14, and what comes last
 
 module _ (s : Settings) (p : Part) (t : ℕ) where
   abbrev upTo14 : Command → ℕ → ℕ
   upTo14 c rest =
-      orElse (rule1 s p t c) 1 (orElse (rule2 s p t c) 2 (orElse (rule3 s p t c) 3 (orElse (rule4 s p t c) 4 (orElse (rule5 s p t c) 5 (orElse (rule6 s p t c) 6 (orElse (rule7 s p t c) 7 (orElse (rule8 s p t c) 8 (orElse (rule9 s p t c) 9 (orElse (rule10 s p t c) 10 (orElse (rule11 s p t c) 11 (orElse (rule12 s p t c) 12 (orElse (rule13 s p t c) 13 (orElse (rule14 s p t c) 14 rest)))))))))))))
+      orElse (rule1 s p t c) 1 (orElse (rule2 s p t c) 2 (orElse (rule3 s p t c) 3 (orElse (rule4 s p t c) 4 (orElse (rule5 s p t c) 5 (orElse (rule7 s p t c) 7 (orElse (rule8 s p t c) 8 (orElse (rule9 s p t c) 9 (orElse (rule10 s p t c) 10 (orElse (rule11 s p t c) 11 (orElse (rule12 s p t c) 12 (orElse (rule13 s p t c) 13 (orElse (rule14 s p t c) 14 rest))))))))))))
 
   chain-is : (c : Command) → num (lowestBroken rules s p t c) ≡ upTo14 c (orElse (rule15 s p t c) 15 0)
   chain-is c = simp num-cond
@@ -35,25 +35,24 @@ module _ (s : Settings) (p : Part) (t : ℕ) where
 abbrev sealed : ℕ → ℕ → ℕ
 sealed rule rest = cond (eqb rule 0) rest rule
 
-sealed-chain : (k1 k2 k3 k4 k5 k6 k7 k8 k9 k10 k11 k12 k13 k14 w e : Bool) →
-    sealed (orElse k1 1 (orElse k2 2 (orElse k3 3 (orElse k4 4 (orElse k5 5 (orElse k6 6 (orElse k7 7 (orElse k8 8 (orElse k9 9 (orElse k10 10 (orElse k11 11 (orElse k12 12 (orElse k13 13 (orElse k14 14 (orElse w 15 0))))))))))))))) (orElse e 15 0) ≡
-    orElse k1 1 (orElse k2 2 (orElse k3 3 (orElse k4 4 (orElse k5 5 (orElse k6 6 (orElse k7 7 (orElse k8 8 (orElse k9 9 (orElse k10 10 (orElse k11 11 (orElse k12 12 (orElse k13 13 (orElse k14 14 (orElse w 15 (orElse e 15 0)))))))))))))))
-sealed-chain false k2 k3 k4 k5 k6 k7 k8 k9 k10 k11 k12 k13 k14 w e = refl
-sealed-chain true false k3 k4 k5 k6 k7 k8 k9 k10 k11 k12 k13 k14 w e = refl
-sealed-chain true true false k4 k5 k6 k7 k8 k9 k10 k11 k12 k13 k14 w e = refl
-sealed-chain true true true false k5 k6 k7 k8 k9 k10 k11 k12 k13 k14 w e = refl
-sealed-chain true true true true false k6 k7 k8 k9 k10 k11 k12 k13 k14 w e = refl
-sealed-chain true true true true true false k7 k8 k9 k10 k11 k12 k13 k14 w e = refl
-sealed-chain true true true true true true false k8 k9 k10 k11 k12 k13 k14 w e = refl
-sealed-chain true true true true true true true false k9 k10 k11 k12 k13 k14 w e = refl
-sealed-chain true true true true true true true true false k10 k11 k12 k13 k14 w e = refl
-sealed-chain true true true true true true true true true false k11 k12 k13 k14 w e = refl
-sealed-chain true true true true true true true true true true false k12 k13 k14 w e = refl
-sealed-chain true true true true true true true true true true true false k13 k14 w e = refl
-sealed-chain true true true true true true true true true true true true false k14 w e = refl
-sealed-chain true true true true true true true true true true true true true false w e = refl
-sealed-chain true true true true true true true true true true true true true true true e = refl
-sealed-chain true true true true true true true true true true true true true true false e = refl
+sealed-chain : (k1 k2 k3 k4 k5 k7 k8 k9 k10 k11 k12 k13 k14 w e : Bool) →
+    sealed (orElse k1 1 (orElse k2 2 (orElse k3 3 (orElse k4 4 (orElse k5 5 (orElse k7 7 (orElse k8 8 (orElse k9 9 (orElse k10 10 (orElse k11 11 (orElse k12 12 (orElse k13 13 (orElse k14 14 (orElse w 15 0)))))))))))))) (orElse e 15 0) ≡
+    orElse k1 1 (orElse k2 2 (orElse k3 3 (orElse k4 4 (orElse k5 5 (orElse k7 7 (orElse k8 8 (orElse k9 9 (orElse k10 10 (orElse k11 11 (orElse k12 12 (orElse k13 13 (orElse k14 14 (orElse w 15 (orElse e 15 0))))))))))))))
+sealed-chain false k2 k3 k4 k5 k7 k8 k9 k10 k11 k12 k13 k14 w e = refl
+sealed-chain true false k3 k4 k5 k7 k8 k9 k10 k11 k12 k13 k14 w e = refl
+sealed-chain true true false k4 k5 k7 k8 k9 k10 k11 k12 k13 k14 w e = refl
+sealed-chain true true true false k5 k7 k8 k9 k10 k11 k12 k13 k14 w e = refl
+sealed-chain true true true true false k7 k8 k9 k10 k11 k12 k13 k14 w e = refl
+sealed-chain true true true true true false k8 k9 k10 k11 k12 k13 k14 w e = refl
+sealed-chain true true true true true true false k9 k10 k11 k12 k13 k14 w e = refl
+sealed-chain true true true true true true true false k10 k11 k12 k13 k14 w e = refl
+sealed-chain true true true true true true true true false k11 k12 k13 k14 w e = refl
+sealed-chain true true true true true true true true true false k12 k13 k14 w e = refl
+sealed-chain true true true true true true true true true true false k13 k14 w e = refl
+sealed-chain true true true true true true true true true true true false k14 w e = refl
+sealed-chain true true true true true true true true true true true true false w e = refl
+sealed-chain true true true true true true true true true true true true true true e = refl
+sealed-chain true true true true true true true true true true true true true false e = refl
 
 -- ---- a command that may not come
 
@@ -83,7 +82,7 @@ module _ (s : Settings) (p : Part) (t : ℕ) where
       broken : (c : Command) → upTo14 s p t c 15 ≡ sealed (upTo14 s p t c (orElse (rule15 s p t c) 15 0)) 15
       broken c =
           never-kept (rule15 s p t c)
-          ∙ sym (sealed-chain (rule1 s p t c) (rule2 s p t c) (rule3 s p t c) (rule4 s p t c) (rule5 s p t c) (rule6 s p t c) (rule7 s p t c)
+          ∙ sym (sealed-chain (rule1 s p t c) (rule2 s p t c) (rule3 s p t c) (rule4 s p t c) (rule5 s p t c) (rule7 s p t c)
           (rule8 s p t c) (rule9 s p t c) (rule10 s p t c) (rule11 s p t c) (rule12 s p t c) (rule13 s p t c) (rule14 s p t c) (rule15 s p t c) false)
         where
           never-kept : (w : Bool) → upTo14 s p t c 15 ≡ upTo14 s p t c (orElse w 15 15)
@@ -166,6 +165,6 @@ module _ (s : Settings) (p : Part) (t : ℕ) (early : t < FAR) where
       chain-is s p t (doesLow AUTO-REFRESH b a ten) ∙ same-rules s p t AUTO-REFRESH b a ten refl _
       ∙ ap (λ (v : ℕ). orElse (rule3 s p t c) 3 (orElse (rule4 s p t c) 4 (orElse (rule5 s p t c) 5 v)))
       (self-last (rule12 s p t c) (rule14 s p t c) (p .sleep .asleep) (afterData 0 (lastWrite p) t) (rested s (p .sleep) t))
-      ∙ sym (sealed-chain true true (rule3 s p t c) (rule4 s p t c) (rule5 s p t c) true true true true true true (rule12 s p t c) true
+      ∙ sym (sealed-chain true true (rule3 s p t c) (rule4 s p t c) (rule5 s p t c) true true true true true (rule12 s p t c) true
       (rule14 s p t c) (rule15 s p t c) (afterData 0 (lastWrite p) t))
       ∙ (λ i. sealed ((sym (chain-is s p t c) ∙ refresh-agrees s p t early b a ten) i) (orElse (end-is (lastWrite p) (s .tWTR) t i) 15 0))

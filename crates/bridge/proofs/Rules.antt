@@ -74,7 +74,7 @@ module _ (s : Settings) (p : Part) (t : ℕ) (early : t < FAR) where
   active-agrees b a ten l w =
       let at-bank = stands (summary s p) b l in
       simp num-cond
-      (rw (last-is s (p .clock) (p .sleep) t early, at-bank .opened, at-bank .rest, at-bank .again, open-is (p .banks b .opened), mod-eq-of-lt w)
+      (rw (last-is s (p .clock) (p .sleep) t early, at-bank .opened, at-bank .rest, open-is (p .banks b .opened), mod-eq-of-lt w)
       (simp (leb-later, after-is, unasked, both)))
 
   pub terminate-agrees : (b a : ℕ) (ten : Bool) (from : ℕ) → from ≤ t → All (Given from) (p .bursts) → Late from (p .bursts) →

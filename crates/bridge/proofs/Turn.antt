@@ -71,16 +71,16 @@ module _ (s : Settings) (wide : s .rowBits < 32) (p : Part) (from₀ t : ℕ) (l
   fourth = there (there (there here))
 
   twelfth : List·Memᴰ 12 rules
-  twelfth = there (there (there (there (there (there (there (there (there (there (there here))))))))))
+  twelfth = there (there (there (there (there (there (there (there (there (there here)))))))))
 
   thirteenth : List·Memᴰ 13 rules
-  thirteenth = there (there (there (there (there (there (there (there (there (there (there (there here)))))))))))
+  thirteenth = there (there (there (there (there (there (there (there (there (there (there here))))))))))
 
   fourteenth : List·Memᴰ 14 rules
-  fourteenth = there (there (there (there (there (there (there (there (there (there (there (there (there here))))))))))))
+  fourteenth = there (there (there (there (there (there (there (there (there (there (there (there here)))))))))))
 
   fifteenth : List·Memᴰ 15 rules
-  fifteenth = there (there (there (there (there (there (there (there (there (there (there (there (there (there here)))))))))))))
+  fifteenth = there (there (there (there (there (there (there (there (there (there (there (there (there here))))))))))))
 
   -- a command that waits comes awake
   awake : (v : Bool) → cond (p .sleep .asleep) false v ≡ true → p .sleep .asleep ≡ false

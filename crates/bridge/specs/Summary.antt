@@ -49,7 +49,6 @@ writerOf (some x) = x .bank
 -- of a bank
 pub record BankHeld : Type 0 where
   pub opened : ℕ
-  pub again : ℕ
   pub other : ℕ
   pub rest : ℕ
   pub column : ℕ
@@ -91,7 +90,6 @@ four banks f tail = f (banks 0) ∷ f (banks 1) ∷ f (banks 2) ∷ f (banks 3) 
 abbrev pub laid : Held → List ℕ
 laid x =
     four (x .banks) (λ b. b .opened)
-    (four (x .banks) (λ b. b .again)
     (four (x .banks) (λ b. b .other)
     (four (x .banks) (λ b. b .rest)
     (four (x .banks) (λ b. b .column)
@@ -100,7 +98,7 @@ laid x =
     (four (x .banks) (λ b. b .locked)
     (x .busy ∷ x .sleep .overdue
     ∷ x .read .bus ∷ x .read .reads ∷ x .write .writes ∷ x .write .end ∷ x .read .reader ∷ x .write .writer
-    ∷ x .sleep .asleep ∷ x .sleep .wake ∷ x .sleep .self ∷ []))))))))
+    ∷ x .sleep .asleep ∷ x .sleep .wake ∷ x .sleep .self ∷ [])))))))
 
 -- ---- of the reading's part
 
@@ -109,7 +107,6 @@ abbrev pub bankHeld : Settings → Bank → Option Burst → BankHeld
 bankHeld s b w =
     record {
       opened = cond (b .opened) 1 0;
-      again = from (b .lastActive) (s .tRC);
       other = from (b .lastActive) (s .tRRD);
       rest = from (b .prechargeCycle) (s .tRP);
       column = from (b .lastActive) (s .tRCD);

@@ -1,4 +1,4 @@
--- The deadlines that are kept of a part, forty-three numbers in a row; which rule a command breaks by them, and what it makes of them.
+-- The deadlines that are kept of a part, thirty-nine numbers in a row; which rule a command breaks by them, and what it makes of them.
 -- A deadline is the first cycle at which a rule lets a command through; 0 where nothing has happened.
 use Prim.Native.Nat.{ℕ, _+_, _%_, _^_}
 use mathlib.Core.Bool.{Bool, cond, not, _&&_, _||_}
@@ -10,67 +10,64 @@ use Rattle.reading.specs.Mode.{h, CL, modeWord}
 use Rattle.reading.specs.Settings.{Settings}
 use Rattle.reading.specs.Rules.{everyBank}
 
--- of each bank, from these places on: 1 if it is open; rules 6, 7, 5, 8, 9 and 10; and the first cycle at which
+-- of each bank, from these places on: 1 if it is open; rules 7, 5, 8, 9 and 10; and the first cycle at which
 -- an auto precharge that waits for tRAS lets the next ACTIVE through
 abbrev pub OPENED : ℕ
 OPENED = 0
 
-abbrev pub AGAIN : ℕ
-AGAIN = 4
-
 abbrev pub OTHER : ℕ
-OTHER = 8
+OTHER = 4
 
 abbrev pub REST : ℕ
-REST = 12
+REST = 8
 
 abbrev pub COLUMN : ℕ
-COLUMN = 16
+COLUMN = 12
 
 abbrev pub CLOSE : ℕ
-CLOSE = 20
+CLOSE = 16
 
 abbrev pub WRITTEN : ℕ
-WRITTEN = 24
+WRITTEN = 20
 
 abbrev pub LOCKED : ℕ
-LOCKED = 28
+LOCKED = 24
 
 -- rule 4; awake, the first cycle at which rule 14 is broken, and 0 asleep; rule 12; rule 13 for READ and for WRITE; rule 11
 abbrev pub BUSY : ℕ
-BUSY = 32
+BUSY = 28
 
 abbrev pub OVERDUE : ℕ
-OVERDUE = 33
+OVERDUE = 29
 
 abbrev pub BUS : ℕ
-BUS = 34
+BUS = 30
 
 abbrev pub READS : ℕ
-READS = 35
+READS = 31
 
 abbrev pub WRITES : ℕ
-WRITES = 36
+WRITES = 32
 
 abbrev pub END : ℕ
-END = 37
+END = 33
 
 -- the bank of the last read if a PRECHARGE can cut it, else 4; the bank of the last write
 abbrev pub READER : ℕ
-READER = 38
+READER = 34
 
 abbrev pub WRITER : ℕ
-WRITER = 39
+WRITER = 35
 
 -- asleep, the first cycle at which rule 14 is broken, and 0 awake; rule 15, awake; 1 in self refresh
 abbrev pub ASLEEP : ℕ
-ASLEEP = 40
+ASLEEP = 36
 
 abbrev pub WAKE : ℕ
-WAKE = 41
+WAKE = 37
 
 abbrev pub SELF : ℕ
-SELF = 42
+SELF = 38
 
 -- after every cycle
 abbrev pub FAR : ℕ
@@ -102,7 +99,7 @@ overdueFrom s t = t + s .GAP + 1
 -- nothing has happened: no read that can be cut
 unfoldable pub startOf : Settings → List ℕ
 startOf s =
-    let d₁ = set (replicate 43 0) OVERDUE (overdueFrom s 0) in
+    let d₁ = set (replicate 39 0) OVERDUE (overdueFrom s 0) in
     let d₂ = set d₁ READER 4 in
     let d₃ = set d₂ LOCKED (s .tRAS + s .tRP) in
     let d₄ = set d₃ (LOCKED + 1) (s .tRAS + s .tRP) in
@@ -128,7 +125,7 @@ abbrev pub otherBank : List ℕ → ℕ → ℕ → ℕ
 otherBank d b i = cond (eqb i b) 0 (at d (OTHER + i))
 
 abbrev pub activeWaits : List ℕ → ℕ → List Wait
-activeWaits d b = asks 4 (at d BUSY) ∷ asks 5 (at d (REST + b)) ∷ asks 6 (at d (AGAIN + b)) ∷ asksEach 7 (otherBank d b) []
+activeWaits d b = asks 4 (at d BUSY) ∷ asks 5 (at d (REST + b)) ∷ asksEach 7 (otherBank d b) []
 
 abbrev pub readWaits : List ℕ → ℕ → List Wait
 readWaits d b = asks 4 (at d BUSY) ∷ asks 8 (at d (COLUMN + b)) ∷ asks 11 (at d END) ∷ asks 13 (at d READS) ∷ []
@@ -231,12 +228,11 @@ modeBreaks d t b a = orElse (cond (eqb b 0) (modeWord a) (eqb b 2)) 2 (refreshBr
 unfoldable pub activeAfter : Settings → List ℕ → ℕ → ℕ → List ℕ
 activeAfter s d t b =
     let d₁ = set d (OPENED + b) 1 in
-    let d₂ = set d₁ (AGAIN + b) (t + s .tRC) in
-    let d₃ = set d₂ (OTHER + b) (t + s .tRRD) in
-    let d₄ = set d₃ (COLUMN + b) (t + s .tRCD) in
-    let d₅ = set d₄ (CLOSE + b) (t + s .tRAS) in
-    let d₆ = set d₅ (WRITTEN + b) 0 in
-    set d₆ (LOCKED + b) (t + s .tRAS + s .tRP)
+    let d₂ = set d₁ (OTHER + b) (t + s .tRRD) in
+    let d₃ = set d₂ (COLUMN + b) (t + s .tRCD) in
+    let d₄ = set d₃ (CLOSE + b) (t + s .tRAS) in
+    let d₅ = set d₄ (WRITTEN + b) 0 in
+    set d₅ (LOCKED + b) (t + s .tRAS + s .tRP)
 
 -- auto precharge lets the next ACTIVE through from the cycle c on, and not before tRAS and tRP are over
 unfoldable pub autoAfter : List ℕ → ℕ → ℕ → List ℕ

@@ -3,43 +3,41 @@
 // Of each bank.
 pub const OPENED: usize = 0;
 
-pub const AGAIN: usize = 4;
+pub const OTHER: usize = 4;
 
-pub const OTHER: usize = 8;
+pub const REST: usize = 8;
 
-pub const REST: usize = 12;
+pub const COLUMN: usize = 12;
 
-pub const COLUMN: usize = 16;
+pub const CLOSE: usize = 16;
 
-pub const CLOSE: usize = 20;
+pub const WRITTEN: usize = 20;
 
-pub const WRITTEN: usize = 24;
-
-pub const LOCKED: usize = 28;
+pub const LOCKED: usize = 24;
 
 // Of the part.
-pub const BUSY: usize = 32;
+pub const BUSY: usize = 28;
 
-pub const OVERDUE: usize = 33;
+pub const OVERDUE: usize = 29;
 
-pub const BUS: usize = 34;
+pub const BUS: usize = 30;
 
-pub const READS: usize = 35;
+pub const READS: usize = 31;
 
-pub const WRITES: usize = 36;
+pub const WRITES: usize = 32;
 
-pub const END: usize = 37;
+pub const END: usize = 33;
 
-pub const READER: usize = 38;
+pub const READER: usize = 34;
 
-pub const WRITER: usize = 39;
+pub const WRITER: usize = 35;
 
 // Of sleep.
-pub const ASLEEP: usize = 40;
+pub const ASLEEP: usize = 36;
 
-pub const WAKE: usize = 41;
+pub const WAKE: usize = 37;
 
-pub const SELF: usize = 42;
+pub const SELF: usize = 38;
 
 // Of the mode word in force: h and CL.
 pub const PAIRS: usize = 0;

@@ -3,7 +3,6 @@ use deadlines::Deadlines;
 use deadlines::KEPT;
 use deadlines::Pace;
 use deadlines::clock;
-use deadlines::places::AGAIN;
 use deadlines::places::ASLEEP;
 use deadlines::places::BUS;
 use deadlines::places::BUSY;
@@ -34,7 +33,6 @@ use deadlines::sums::pick;
 use settings::Settings;
 use settings::places::T_MRD;
 use settings::places::T_RAS;
-use settings::places::T_RC;
 use settings::places::T_RCD;
 use settings::places::T_RFC;
 use settings::places::T_RP;
@@ -53,7 +51,6 @@ pub fn active_after(s: &Settings, d: &mut Deadlines, t: u32, b: usize)
     ensures { λ r. ⌜ now (d .exit) ≡ is.activeAfter (settingsOf (now (s .entry))) (now (d .entry)) t b ⌝ }
 {
     d[OPENED + b] = 1;
-    d[AGAIN + b] = after(t, s[T_RC]);
     d[OTHER + b] = after(t, s[T_RRD]);
     d[COLUMN + b] = after(t, s[T_RCD]);
     d[CLOSE + b] = after(t, s[T_RAS]);

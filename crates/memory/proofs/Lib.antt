@@ -3,4 +3,5 @@ pub mod Pins
 pub mod Play
 pub mod Part
 pub mod Shape
+pub mod Six
 pub mod Same

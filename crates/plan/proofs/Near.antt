@@ -12,7 +12,7 @@ use Rattle.reading.specs.Search.{lesser, later}
 use Rattle.reading.specs.Mode.{h, CL}
 use Rattle.reading.specs.Settings.{Settings}
 use Rattle.reading.proofs.Cuts.{All, nil, cons}
-use Rattle.deadlines.specs.Deadlines.{OPENED, AGAIN, OTHER, REST, COLUMN, CLOSE, WRITTEN, LOCKED, BUSY, OVERDUE, BUS, READS, WRITES, END, READER, WRITER, at}
+use Rattle.deadlines.specs.Deadlines.{OPENED, OTHER, REST, COLUMN, CLOSE, WRITTEN, LOCKED, BUSY, OVERDUE, BUS, READS, WRITES, END, READER, WRITER, at}
 use Rattle.deadlines.specs.Deadlines.{Wait, otherBank, soonest, overdueFrom, paceOf, startOf}
 use Rattle.deadlines.specs.Deadlines.{activeAfter, autoAfter, readAfter, cutWrite, newWrite, writeAfter, refreshAfter}
 use Rattle.bridge.proofs.Bursts.{lesser-left}
@@ -80,12 +80,11 @@ module _ (s : Settings) (g : Ranged s) {n : ℕ} {d : List ℕ} (near : Near n d
     unfolding activeAfter
     near-active =
         let d₁ = near-set now (OPENED + b) 1 (omega arith) in
-        let d₂ = near-set d₁ (AGAIN + b) (t + s .tRC) (omega (arith, g .tRC)) in
-        let d₃ = near-set d₂ (OTHER + b) (t + s .tRRD) (omega (arith, g .tRRD)) in
-        let d₄ = near-set d₃ (COLUMN + b) (t + s .tRCD) (omega (arith, g .tRCD)) in
-        let d₅ = near-set d₄ (CLOSE + b) (t + s .tRAS) (omega (arith, g .tRAS)) in
-        let d₆ = near-set d₅ (WRITTEN + b) 0 (omega arith) in
-        near-set d₆ (LOCKED + b) (t + s .tRAS + s .tRP) (omega (arith, g .tRAS, g .tRP))
+        let d₂ = near-set d₁ (OTHER + b) (t + s .tRRD) (omega (arith, g .tRRD)) in
+        let d₃ = near-set d₂ (COLUMN + b) (t + s .tRCD) (omega (arith, g .tRCD)) in
+        let d₄ = near-set d₃ (CLOSE + b) (t + s .tRAS) (omega (arith, g .tRAS)) in
+        let d₅ = near-set d₄ (WRITTEN + b) 0 (omega arith) in
+        near-set d₅ (LOCKED + b) (t + s .tRAS + s .tRP) (omega (arith, g .tRAS, g .tRP))
 
     module _ (m : ℕ) where
       pub near-read : Near (suc t) (readAfter s d (paceOf m) t b true)
@@ -113,7 +112,7 @@ module _ (s : Settings) (g : Ranged s) {n : ℕ} {d : List ℕ} (near : Near n d
 pub near-start : (s : Settings) → Ranged s → Near 0 (startOf s)
 unfolding startOf
 near-start s g =
-    let d₀ : Near 0 (replicate 43 0) = record { by = λ j u. nothing 43 j } in
+    let d₀ : Near 0 (replicate 39 0) = record { by = λ j u. nothing 39 j } in
     let d₁ = near-overdue d₀ (overdueFrom s 0) in
     let d₂ = near-set d₁ READER 4 (omega arith) in
     let d₃ = near-set d₂ LOCKED (s .tRAS + s .tRP) (omega (arith, g .tRAS, g .tRP)) in
@@ -154,11 +153,10 @@ module _ {n : ℕ} {d : List ℕ} (near : Near n d) where
         soonest-most (n + wait) _
         (cons (near .by _ (omega arith))
         (cons (near .by _ (omega arith))
-        (cons (near .by _ (omega arith))
         (cons (other-most b 0 (omega arith))
         (cons (other-most b 1 (omega arith))
         (cons (other-most b 2 (omega arith))
-        (cons (other-most b 3 (omega arith)) nil)))))))
+        (cons (other-most b 3 (omega arith)) nil))))))
 
     pub burst-most : (write : Bool) → burstSoonest write d b ≤ n + wait
     unfolding readSoonest writeSoonest

@@ -55,7 +55,7 @@ module _ (s : Settings) (p : Part) (t : ℕ) where
       passed (does ACTIVE b a ten) ≡ leb (activeSoonest (laid X) b) t
   unfolding activeSoonest
   active-passed b a ten l r o =
-      rw (leb-soonest t, busy-is, lt-ltb a (2 ^ s .rowBits) r, o, stands X b l .rest, stands X b l .again)
+      rw (leb-soonest t, busy-is, lt-ltb a (2 ^ s .rowBits) r, o, stands X b l .rest)
       (simp (after-is, unasked, and-assoc, and-true))
 
   pub refresh-passed : (b a : ℕ) (ten : Bool) → ((i : ℕ) → p .banks i .opened ≡ false) → passed (does AUTO-REFRESH b a ten) ≡ leb (refreshSoonest (laid X)) t

@@ -4,4 +4,5 @@ pub mod Found
 pub mod Meaning
 pub mod Beats
 pub mod Tables
+pub mod Six
 pub mod Cuts

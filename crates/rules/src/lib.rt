@@ -1,6 +1,5 @@
 // Which rule a command breaks: a comparison for each timed rule, a search for each rule that looks at several banks.
 use deadlines::Deadlines;
-use deadlines::places::AGAIN;
 use deadlines::places::ASLEEP;
 use deadlines::places::BUS;
 use deadlines::places::BUSY;
@@ -151,9 +150,6 @@ pub fn active_breaks(s: &Settings, d: &Deadlines, t: u32, b: usize, row: u32) ->
     }
     if (t as u64) < d[REST + b] {
         return 5;
-    }
-    if (t as u64) < d[AGAIN + b] {
-        return 6;
     }
     let apart = others_apart(d, t, b);
     if apart != 0 {

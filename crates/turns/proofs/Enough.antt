@@ -1,4 +1,4 @@
--- A request's turn by the sixteen cycles is its turn by the deadlines, of which they are taken.
+-- A request's turn by the twelve cycles is its turn by the deadlines, of which they are taken.
 use Prim.Native.Nat.{ℕ, zero, suc, _+_, _%_, _≤_, _<_}
 use mathlib.Core.Bool.{Bool, true, false, cond}
 use mathlib.Core.List.{List, [], _∷_}
@@ -21,7 +21,7 @@ use Rattle.plan.proofs.Ranged.{Ranged}
 use Rattle.plan.proofs.Near.{later-most}
 use Rattle.plan.proofs.Sending.{later-first, later-second}
 use Rattle.turns.specs.Turning.{inTime, burstLeaves}
-use Rattle.turns.specs.Between.{REST, AGAIN, APART, apart, betweenOf, activeSoonest, burstSoonest, refreshSoonest, restAfter, busAfter, apartAfter, burstAfter, taking}
+use Rattle.turns.specs.Between.{REST, APART, apart, betweenOf, activeSoonest, burstSoonest, refreshSoonest, restAfter, busAfter, apartAfter, burstAfter, taking}
 
 -- ---- the later of two
 
@@ -155,18 +155,17 @@ module _ (o : ℕ → ℕ) (v : ℕ) (low : (i : ℕ) → i < 4 → o i ≤ v) (
 
 -- ---- a request of bank b
 
--- what stands in the sixteen places
+-- what stands in the twelve places
 record Places (d : List ℕ) (b : ℕ) : Type 0 where
   pub rest : at (betweenOf d) (REST + b) ≡ at d (all.REST + b)
-  pub again : at (betweenOf d) (AGAIN + b) ≡ at d (all.AGAIN + b)
   pub apart-is : at (betweenOf d) (APART + b) ≡ apart d b
 
 taken : (d : List ℕ) (b : ℕ) → b < 4 → Places d b
 unfolding betweenOf
-taken d zero l = record { rest = refl; again = refl; apart-is = refl }
-taken d (suc zero) l = record { rest = refl; again = refl; apart-is = refl }
-taken d (suc (suc zero)) l = record { rest = refl; again = refl; apart-is = refl }
-taken d (suc (suc (suc zero))) l = record { rest = refl; again = refl; apart-is = refl }
+taken d zero l = record { rest = refl; apart-is = refl }
+taken d (suc zero) l = record { rest = refl; apart-is = refl }
+taken d (suc (suc zero)) l = record { rest = refl; apart-is = refl }
+taken d (suc (suc (suc zero))) l = record { rest = refl; apart-is = refl }
 taken d (suc (suc (suc (suc b)))) l = absurd (omega arith)
 
 -- between requests: the next AUTO REFRESH is in time, and what earlier commands ask is bounded by the next free cycle
@@ -182,8 +181,8 @@ module _ (d : List ℕ) (f b : ℕ) (lb : b < 4) where
   pub active-same : later (later f (at d BUSY)) (activeSoonest (betweenOf d) b) ≡ later f (plan.activeSoonest d b)
   unfolding activeSoonest plan.activeSoonest soonest
   active-same =
-      rw (taken d b lb .rest, taken d b lb .again, taken d b lb .apart-is)
-      (sym (later-group f (at d BUSY) (later (at d (all.REST + b)) (later (at d (all.AGAIN + b)) (apart d b)))))
+      rw (taken d b lb .rest, taken d b lb .apart-is)
+      (sym (later-group f (at d BUSY) (later (at d (all.REST + b)) (apart d b))))
 
 -- the AUTO REFRESH
 pub refresh-same : (d : List ℕ) (f : ℕ) → at d BUSY ≤ f → later f (refreshSoonest (betweenOf d)) ≡ later f (plan.refreshSoonest d)
@@ -249,12 +248,12 @@ landed-is true s m u b y l =
     ∙ auto-laid y₃ (new + s .tRP) b l
 landed-is false s m u b y l = auto-laid (readGiven (record { bus = u + CL m + h m; reads = u + h m; reader = 4 }) y) (u + h m + s .tRP) b l
 
--- a list of sixteen
-listed : (x₀ x₁ x₂ x₃ x₄ x₅ x₆ x₇ overdue bus : ℕ) {a b : ℕ → ℕ} {r w v y : ℕ} → ((i : ℕ) → a i ≡ b i) → r ≡ v → w ≡ y →
-    (x₀ ∷ x₁ ∷ x₂ ∷ x₃ ∷ x₄ ∷ x₅ ∷ x₆ ∷ x₇ ∷ a 0 ∷ a 1 ∷ a 2 ∷ a 3 ∷ r ∷ w ∷ overdue ∷ bus ∷ []) ≡
-    (x₀ ∷ x₁ ∷ x₂ ∷ x₃ ∷ x₄ ∷ x₅ ∷ x₆ ∷ x₇ ∷ b 0 ∷ b 1 ∷ b 2 ∷ b 3 ∷ v ∷ y ∷ overdue ∷ bus ∷ [])
-listed x₀ x₁ x₂ x₃ x₄ x₅ x₆ x₇ overdue bus e p q i =
-    x₀ ∷ x₁ ∷ x₂ ∷ x₃ ∷ x₄ ∷ x₅ ∷ x₆ ∷ x₇ ∷ e 0 i ∷ e 1 i ∷ e 2 i ∷ e 3 i ∷ p i ∷ q i ∷ overdue ∷ bus ∷ []
+-- a list of twelve
+listed : (x₀ x₁ x₂ x₃ overdue bus : ℕ) {a b : ℕ → ℕ} {r w v y : ℕ} → ((i : ℕ) → a i ≡ b i) → r ≡ v → w ≡ y →
+    (x₀ ∷ x₁ ∷ x₂ ∷ x₃ ∷ a 0 ∷ a 1 ∷ a 2 ∷ a 3 ∷ r ∷ w ∷ overdue ∷ bus ∷ []) ≡
+    (x₀ ∷ x₁ ∷ x₂ ∷ x₃ ∷ b 0 ∷ b 1 ∷ b 2 ∷ b 3 ∷ v ∷ y ∷ overdue ∷ bus ∷ [])
+listed x₀ x₁ x₂ x₃ overdue bus e p q i =
+    x₀ ∷ x₁ ∷ x₂ ∷ x₃ ∷ e 0 i ∷ e 1 i ∷ e 2 i ∷ e 3 i ∷ p i ∷ q i ∷ overdue ∷ bus ∷ []
 
 -- a bank's tRAS and tRP since its own ACTIVE
 own-locked : (own : Bool) (l k c r : ℕ) → cond own (later (cond own l k) c) r ≡ cond own (later l c) r
@@ -312,14 +311,14 @@ module _ (s : Settings) (g : Ranged s) (x : Held) (f t u : ℕ) (fair : Fair s (
       betweenOf (laid (After b write)) ≡
       taking s (paceOf m) (betweenOf (laid x)) write b (record { active = t; burst = u; rest = Rest write; kept = v })
   unfolding betweenOf taking apartAfter burstAfter
-  taken-same zero l true v k = listed _ _ _ _ _ _ _ _ _ _ (settled 0 l) (read-from true k) (write-from true k)
-  taken-same zero l false v k = listed _ _ _ _ _ _ _ _ _ _ (settled 0 l) (read-from false k) (write-from false k)
-  taken-same (suc zero) l true v k = listed _ _ _ _ _ _ _ _ _ _ (settled 1 l) (read-from true k) (write-from true k)
-  taken-same (suc zero) l false v k = listed _ _ _ _ _ _ _ _ _ _ (settled 1 l) (read-from false k) (write-from false k)
-  taken-same (suc (suc zero)) l true v k = listed _ _ _ _ _ _ _ _ _ _ (settled 2 l) (read-from true k) (write-from true k)
-  taken-same (suc (suc zero)) l false v k = listed _ _ _ _ _ _ _ _ _ _ (settled 2 l) (read-from false k) (write-from false k)
-  taken-same (suc (suc (suc zero))) l true v k = listed _ _ _ _ _ _ _ _ _ _ (settled 3 l) (read-from true k) (write-from true k)
-  taken-same (suc (suc (suc zero))) l false v k = listed _ _ _ _ _ _ _ _ _ _ (settled 3 l) (read-from false k) (write-from false k)
+  taken-same zero l true v k = listed _ _ _ _ _ _ (settled 0 l) (read-from true k) (write-from true k)
+  taken-same zero l false v k = listed _ _ _ _ _ _ (settled 0 l) (read-from false k) (write-from false k)
+  taken-same (suc zero) l true v k = listed _ _ _ _ _ _ (settled 1 l) (read-from true k) (write-from true k)
+  taken-same (suc zero) l false v k = listed _ _ _ _ _ _ (settled 1 l) (read-from false k) (write-from false k)
+  taken-same (suc (suc zero)) l true v k = listed _ _ _ _ _ _ (settled 2 l) (read-from true k) (write-from true k)
+  taken-same (suc (suc zero)) l false v k = listed _ _ _ _ _ _ (settled 2 l) (read-from false k) (write-from false k)
+  taken-same (suc (suc (suc zero))) l true v k = listed _ _ _ _ _ _ (settled 3 l) (read-from true k) (write-from true k)
+  taken-same (suc (suc (suc zero))) l false v k = listed _ _ _ _ _ _ (settled 3 l) (read-from false k) (write-from false k)
   taken-same (suc (suc (suc (suc b)))) l write v k = absurd (omega arith)
 
   -- the next AUTO REFRESH

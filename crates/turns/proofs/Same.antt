@@ -1,4 +1,4 @@
--- A turn by the sixteen cycles that are taken of the deadlines is the turn by those deadlines, and leaves the sixteen of
+-- A turn by the twelve cycles that are taken of the deadlines is the turn by those deadlines, and leaves the twelve of
 -- what that leaves.
 use Prim.Native.Nat.{ℕ, suc, _+_, _%_, _^_, _≤_, _<_}
 use mathlib.Core.Bool.{Bool, true, false, cond}

@@ -1,4 +1,4 @@
--- Between two requests all banks are idle, and sixteen cycles k are enough of the deadlines. Here is which they are,
+-- Between two requests all banks are idle, and twelve cycles k are enough of the deadlines. Here is which they are,
 -- and a request's turn by them and the next free cycle.
 use Prim.Native.Nat.{ℕ, _+_}
 use mathlib.Core.Bool.{Bool, true, false, cond}
@@ -14,48 +14,44 @@ use Rattle.turns.specs.declared.Tried.{Tried}
 use Rattle.turns.specs.Turns.{Turn}
 use Rattle.turns.specs.Turning.{cycleFor}
 
--- of each bank: rules 5, 6 and 7
+-- of each bank: rules 5 and 7
 abbrev pub REST : ℕ
 REST = 0
 
-abbrev pub AGAIN : ℕ
-AGAIN = 4
-
 abbrev pub APART : ℕ
-APART = 8
+APART = 4
 
 -- rules 11 and 13 for READ, 12 and 13 for WRITE; rule 14; rule 12 for AUTO REFRESH
 abbrev pub READ-FROM : ℕ
-READ-FROM = 12
+READ-FROM = 8
 
 abbrev pub WRITE-FROM : ℕ
-WRITE-FROM = 13
+WRITE-FROM = 9
 
 abbrev pub OVERDUE : ℕ
-OVERDUE = 14
+OVERDUE = 10
 
 abbrev pub BUS : ℕ
-BUS = 15
+BUS = 11
 
 -- the latest that the other banks ask of bank b
 abbrev pub apart : List ℕ → ℕ → ℕ
 apart d b = later (otherBank d b 0) (later (otherBank d b 1) (later (otherBank d b 2) (otherBank d b 3)))
 
--- the sixteen of deadlines d
+-- the twelve of deadlines d
 unfoldable pub betweenOf : List ℕ → List ℕ
 betweenOf d =
     at d all.REST ∷ at d (all.REST + 1) ∷ at d (all.REST + 2) ∷ at d (all.REST + 3)
-    ∷ at d all.AGAIN ∷ at d (all.AGAIN + 1) ∷ at d (all.AGAIN + 2) ∷ at d (all.AGAIN + 3)
     ∷ apart d 0 ∷ apart d 1 ∷ apart d 2 ∷ apart d 3
     ∷ later (at d all.END) (at d all.READS) ∷ later (at d all.BUS) (at d all.WRITES) ∷ at d all.OVERDUE ∷ at d all.BUS ∷ []
 
 unfoldable pub startOf : Settings → List ℕ
-startOf s = set (replicate 16 0) OVERDUE (overdueFrom s 0)
+startOf s = set (replicate 12 0) OVERDUE (overdueFrom s 0)
 
 -- ---- when a command may be given
 
 unfoldable pub activeSoonest : List ℕ → ℕ → ℕ
-activeSoonest k b = later (at k (REST + b)) (later (at k (AGAIN + b)) (at k (APART + b)))
+activeSoonest k b = later (at k (REST + b)) (at k (APART + b))
 
 abbrev pub burstSoonest : Bool → List ℕ → ℕ
 burstSoonest write k = cond write (at k WRITE-FROM) (at k READ-FROM)
@@ -104,7 +100,7 @@ burstAfter write s k m t =
 
 unfoldable pub taking : Settings → List ℕ → List ℕ → Bool → ℕ → Tried → List ℕ
 taking s m k write b r =
-    burstAfter write s (apartAfter (set (set k (REST + b) (r .rest)) (AGAIN + b) (r .active + s .tRC)) (r .active + s .tRRD) b) m (r .burst)
+    burstAfter write s (apartAfter (set k (REST + b) (r .rest)) (r .active + s .tRRD) b) m (r .burst)
 
 -- ---- the request alone, or else with an AUTO REFRESH before it
 

@@ -1,4 +1,4 @@
-// One request's turn in the schedule: when its commands go. Between two requests all banks are idle, and sixteen cycles
+// One request's turn in the schedule: when its commands go. Between two requests all banks are idle, and twelve cycles
 // are enough of the deadlines that are kept of a part (specs/Between).
 use deadlines::Pace;
 use deadlines::clock;
@@ -11,7 +11,6 @@ use deadlines::sums::data_after2;
 use deadlines::sums::latest;
 use settings::Settings;
 use settings::places::T_RAS;
-use settings::places::T_RC;
 use settings::places::T_RCD;
 use settings::places::T_RFC;
 use settings::places::T_RP;
@@ -28,25 +27,23 @@ ghost use Rattle.turns.specs.Turns.{told};
 ghost use Rattle.turns.specs.Between as is;
 
 // How many cycles are kept between two requests, and all of them.
-pub const KEPT: usize = 16;
+pub const KEPT: usize = 12;
 
 pub type Between = [u64; KEPT];
 
-// Of each bank: rules 5, 6 and 7.
+// Of each bank: rules 5 and 7.
 const REST: usize = 0;
 
-const AGAIN: usize = 4;
-
-const APART: usize = 8;
+const APART: usize = 4;
 
 // Rules 11 and 13 for READ, 12 and 13 for WRITE; rule 14; rule 12 for AUTO REFRESH.
-const READ_FROM: usize = 12;
+const READ_FROM: usize = 8;
 
-const WRITE_FROM: usize = 13;
+const WRITE_FROM: usize = 9;
 
-const OVERDUE: usize = 14;
+const OVERDUE: usize = 10;
 
-const BUS: usize = 15;
+const BUS: usize = 11;
 
 // A request's commands: their cycles, from when on their bank may be opened again, and whether an AUTO REFRESH placed
 // next comes in time. All other rules are kept where the deadlines are, and rule 14 where that AUTO REFRESH keeps it.
@@ -82,7 +79,7 @@ fn active_soonest(k: &Between, b: usize) -> u64
     requires { ⌜ b < 4 ⌝ }
     ensures { λ r. ⌜ r ≡ is.activeSoonest (now (k .entry)) b ⌝ }
 {
-    latest(k[REST + b], latest(k[AGAIN + b], k[APART + b]))
+    latest(k[REST + b], k[APART + b])
 }
 
 // READ or WRITE.
@@ -175,7 +172,6 @@ fn take(s: &Settings, k: &mut Between, pace: &Pace, write: bool, b: usize, tried
     ensures { λ r. ⌜ now (k .exit) ≡ is.taking (settingsOf (now (s .entry))) (now (pace .entry)) (now (k .entry)) write b tried ⌝ }
 {
     k[REST + b] = tried.rest;
-    k[AGAIN + b] = after(tried.active, s[T_RC]);
     apart_after(k, after(tried.active, s[T_RRD]), b);
     burst_after(write, s, k, pace, tried.burst);
 }

@@ -57,12 +57,6 @@ mul-d-4 c = search needs
 element-write-d-4 : tie.Need-element-write-d-4
 element-write-d-4 c = search needs
 
-element-copy-out-after-4 : tie.Need-element-copy-out-after-4
-element-copy-out-after-4 c = search needs
-
-after-requires-4 : tie.Need-after-requires-4
-after-requires-4 c κs = search needs
-
 add-d-5 : tie.Need-add-d-5
 add-d-5 c = search needs
 
@@ -90,23 +84,13 @@ element-copy-out-after2-2 c = search needs
 after2-requires : tie.Need-after2-requires
 after2-requires c κs = search needs
 
-add-d-7 : tie.Need-add-d-7
-add-d-7 c = search needs
-
-mul-d-7 : tie.Need-mul-d-7
-mul-d-7 c = search needs
-
-element-write-d-7 : tie.Need-element-write-d-7
-element-write-d-7 c = search needs
-
 returns : tie.Need-returns
 unfolding activeAfter
 returns c =
     let closes = c .before .before .before in
     let columned = closes .before .before in
     let apart = columned .before .before in
-    let again = apart .before .before in
-    rw (c .after22 .ensures, closes .after4 .ensures, columned .after3 .ensures, apart .after2 .ensures, again .after .ensures)
+    rw (c .after22 .ensures, closes .after3 .ensures, columned .after2 .ensures, apart .after .ensures)
 
 pub active-after-spec : {M : Type 1} → statement M
 active-after-spec =
@@ -130,18 +114,13 @@ active-after-spec =
     add-d-4
     mul-d-4
     element-write-d-4
-    element-copy-out-after-4
-    after-requires-4
     add-d-5
     mul-d-5
     element-write-d-5
-    add-d-6
-    mul-d-6
-    element-write-d-6
     element-copy-out-after2
     element-copy-out-after2-2
     after2-requires
-    add-d-7
-    mul-d-7
-    element-write-d-7
+    add-d-6
+    mul-d-6
+    element-write-d-6
     returns)

@@ -3,13 +3,13 @@ use Prim.Native.Nat.{ℕ, _+_}
 use mathlib.Core.List.{List, [], _∷_, _++_, map}
 use mathlib.Core.Option.{some}
 use mathlib.Core.Path.{_≡_, refl}
-use lib.ListN.{set}
-use Rattle.reading.specs.Settings.{settingsOf}
+use lib.ListN.{length, set}
+use Rattle.reading.specs.Settings.{Settings, settingsOf}
 use Rattle.reading.specs.Capture.{Event}
 use Rattle.reading.specs.Part.{start}
-use Rattle.reading.specs.Rules.{placing, rules, brokenBy}
-use Rattle.reading.specs.Verdict.{Verdict, clean, broken, judgeBy, verdictBy, judgeFrom}
-use Rattle.reading.proofs.Cases.{ACTIVE, READ, WRITE, TERMINATE, PRECHARGE, REFRESH, MODE, NOP, DESELECT, A10, bank, at, usual, four, touches, breaks, saidOf, Line, line, lineUnder, HoldLines}
+use Rattle.reading.specs.Rules.{placing, rules, rulesWithSix, brokenBy}
+use Rattle.reading.specs.Verdict.{Verdict, clean, broken, judgeBy, verdictBy, judgeFrom, judgedOf}
+use Rattle.reading.proofs.Cases.{ACTIVE, READ, WRITE, TERMINATE, PRECHARGE, REFRESH, MODE, NOP, DESELECT, A10, bank, at, usual, four, Said, touches, breaks, verdictSaid, saidOf, Line, line, lineUnder, HoldLines}
 
 -- the first cells of banks 1 and 3: 8192 x 1024 a bank
 abbrev one : ℕ
@@ -28,7 +28,7 @@ rule1 =
     lineUnder (set usual 1 12) (at 0 (ACTIVE + 0xfff) ∷ []) (touches 1 [])
     ∷ lineUnder (set usual 1 12) (at 0 (ACTIVE + 0x1000) ∷ []) (breaks 0 1 0 0)
     ∷ lineUnder (set usual 1 14) (at 0 (ACTIVE + 0x3fff) ∷ []) (touches 1 [])
-    -- it comes before rules 3 and 6
+    -- it comes before rule 3
     ∷ line (at 0 ACTIVE ∷ at 1 (ACTIVE + 0x2000) ∷ []) (breaks 1 1 1 1)
     ∷ []
 
@@ -135,7 +135,12 @@ rule-5 : HoldLines rule5
 unfolding rule5 saidOf
 rule-5 = refl
 
--- no capture with these settings is accepted, since tRC is above tRAS + tRP; with others rule 5 or 3 is broken wherever rule 6 is
+-- Rule 6 is in no list that captures are judged by; here it is asked among the others. No capture with these settings is
+-- accepted, since tRC is above tRAS + tRP; with others rule 5 or 3 is broken wherever rule 6 is.
+saidWithSix : Settings → List Event → Said
+unfolding verdictSaid verdictBy judgeBy
+saidWithSix s es = let v = verdictBy rulesWithSix s es in verdictSaid (judgedOf (length es) v) [] v
+
 rule6 : List Line
 rule6 =
     -- tRC 20: of its own bank
@@ -155,9 +160,20 @@ rule6 =
     ∷ lineUnder (set unlike 7 17) (at 0 ACTIVE ∷ at 11 PRECHARGE ∷ at 17 ACTIVE ∷ []) (touches 3 [])
     ∷ []
 
-rule-6 : HoldLines rule6
-unfolding rule6 saidOf
+rule-6 : map (λ x. saidWithSix (settingsOf (x .settings)) (x .events)) rule6 ≡ map (λ x. x .says) rule6
+unfolding rule6 saidWithSix
 rule-6 = refl
+
+-- and here it is not
+unasked6 : List Line
+unasked6 =
+    lineUnder (set usual 7 20) (at 0 ACTIVE ∷ at 7 PRECHARGE ∷ at 10 ACTIVE ∷ []) (touches 3 [])
+    ∷ lineUnder (set usual 7 20) (at 0 ACTIVE ∷ at 7 PRECHARGE ∷ at 9 ACTIVE ∷ []) (breaks 2 5 2 9)
+    ∷ []
+
+unasked-6 : HoldLines unasked6
+unfolding unasked6 saidOf
+unasked-6 = refl
 
 rule7 : List Line
 rule7 =
@@ -385,7 +401,7 @@ byLists =
     ∷ by (8 ∷ 14 ∷ []) (at 0 ACTIVE ∷ at 6 PRECHARGE ∷ at 7 NOP ∷ []) clean
     ∷ by [] (at 0 READ ∷ at 2001 READ ∷ []) clean
     ∷ by (14 ∷ []) (at 0 READ ∷ at 1001 READ ∷ []) (broken 14 1 1001)
-    -- placing asks rules 1 to 13
+    -- placing asks no rule above 13
     ∷ by placing (at 1001 NOP ∷ []) clean
     ∷ by rules (at 1001 NOP ∷ []) (broken 14 0 1001)
     ∷ []

@@ -71,14 +71,8 @@ returns-4 c =
       lt-leb _ _ (c .if4 .taken),
     )
 
-add-if5 : tie.Need-add-if5
-add-if5 c = search needs
-
-mul-if5 : tie.Need-mul-if5
-mul-if5 c = search needs
-
-element-copy-out-if5 : tie.Need-element-copy-out-if5
-element-copy-out-if5 c = search needs
+others-apart-requires : tie.Need-others-apart-requires
+others-apart-requires c κs = search needs
 
 returns-5 : tie.Need-returns-5
 unfolding activeBreaks unmet
@@ -87,61 +81,38 @@ returns-5 c =
     let asked₃ = asked₄ .before .before in
     let asked₂ = asked₃ .before .before in
     let asked₁ = asked₂ .before .before in
-    rw (
-      ← asked₁ .before .rows .ensures,
-      lt-ltb _ _ (asked₁ .if1 .left),
-      eq-eqb _ _ (asked₂ .if2 .left),
-      le-leb _ _ (asked₃ .if3 .left),
-      le-leb _ _ (asked₄ .if4 .left),
-      lt-leb _ _ (c .if5 .taken),
-    )
-
-others-apart-requires : tie.Need-others-apart-requires
-others-apart-requires c κs = search needs
-
-returns-6 : tie.Need-returns-6
-unfolding activeBreaks unmet
-returns-6 c =
-    let asked₅ = c .before .before in
-    let asked₄ = asked₅ .before .before in
-    let asked₃ = asked₄ .before .before in
-    let asked₂ = asked₃ .before .before in
-    let asked₁ = asked₂ .before .before in
     let a = asked₁ .before .before .before .args in
     let apart = otherBank (a .d .now) (a .b) in
-    let told = told-broken (everyBank (λ i. leb (apart i) (a .t))) 7 (c .before .others-apart .ensures) (c .if6 .taken) in
+    let told = told-broken (everyBank (λ i. leb (apart i) (a .t))) 7 (c .before .others-apart .ensures) (c .if5 .taken) in
     rw (
       ← asked₁ .before .rows .ensures,
       lt-ltb _ _ (asked₁ .if1 .left),
       eq-eqb _ _ (asked₂ .if2 .left),
       le-leb _ _ (asked₃ .if3 .left),
       le-leb _ _ (asked₄ .if4 .left),
-      le-leb _ _ (asked₅ .if5 .left),
     )
     (told .named ∙ sym (each-waits 7 apart [] (a .t) (lastBreaks (a .d .now) (a .t)) (told .fails)))
 
 last-breaks-requires : tie.Need-last-breaks-requires
 last-breaks-requires c κs = search needs
 
-returns-7 : tie.Need-returns-7
+returns-6 : tie.Need-returns-6
 unfolding activeBreaks unmet
-returns-7 c =
-    let asked₆ = c .before in
-    let asked₅ = asked₆ .before .before in
+returns-6 c =
+    let asked₅ = c .before in
     let asked₄ = asked₅ .before .before in
     let asked₃ = asked₄ .before .before in
     let asked₂ = asked₃ .before .before in
     let asked₁ = asked₂ .before .before in
     let a = asked₁ .before .before .before .args in
     let apart = otherBank (a .d .now) (a .b) in
-    let kept = told-kept (everyBank (λ i. leb (apart i) (a .t))) 6 (asked₆ .before .others-apart .ensures) (asked₆ .if6 .left) in
+    let kept = told-kept (everyBank (λ i. leb (apart i) (a .t))) 6 (asked₅ .before .others-apart .ensures) (asked₅ .if5 .left) in
     rw (
       ← asked₁ .before .rows .ensures,
       lt-ltb _ _ (asked₁ .if1 .left),
       eq-eqb _ _ (asked₂ .if2 .left),
       le-leb _ _ (asked₃ .if3 .left),
       le-leb _ _ (asked₄ .if4 .left),
-      le-leb _ _ (asked₅ .if5 .left),
     )
     (c .last-breaks .ensures ∙ sym (each-over 7 apart [] (a .t) (lastBreaks (a .d .now) (a .t)) kept))
 
@@ -162,11 +133,7 @@ active-breaks-spec =
     mul-if4
     element-copy-out-if4
     returns-4
-    add-if5
-    mul-if5
-    element-copy-out-if5
-    returns-5
     others-apart-requires
-    returns-6
+    returns-5
     last-breaks-requires
-    returns-7)
+    returns-6)

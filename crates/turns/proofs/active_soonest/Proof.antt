@@ -21,24 +21,12 @@ mul-latest-2 c = search needs
 element-copy-out-latest-2 : tie.Need-element-copy-out-latest-2
 element-copy-out-latest-2 c = search needs
 
-add-latest-3 : tie.Need-add-latest-3
-add-latest-3 c = search needs
-
-mul-latest-3 : tie.Need-mul-latest-3
-mul-latest-3 c = search needs
-
-element-copy-out-latest-3 : tie.Need-element-copy-out-latest-3
-element-copy-out-latest-3 c = search needs
-
 latest-requires : tie.Need-latest-requires
 latest-requires c κs = search needs
 
-latest-requires-2 : tie.Need-latest-requires-2
-latest-requires-2 c κs = search needs
-
 returns : tie.Need-returns
 unfolding activeSoonest
-returns c = rw (c .latest2 .ensures, c .before .latest .ensures)
+returns c = rw (c .latest .ensures)
 
 pub active-soonest-spec : {M : Type 1} → statement M
 active-soonest-spec =
@@ -50,9 +38,5 @@ active-soonest-spec =
     add-latest-2
     mul-latest-2
     element-copy-out-latest-2
-    add-latest-3
-    mul-latest-3
-    element-copy-out-latest-3
     latest-requires
-    latest-requires-2
     returns)
