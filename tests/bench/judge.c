@@ -174,7 +174,7 @@ static uint64_t check_capture(const uint8_t *bytes, size_t len, struct capture *
  * Entries from 4 on in the longer arrays are never read for a rule: they take the stores
  * that a command does not call for, in place of a branch around them. */
 struct part {
-    int32_t active[BANKS];         /* the last ACTIVE, for rules 6, 8 and 9 */
+    int32_t active[BANKS];         /* the last ACTIVE, for rules 8 and 9 */
     int32_t precharged[2 * BANKS]; /* rule 5 */
     int32_t recovered[4 * BANKS];  /* rule 10 */
     /* By direction, 0 for WRITE and 1 for READ: rules 12 and 13, and rules 11 and 13. */
@@ -269,8 +269,6 @@ __attribute__((cold, noinline)) static uint32_t lowest_rule(const struct setting
     if ((command == ACTIVE && t < part->precharged[bank])
         || (wants_idle && t < all_precharged(part)))
         return 5;
-    if (command == ACTIVE && t < part->active[bank] + s->rc)
-        return 6;
     if (command == ACTIVE && t < other_active(now, bank))
         return 7;
     if (is_access && t < part->active[bank] + s->rcd)
@@ -360,8 +358,8 @@ active: {
     int32_t row = pins & 0x3fff;
     int32_t is_open = (int32_t)(now.open << (31 - bank));
     int32_t others = other_active(now, bank);
-    if (((t - part.precharged[bank]) | (t - part.active[bank] - s.rc) | (t - others)
-         | (t - now.busy) | (now.due - t) | (highest_row - row) | is_open) < 0)
+    if (((t - part.precharged[bank]) | (t - others) | (t - now.busy) | (now.due - t)
+         | (highest_row - row) | is_open) < 0)
         goto breaks;
     now.open |= 1u << bank;
     part.active[bank] = t;
@@ -628,7 +626,6 @@ uint64_t c_cells(const uint8_t *bytes, size_t len, uint32_t *out, size_t out_len
 struct plan {
     int32_t next; /* the first cycle free for an event */
     int32_t precharged[BANKS];
-    int32_t cycled[BANKS];
     uint32_t active_bank;
     int32_t spaced, spaced_same;
     int32_t busy, all_idle, due;
@@ -644,8 +641,7 @@ static inline struct placing place(const struct settings *s, const struct plan *
                                    uint32_t read, uint32_t bank)
 {
     int32_t others = bank == plan->active_bank ? plan->spaced_same : plan->spaced;
-    int32_t same = later(plan->precharged[bank], plan->cycled[bank]);
-    int32_t active = later(later(plan->next, plan->busy), later(same, others));
+    int32_t active = later(later(plan->next, plan->busy), later(plan->precharged[bank], others));
     int32_t access = later(active + s->rcd, plan->from[read]);
     int32_t over = access + (int32_t)pairs_of(s->mode);
     int32_t done = read ? over : over + 1 + s->wr;
@@ -668,7 +664,6 @@ static inline void accept(const struct settings *s, struct plan *plan,
     plan->spaced_same = placing->others;
     plan->spaced = placing->active + s->rrd;
     plan->active_bank = bank;
-    plan->cycled[bank] = placing->active + s->rc;
     plan->precharged[bank] = placing->idle;
     plan->all_idle = later(plan->all_idle, placing->idle);
     plan->from[read] = over;

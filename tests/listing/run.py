@@ -18,7 +18,7 @@ CRATE = os.path.join(HERE, "..", "..", "crates", "listing")
 APART = 20
 
 # For each rule, events counted from a cycle at which the part is idle and every time is over; the last event breaks the
-# rule and no lower one. There is none for rule 6: where tRC is no longer than tRAS + tRP, rule 3 or 5 is broken with it.
+# rule and no lower one.
 FAULTS = [
     (1, USUAL, [(0, ACTIVE | bank(1) | 1 << 13)]),
     (1, setting(1, 12), [(0, ACTIVE | 0x1FFF)]),

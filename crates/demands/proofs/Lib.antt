@@ -3,5 +3,6 @@ pub mod Judging
 pub mod Listing
 pub mod Refusing
 pub mod Scheduling
+pub mod WithoutSix
 mod Finding
 mod Settled

@@ -1,4 +1,5 @@
--- What the contracts of the public functions allow, when a call is refused, and how many beats bursts keep.
+-- What the contracts of the public functions allow, when a call is refused, how many beats bursts keep, and answers by other rules.
 pub mod Allowed
 pub mod Beats
 pub mod Refused
+pub mod ByRules

@@ -7,7 +7,7 @@ use mathlib.Core.Path.{_≡_, refl, sym, ap, _∙_}
 use native.Mathlib.Omega.{arith}
 use lib.Dec.{eqb}
 use lib.ListN.{length, getD}
-use Rattle.reading.specs.Settings.{Settings}
+use Rattle.reading.specs.Settings.{Settings, Consistent}
 use Rattle.reading.specs.Capture.{Event, lastCycle}
 use Rattle.reading.specs.RefreshClock.{inTime}
 use Rattle.reading.specs.Commands.{Command, PRECHARGE, WRITE, READ, code, is, commandOf}
@@ -47,7 +47,7 @@ module _ (s : Settings) where
         go true = refl
         go false = refl
 
-  module _ (short : s .tRC ≤ s .tRAS + s .tRP) (behind : List ℕ) (nine : List·Memᴰ 9 behind) where
+  module _ (short : Consistent s) (behind : List ℕ) (nine : List·Memᴰ 9 behind) where
     abbrev by : List ℕ
     by = asked s short behind nine
 

@@ -10,7 +10,7 @@ use lib.Dec.{leb, eqb}
 use borrow.Author.Tests.{leb-true, le-leb, not-true, not-false}
 use Rattle.reading.specs.Search.{implies, every, find, after, orZero, later}
 use Rattle.reading.specs.Mode.{h}
-use Rattle.reading.specs.Settings.{Settings}
+use Rattle.reading.specs.Settings.{Settings, Consistent}
 use Rattle.reading.specs.Capture.{Event}
 use Rattle.reading.specs.Commands.{Command, ACTIVE, READ, WRITE, is, among, commandOf}
 use Rattle.reading.specs.Part.{Bank, Part, start, step, openOn, idleFrom, autoPrecharge, closes, bankAfter, partAfter}
@@ -126,7 +126,7 @@ module _ (s : Settings) where
       stays-rested (p .mode) t c b (p .banks b) held (rest b l)
 
   -- rules 3 and 5 ask as much as rule 6
-  module _ (fits : s .tRC ≤ s .tRAS + s .tRP) where
+  module _ (fits : Consistent s) where
     six-kept : (p : Part) (t : ℕ) (c : Command) → c .bank < 4 → Rest p → rule3 s p t c ≡ true → rule5 s p t c ≡ true → rule6 s p t c ≡ true
     six-kept p t c l rest three five = go (is ACTIVE c) _ _ three five
       where

@@ -1,5 +1,5 @@
 -- The settings and the table of their limits.
-use Prim.Native.Nat.{ℕ, _+_}
+use Prim.Native.Nat.{ℕ, _+_, _≤_}
 use mathlib.Core.Bool.{Bool, not, _&&_}
 use mathlib.Core.List.{List, [], _∷_, _++_}
 use mathlib.Core.Option.{Option}
@@ -84,6 +84,10 @@ outOfRange ws n = lowest (λ i. not (settingFits i (getD ws i 0))) n
 -- tRC's place, if it contradicts tRAS and tRP: a bank is open for the one and closed for the other before it is opened again
 abbrev pub contradiction : Settings → Option ℕ
 contradiction s = given 7 (ltb (s .tRAS + s .tRP) (s .tRC))
+
+-- what is left where it does not: by this rule 6 need not be asked
+abbrev pub Consistent : Settings → Type 0
+Consistent s = s .tRC ≤ s .tRAS + s .tRP
 
 -- refusal 3: the place of what is wrong with a list of settings, each by itself first
 unfoldable pub badSetting : List ℕ → Option ℕ

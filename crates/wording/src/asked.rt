@@ -8,7 +8,6 @@ use settings::places::GAP;
 use settings::places::ROW_BITS;
 use settings::places::T_MRD;
 use settings::places::T_RAS;
-use settings::places::T_RC;
 use settings::places::T_RCD;
 use settings::places::T_RFC;
 use settings::places::T_RP;
@@ -102,12 +101,6 @@ fn ask_of_rows(out: &mut Out, settings: &Settings, rule: u32) {
             b"ACTIVE at least tRP (",
             settings[T_RP],
             b") cycles after its bank's precharge; AUTO REFRESH and MODE REGISTER SET after every bank's",
-        ),
-        6 => ask(
-            out,
-            b"ACTIVE at least tRC (",
-            settings[T_RC],
-            b") cycles after the bank's last ACTIVE",
         ),
         _ => ask(
             out,

@@ -1,4 +1,4 @@
-//! Rules 1 to 15, one function each. Every one says whether an event at a cycle keeps it,
+//! Rules 1 to 15 without 6, one function each. Every one says whether an event at a cycle keeps it,
 //! given the part as the events before have left it.
 
 use crate::capture::Mode;
@@ -8,24 +8,36 @@ use crate::sleep::{self, Sleep, State};
 
 type Rule = fn(&Part, u64, Asked) -> bool;
 
-/// The rules by number: rule 1 stands first.
-pub const RULES: [Rule; 15] = [
-    rule_1, rule_2, rule_3, rule_4, rule_5, rule_6, rule_7, rule_8, rule_9, rule_10, rule_11,
-    rule_12, rule_13, rule_14, rule_15,
+/// The rules with their numbers, the lowest first. There is no rule 6 any more.
+pub const RULES: [(u32, Rule); 14] = [
+    (1, rule_1),
+    (2, rule_2),
+    (3, rule_3),
+    (4, rule_4),
+    (5, rule_5),
+    (7, rule_7),
+    (8, rule_8),
+    (9, rule_9),
+    (10, rule_10),
+    (11, rule_11),
+    (12, rule_12),
+    (13, rule_13),
+    (14, rule_14),
+    (15, rule_15),
 ];
 
 /// The lowest rule that an event breaks.
 pub fn lowest_broken(part: &Part, cycle: u64, asked: Asked) -> Option<u32> {
-    let broken = RULES.iter().position(|keeps| !keeps(part, cycle, asked))?;
-    Some(broken as u32 + 1)
+    let breaks = |&&(_, keeps): &&(u32, Rule)| !keeps(part, cycle, asked);
+    RULES.iter().find(breaks).map(|&(rule, _)| rule)
 }
 
 /// Whether all rules but the refresh gap pass an event, which is what schedules ask: they
 /// never sleep, so rule 15 passes all of theirs.
 pub fn pass_but_refresh(part: &Part, cycle: u64, asked: Asked) -> bool {
-    (1..)
-        .zip(RULES)
-        .all(|(rule, keeps)| rule == 14 || keeps(part, cycle, asked))
+    RULES
+        .iter()
+        .all(|&(rule, keeps)| rule == 14 || keeps(part, cycle, asked))
 }
 
 /// At least `time` cycles after something, or it never happened.
@@ -86,14 +98,6 @@ fn rule_5(part: &Part, cycle: u64, asked: Asked) -> bool {
     match asked.command {
         Command::Active { bank, .. } => precharged(&part.banks[bank]),
         _ if asks_all_banks(asked.command) => part.banks.iter().all(precharged),
-        _ => true,
-    }
-}
-
-/// tRC from ACTIVE to ACTIVE of one bank.
-fn rule_6(part: &Part, cycle: u64, asked: Asked) -> bool {
-    match asked.command {
-        Command::Active { bank, .. } => waited(cycle, part.settings.t_rc, part.banks[bank].active),
         _ => true,
     }
 }

@@ -11,9 +11,8 @@ use crate::capture::{
 use crate::verdict::Answer;
 
 pub const RULES: usize = 15;
-/// It is never the lowest broken rule: a bank that is opened again was open for tRAS and
-/// closed for tRP, or rule 3 or 5 is broken, and no tRC above both together is accepted.
-pub const NEVER_LOWEST: u32 = 6;
+/// A number below them that no rule has any more.
+pub const NO_RULE: u32 = 6;
 
 /// The refusals that document 01's table has for each question, in its order.
 const OF_JUDGE: [u32; 4] = [1, 2, 3, 4];
@@ -66,7 +65,7 @@ impl OfCaptures {
         let rules = if settings == SETTINGS { 14 } else { RULES };
         let mut counts = vec![("judge: clean".to_string(), self.verdicts.given)];
         for (rule, &count) in (1..).zip(&self.rules[..rules]) {
-            if rule != NEVER_LOWEST {
+            if rule != NO_RULE {
                 counts.push((format!("judge: rule {rule}"), count));
             }
         }

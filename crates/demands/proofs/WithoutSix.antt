@@ -1,0 +1,120 @@
+-- Rule 6 is asked no more, and no answer is another for that: judged and placed by rule 6 too, every capture, every burst list
+-- and every schedule gets the answer that it gets without.
+use Prim.Native.Nat.{ℕ, _+_, _≤_}
+use mathlib.Core.Bool.{Bool, true, false, not}
+use mathlib.Core.List.{List, [], _∷_, List·Memᴰ}
+use mathlib.Core.Option.{Option, none, some}
+use mathlib.Core.Path.{_≡_, refl, sym, ap, _∙_}
+use native.Mathlib.Omega.{arith}
+use lib.Dec.{eqb, ltb}
+use lib.ListN.{length}
+use borrow.Author.Tests.{eqb-true, ltb-false, not-false}
+use Rattle.reading.specs.Search.{given, orElse}
+use Rattle.reading.specs.Settings.{Settings, settingsCount, settingsOf, outOfRange, contradiction, Consistent, badSetting}
+use Rattle.reading.specs.Capture.{Event, eventCount, eventsOf, eventBytes, settingWords, lengthFits, headerFits, pinLimit, badEvent}
+use Rattle.reading.specs.Part.{start}
+use Rattle.reading.specs.Rules.{placing, rules, placingWithSix, rulesWithSix}
+use Rattle.reading.specs.Verdict.{Verdict, verdictBy, judgedOf}
+use Rattle.reading.specs.Schedule.{Schedule, badRequest, scheduleBy, captureOf}
+use Rattle.reading.specs.Answers.{Answer, answered, Outcome, unless, accepted, settingsIn, notClean, cellsIn, fitting, leaves, whenPlanned, verdictIn, judgeAnswer, cellsOutcome, scheduleOutcome}
+use Rattle.reading.proofs.Six.{same-judged, start-rest}
+use Rattle.memory.proofs.Six.{same-schedule}
+use Rattle.plan.proofs.Ranged.{ranged}
+use Rattle.plan.proofs.Ready.{requests-fit}
+use Rattle.plan.proofs.Captured.{settings-fit}
+use Rattle.demands.specs.ByRules.{verdictInBy, judgeAnswerBy, cellsOutcomeBy, scheduleOutcomeBy}
+
+-- ---- settings that are not refused
+
+short : (ws : List ℕ) → badSetting ws ≡ none → Consistent (settingsOf ws)
+unfolding badSetting
+short ws fine = ltb-false sum (settingsOf ws .tRC) (go (outOfRange ws (length ws)) (ltb sum (settingsOf ws .tRC)) fine)
+  where
+    sum : ℕ
+    sum = settingsOf ws .tRAS + settingsOf ws .tRP
+
+    go : (o : Option ℕ) (b : Bool) → orElse o (given 7 b) ≡ none → b ≡ false
+    go none false e = refl
+    go none true e = let z : _≡_ {A = ℕ} 0 1 = cc in absurd (omega arith)
+    go (some i) b e = let z : _≡_ {A = ℕ} 0 1 = cc in absurd (omega arith)
+
+-- ---- judging
+
+abbrev behind : List ℕ
+behind = 7 ∷ 8 ∷ 9 ∷ 10 ∷ 11 ∷ 12 ∷ 13 ∷ []
+
+abbrev there : {r q : ℕ} {rs : List ℕ} → List·Memᴰ r rs → List·Memᴰ r (q ∷ rs)
+there m = List·Memᴰ.List·Memᴰ·tail m
+
+ninth : List·Memᴰ 9 behind
+ninth = there (there (List·Memᴰ.List·Memᴰ·head refl))
+
+ninth-of-all : List·Memᴰ 9 (7 ∷ 8 ∷ 9 ∷ 10 ∷ 11 ∷ 12 ∷ 13 ∷ 14 ∷ 15 ∷ [])
+ninth-of-all = there (there (List·Memᴰ.List·Memᴰ·head refl))
+
+-- Of whatever settings with a tRC of at most tRAS + tRP: the same verdict, rule, event and count.
+pub verdicts-agree : (s : Settings) → Consistent s → (es : List Event) → verdictBy rulesWithSix s es ≡ verdictBy rules s es
+unfolding verdictBy
+verdicts-agree s fits es = same-judged s fits (7 ∷ 8 ∷ 9 ∷ 10 ∷ 11 ∷ 12 ∷ 13 ∷ 14 ∷ 15 ∷ []) ninth-of-all (start s) (start-rest s) 0 es
+
+accepted-alike : {A : Type 0} (capture : List ℕ) (x y : Answer A) → (badSetting (settingWords capture) ≡ none → x ≡ y) →
+    accepted capture x ≡ accepted capture y
+unfolding accepted
+accepted-alike capture x y same =
+    go (given 0 (not (lengthFits capture))) (given 0 (not (headerFits capture))) (badSetting (settingWords capture))
+    (badEvent (pinLimit capture) (eventBytes capture) (eventCount capture)) same
+  where
+    go : (a b c d : Option ℕ) → (c ≡ none → x ≡ y) → unless 1 a (unless 2 b (unless 3 c (unless 4 d x))) ≡ unless 1 a (unless 2 b (unless 3 c (unless 4 d y)))
+    go (some p) b c d f = refl
+    go none (some p) c d f = refl
+    go none none (some p) d f = refl
+    go none none none (some p) f = refl
+    go none none none none f = f refl
+
+module _ (capture : List ℕ) where
+  agree : badSetting (settingWords capture) ≡ none → verdictInBy rulesWithSix capture ≡ verdictInBy rules capture
+  agree fine = verdicts-agree (settingsIn capture) (short (settingWords capture) fine) (eventsOf capture)
+
+  -- Every byte string gets from the judge the answer that it would get with rule 6.
+  pub judge-without-six : judgeAnswerBy rulesWithSix capture ≡ judgeAnswer capture
+  unfolding judgeAnswer verdictIn
+  judge-without-six =
+      accepted-alike capture _ _
+      (λ fine.
+      ap (λ (v : Verdict). answered (record { events = eventCount capture; judged = judgedOf (eventCount capture) v; verdict = v })) (agree fine))
+
+  -- So does every burst list, in answer and buffer.
+  pub cells-without-six : (out : List ℕ) → cellsOutcomeBy rulesWithSix capture out ≡ cellsOutcome capture out
+  unfolding cellsOutcome verdictIn
+  cells-without-six out =
+      ap (λ (a : Answer (List ℕ)). leaves a out)
+      (accepted-alike capture _ _
+      (λ fine. ap (λ (v : Verdict). unless 8 (notClean v) (fitting out (cellsIn capture))) (agree fine)))
+
+-- ---- schedules
+
+-- And every schedule: the same refusals, the same bytes.
+pub schedule-without-six : (ws qs out : List ℕ) → scheduleOutcomeBy placingWithSix ws qs out ≡ scheduleOutcome ws qs out
+unfolding scheduleOutcome
+schedule-without-six ws qs out =
+    ap (λ (a : Answer (List ℕ)). leaves a out)
+    (go (not (eqb (length ws) settingsCount)) refl (badSetting ws) refl (badRequest (settingsOf ws) qs) refl)
+  where
+    rest : List ℕ → Answer (List ℕ)
+    rest rs = whenPlanned (scheduleBy rs (settingsOf ws) qs) (λ es. fitting out (captureOf ws es))
+
+    same : length ws ≡ 14 → badSetting ws ≡ none → badRequest (settingsOf ws) qs ≡ none → rest placingWithSix ≡ rest placing
+    unfolding rest
+    same fourteen fine fit =
+        ap (λ (x : Schedule). whenPlanned x (λ es. fitting out (captureOf ws es)))
+        (same-schedule (settingsOf ws) (short ws fine) behind ninth (ranged ws (settings-fit ws fourteen fine) .sized) qs
+        (requests-fit (settingsOf ws) qs fit))
+
+    go : (count : Bool) → not (eqb (length ws) settingsCount) ≡ count → (bad : Option ℕ) → badSetting ws ≡ bad → (asked : Option ℕ) →
+        badRequest (settingsOf ws) qs ≡ asked →
+        unless 2 (given 0 count) (unless 3 bad (unless 5 asked (rest placingWithSix))) ≡
+        unless 2 (given 0 count) (unless 3 bad (unless 5 asked (rest placing)))
+    go true e bad f asked g = refl
+    go false e (some p) f asked g = refl
+    go false e none f (some p) g = refl
+    go false e none f none g = same (eqb-true (length ws) 14 (not-false _ e)) f g
