@@ -2,7 +2,7 @@
 -- and every schedule gets the answer that it gets without.
 use Prim.Native.Nat.{ℕ, _+_, _≤_}
 use mathlib.Core.Bool.{Bool, true, false, not}
-use mathlib.Core.List.{List, [], _∷_, List·Memᴰ}
+use mathlib.Core.List.{List, [], _∷_, _++_, List·Memᴰ, Memᴰ·append-left}
 use mathlib.Core.Option.{Option, none, some}
 use mathlib.Core.Path.{_≡_, refl, sym, ap, _∙_}
 use native.Mathlib.Omega.{arith}
@@ -40,22 +40,20 @@ short ws fine = ltb-false sum (settingsOf ws .tRC) (go (outOfRange ws (length ws
 
 -- ---- judging
 
-abbrev behind : List ℕ
-behind = 7 ∷ 8 ∷ 9 ∷ 10 ∷ 11 ∷ 12 ∷ 13 ∷ []
+-- the rules that come behind 6, where commands are placed and where events are judged
+abbrev placing-behind : List ℕ
+placing-behind = 7 ∷ 8 ∷ 9 ∷ 10 ∷ 11 ∷ 12 ∷ 13 ∷ []
 
-abbrev there : {r q : ℕ} {rs : List ℕ} → List·Memᴰ r rs → List·Memᴰ r (q ∷ rs)
-there m = List·Memᴰ.List·Memᴰ·tail m
+abbrev judging-behind : List ℕ
+judging-behind = placing-behind ++ (14 ∷ 15 ∷ [])
 
-ninth : List·Memᴰ 9 behind
-ninth = there (there (List·Memᴰ.List·Memᴰ·head refl))
-
-ninth-of-all : List·Memᴰ 9 (7 ∷ 8 ∷ 9 ∷ 10 ∷ 11 ∷ 12 ∷ 13 ∷ 14 ∷ 15 ∷ [])
-ninth-of-all = there (there (List·Memᴰ.List·Memᴰ·head refl))
+ninth : List·Memᴰ 9 placing-behind
+ninth = List·Memᴰ.List·Memᴰ·tail (List·Memᴰ.List·Memᴰ·tail (List·Memᴰ.List·Memᴰ·head refl))
 
 -- Of whatever settings with a tRC of at most tRAS + tRP: the same verdict, rule, event and count.
 pub verdicts-agree : (s : Settings) → Consistent s → (es : List Event) → verdictBy rulesWithSix s es ≡ verdictBy rules s es
 unfolding verdictBy
-verdicts-agree s fits es = same-judged s fits (7 ∷ 8 ∷ 9 ∷ 10 ∷ 11 ∷ 12 ∷ 13 ∷ 14 ∷ 15 ∷ []) ninth-of-all (start s) (start-rest s) 0 es
+verdicts-agree s fits es = same-judged s fits judging-behind (Memᴰ·append-left (14 ∷ 15 ∷ []) ninth) (start s) (start-rest s) 0 es
 
 accepted-alike : {A : Type 0} (capture : List ℕ) (x y : Answer A) → (badSetting (settingWords capture) ≡ none → x ≡ y) →
     accepted capture x ≡ accepted capture y
@@ -104,10 +102,9 @@ schedule-without-six ws qs out =
     rest rs = whenPlanned (scheduleBy rs (settingsOf ws) qs) (λ es. fitting out (captureOf ws es))
 
     same : length ws ≡ 14 → badSetting ws ≡ none → badRequest (settingsOf ws) qs ≡ none → rest placingWithSix ≡ rest placing
-    unfolding rest
     same fourteen fine fit =
         ap (λ (x : Schedule). whenPlanned x (λ es. fitting out (captureOf ws es)))
-        (same-schedule (settingsOf ws) (short ws fine) behind ninth (ranged ws (settings-fit ws fourteen fine) .sized) qs
+        (same-schedule (settingsOf ws) (short ws fine) placing-behind ninth (ranged ws (settings-fit ws fourteen fine) .sized) qs
         (requests-fit (settingsOf ws) qs fit))
 
     go : (count : Bool) → not (eqb (length ws) settingsCount) ≡ count → (bad : Option ℕ) → badSetting ws ≡ bad → (asked : Option ℕ) →
