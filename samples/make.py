@@ -118,6 +118,13 @@ def unknown_latency(part, seed):
     return capture(c.events, settings_of(dict(part, mode=mode_word(4, False, 4)))), ["refused 3 place 3"]
 
 
+def mistyped_trc(part, seed):
+    """Clean traffic, and a 0 too many behind tRC."""
+    c = Controller(part, seed)
+    c.run(300)
+    return capture(c.events, settings_of(dict(part, tRC=10 * part["tRC"]))), ["refused 3 place 7"]
+
+
 def cut_short(part, seed):
     data, _ = clean_run(part, seed)
     return data[:3000], ["refused 1 place 0"]
@@ -263,6 +270,7 @@ SAMPLES = [
     ("late-refresh-asleep", ("W948D6KBHX", "-5 CL3"), late_refresh_asleep, "GAP passes in power-down"),
     ("power-down-before-tRFC", ("MT46H128M16LF", "-48 CL3"), power_down_before_trfc,
      "CKE falls with NOP a cycle before tRFC is over"),
+    ("setting-tRC-100", ("W948D6KBHX", "-6 CL3"), mistyped_trc, "clean traffic, and a tRC of 100 typed where the sheet has 10"),
 ]
 
 

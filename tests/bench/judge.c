@@ -94,7 +94,7 @@ static inline uint64_t broken(uint32_t rule, uint32_t event)
 
 static inline int is_broken(uint64_t answer) { return (answer >> 48 & 255) != 0; }
 
-/* Refusal 3, or 0. */
+/* Refusal 3, or 0: each setting by itself, then tRC beside tRAS and tRP. */
 static uint64_t check_settings(const struct settings *settings, uint32_t count)
 {
     uint32_t list[SLEEP_SETTINGS];
@@ -103,7 +103,7 @@ static uint64_t check_settings(const struct settings *settings, uint32_t count)
         if (list[i] - LEAST[i] > MOST[i] - LEAST[i] || (i == 3 && !is_mode(list[i])))
             return refused(3, i);
     }
-    return 0;
+    return settings->rc > settings->ras + settings->rp ? refused(3, 7) : 0;
 }
 
 __attribute__((cold, noinline)) static uint64_t

@@ -53,11 +53,13 @@ REFUSED = {
     "refusal 1": capture([])[:79],
     "refusal 2": capture([], header=[80, 15, 24, 0, 80, 0]),
     "refusal 3": capture([], setting(3, 0x42)),
+    "contradiction": capture([(0, ACTIVE), (3, READ | A10), (10, ACTIVE)], setting(7, 11)),
     "refusal 4": capture([(0, NOP), (1, NOP | 1 << 20)]),
     "refusal 1 of 16 settings": capture([], SLEEPY)[:87],
     "refusal 1 of 80 bytes": capture([], header=[80, 16, 24, 0, 80, 0]),
     "refusal 2 of 16 settings": capture([], SLEEPY, [88, 17, 24, 0, 88, 0]),
     "refusal 3 of 16 settings": capture([], setting(15, 0, SLEEPY)),
+    "contradiction of 16 settings": capture([(0, NOP)], setting(7, 11, SLEEPY)),
     "refusal 4 of 16 settings": capture([(0, NOP | LOW), (1, NOP | 1 << 21)], SLEEPY),
 }
 
@@ -67,6 +69,7 @@ LISTS = {
     "case m": setting(13, 24) + FOUR,
     "no request": USUAL,
     "refusal 3 of a schedule": setting(1, 15) + FOUR,
+    "contradiction of a schedule": setting(7, 11) + FOUR,
     "refusal 5": USUAL + [5, 1 << 27],
     "refusal 6": setting(13, 16) + FOUR,
 }
@@ -98,8 +101,6 @@ def seeds():
         yield name, CAPTURE, capture(events, SLEEPY)
         if all(cycle < 256 for cycle, _ in events):
             yield "spelled " + name, SPELLED_ASLEEP, spelled(events, SLEEPY)
-    slow = setting(7, 11)
-    yield "rule 6", SPELLED, spelled([(0, ACTIVE), (3, READ | A10), (10, ACTIVE)], slow)
     yield "spelled rule 14", SPELLED, spelled([(100, NOP)], setting(13, 99))
     yield "too short a buffer", SPELLED | 2 << 2, spelled(EVENTS["read"])
     for name, data in REFUSED.items():

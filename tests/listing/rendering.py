@@ -111,10 +111,19 @@ def broken(events, settings, rule, at):
     return text(setting_lines(settings) + broken_lines(events, rule, at) + event_lines(events, settings, at) + [asks])
 
 
+def refused_setting(place, settings):
+    """A tRC within its limits is refused because of tRAS and tRP."""
+    lines = [setting_line(place, settings[place])]
+    if place == 7 and 1 <= settings[7] <= 10_000:
+        trp, tras, trc = settings[5:8]
+        lines.append(f"settings 5, 6 and 7 contradict each other: tRC ({trc}) is above tRAS ({tras}) + tRP ({trp})")
+    return lines
+
+
 def refused(data, number, place):
     lines = [f"refused {number} place {place}"]
     if number == 3:
-        lines.append(setting_line(place, settings_in(data)[place]))
+        lines += refused_setting(place, settings_in(data))
     if number == 4:
         for i in range(max(0, place - 1), place + 1):
             cycle, pins = event_in(data, i)

@@ -18,7 +18,7 @@ CRATE = os.path.join(HERE, "..", "..", "crates", "listing")
 APART = 20
 
 # For each rule, events counted from a cycle at which the part is idle and every time is over; the last event breaks the
-# rule and no lower one. tRC is 10, so for rule 6 alone a setting has to change.
+# rule and no lower one. There is none for rule 6: where tRC is no longer than tRAS + tRP, rule 3 or 5 is broken with it.
 FAULTS = [
     (1, USUAL, [(0, ACTIVE | bank(1) | 1 << 13)]),
     (1, setting(1, 12), [(0, ACTIVE | 0x1FFF)]),
@@ -34,7 +34,6 @@ FAULTS = [
     (4, USUAL, [(0, MODE_REGISTER_SET | 0x2B), (1, ACTIVE)]),
     (5, USUAL, [(0, ACTIVE), (8, PRECHARGE), (10, ACTIVE)]),
     (5, USUAL, [(0, ACTIVE | bank(2)), (3, READ | bank(2) | A10), (9, AUTO_REFRESH)]),
-    (6, setting(7, 11), [(0, ACTIVE), (3, READ | A10), (10, ACTIVE)]),
     (7, USUAL, [(0, ACTIVE | bank(3)), (1, ACTIVE | bank(1))]),
     (8, USUAL, [(0, ACTIVE), (2, READ)]),
     (8, USUAL, [(0, ACTIVE), (2, WRITE | A10 | column(1023))]),
@@ -131,11 +130,13 @@ def late_cases(chance):
 
 
 def any_settings(chance, n=14):
-    """n settings within their limits."""
+    """n settings within their limits that do not contradict each other."""
     def between(least, most):
         return least + chance.randrange(most - least + 1)
     mode = mode_word(2 ** between(1, 4), between(0, 1), between(2, 3))
-    first = [between(1, 2), between(12, 14), between(8, 11), mode] + [between(1, 10_000) for _ in range(9)]
+    times = [between(1, 10_000) for _ in range(9)]
+    times[3] = between(1, min(10_000, times[1] + times[2]))  # tRC, by tRP and tRAS
+    first = [between(1, 2), between(12, 14), between(8, 11), mode] + times
     return first + [between(1, 10**6)] + [between(1, 10_000) for _ in range(n - 14)]
 
 
@@ -176,6 +177,12 @@ def refused_cases(chance):
         words += (0xFFFF_FFFF,)
         cases += [(capture(traffic(5), setting(i, word)), 3, i) for word in words if i < 14]
         cases += [(capture(traffic_asleep(9), setting(i, word, SLEEPY)), 3, i) for word in words]
+    # tRP, tRAS and a tRC above both together; with another fault behind it, and before it.
+    for trp, tras, trc in [(3, 7, 11), (3, 7, 100), (1, 1, 3), (1, 1, 10_000), (4999, 5000, 10_000), (10_000, 9_000, 10_001)]:
+        for usual, events in [(USUAL, [(0, NOP | 1 << 20)]), (SLEEPY, traffic_asleep(9))]:
+            settings = setting(5, trp, setting(6, tras, setting(7, trc, usual)))
+            cases += [(capture(events, settings), 3, 7), (capture(events, setting(4, 0, settings)), 3, 4),
+                      (capture(events, setting(13, 0, settings)), 3, 13 if trc <= 10_000 else 7)]
     for at, event in [(0, (0, NOP | LOW | 1 << 21)), (5, (APART * 4, NOP | LOW)), (8, (2_000_000_001, NOP | LOW))]:
         events = traffic_asleep(9)
         events[at] = event

@@ -16,7 +16,7 @@ from running import from_file
 
 NAMES = ["tRCD", "tRP", "tRAS", "tRC", "tRRD", "tWR", "tWTR", "tRFC", "tMRD", "GAP", "tXP", "tXSR"]
 
-EXAMPLE = re.compile(r"`([^`]*@\d+)` (?:is (clean)|breaks rule (\d+))")
+EXAMPLE = re.compile(r"`([^`]*@\d+)` (?:is (clean)|breaks rule (\d+)|is refusal (\d+), place (\d+))")
 
 # The command, what it names in this order, whether CKE is low, and its cycle.
 EVENT = re.compile(r"([A-Z]+(?: [A-Z]+)*)(?: register ([01]{2}))?(?: bank (\d))?(?: row (\d+))?(?: column (\d+))?"
@@ -55,12 +55,18 @@ def example(text):
     return events, settings_with(changes.split(", ") if changes else [], events)
 
 
+def said_lines(events, clean, rule, number, place):
+    """A rule is broken by the last event."""
+    if clean:
+        return clean_lines(events)
+    return broken_lines(events, rule, len(events) - 1) if rule else [f"refused {number} place {place}"]
+
+
 def examples(page):
-    """Each example with what the report has to print: a rule is broken by its last event."""
-    for text, clean, rule in EXAMPLE.findall(page):
+    """Each example with what the report has to print."""
+    for text, *said in EXAMPLE.findall(page):
         events, settings = example(text)
-        lines = clean_lines(events) if clean else broken_lines(events, rule, len(events) - 1)
-        yield text, capture(events, settings), "".join(line + "\n" for line in lines)
+        yield text, capture(events, settings), "".join(line + "\n" for line in said_lines(events, *said))
 
 
 def definitions():

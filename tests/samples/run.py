@@ -9,15 +9,16 @@ import tempfile
 
 HERE = os.path.dirname(os.path.abspath(__file__))
 sys.path.insert(0, os.path.join(HERE, ".."))
-from captures import settings_in, with_settings
+from captures import setting, settings_in, with_settings
 from running import from_file
 
 ROOT = os.path.join(HERE, "..", "..")
 SAMPLES = os.path.join(ROOT, "samples")
 
 # For settings 4 to 12, tRCD to tMRD, the rules that ask for them. An auto precharge waits for tRAS and tWR, and rule 5 for
-# an auto precharge. The samples of sleep are at the limit of tXP or tXSR as well.
-ASKING = [(4, [8]), (5, [5]), (6, [5, 9]), (7, [6]), (8, [7]), (9, [5, 10]), (10, [11]), (11, [4]), (12, [4])]
+# an auto precharge. The samples of sleep are at the limit of tXP or tXSR as well. tRC, setting 7, is not among them: rule 6
+# asks for it, and what tRAS and tRP ask by rules 3 and 5 is as much as an accepted tRC can be.
+ASKING = [(4, [8]), (5, [5]), (6, [5, 9]), (8, [7]), (9, [5, 10]), (10, [11]), (11, [4]), (12, [4])]
 ASKING_BESIDES = {"clean-power-down.capture": [(14, [15])], "clean-self-refresh.capture": [(15, [15])]}
 
 
@@ -50,12 +51,22 @@ def longer(name, data):
     wrong = []
     settings = settings_in(data)
     for i, rules in ASKING + ASKING_BESIDES.get(name, []):
-        changed = settings[:i] + [settings[i] + 1] + settings[i + 1:]
-        said = from_file("report", with_settings(data, changed)).stdout.decode()
-        hidden = i == 7 and changed[7] <= settings[5] + settings[6]
-        if not hidden and not any(f"broken rule {rule} " in said for rule in rules):
-            wrong.append(f"{name} with setting {i} at {changed[i]}: {said!r}")
+        said = said_with(data, setting(i, settings[i] + 1, settings))
+        if not any(f"broken rule {rule} " in said for rule in rules):
+            wrong.append(f"{name} with setting {i} at {settings[i] + 1}: {said!r}")
     return wrong
+
+
+def longest_trc(name, data):
+    """What is wrong with tRC as long as it may be, which changes nothing, and a cycle longer, which is refused."""
+    settings = settings_in(data)
+    most = settings[5] + settings[6]
+    said = [said_with(data, setting(7, trc, settings)) for trc in (settings[7], most, most + 1)]
+    return [] if said[0] == said[1] and said[2] == "refused 3 place 7\n" else [f"{name} with tRC at {most} and a cycle more: {said}"]
+
+
+def said_with(data, settings):
+    return from_file("report", with_settings(data, settings)).stdout.decode()
 
 
 def main():
@@ -71,7 +82,7 @@ def main():
         wrong.append(f"judge-samples prints otherwise than README.md's table: {judged.stdout}{judged.stderr}")
     for name, data in here.items():
         if name.startswith("clean-"):
-            wrong += longer(name, data)
+            wrong += longer(name, data) + longest_trc(name, data)
     for line in wrong:
         print("WRONG", line)
     print(f"samples: {len(here)} captures, {len(wrong)} wrong")

@@ -15,6 +15,7 @@ use Rattle.reading.specs.Settings.{settingFits, badSetting}
 use Rattle.reading.specs.Capture.{headerWord, countIn, eventsStart, captureSize, mostEvents, eventCount, settingWords, eventBytes, eventAt, lengthFits, headerFits, lastCycle, pinLimit, cycleFits, eventFits, badEvent}
 use Rattle.reading.specs.Answers.{Answer, refused, answered, unless, accepted}
 use Rattle.words.proofs.Search.{none-below}
+use Rattle.settings.proofs.Fitting.{in-range, each-in-range}
 
 -- ---- whatever follows: refused alike, or answered by what follows
 
@@ -132,18 +133,18 @@ module _ (capture : List ℕ) where
   words-count = length-map (count 0 (countIn capture)) (λ i. wordAt capture (24 + 4 * i)) ∙ length-count 0 (countIn capture)
 
   pub accepted-sound : accepted capture (answered (tt {0})) ≡ answered tt → Sound capture
-  unfolding accepted badSetting badEvent eventFits
+  unfolding accepted badEvent eventFits
   accepted-sound h =
       let limit = pinLimit capture in
       let clear =
       nothing-wrong (given 0 (not (lengthFits capture))) (given 0 (not (headerFits capture))) (badSetting (settingWords capture))
       (badEvent limit (eventBytes capture) (eventCount capture)) h in
-      let unfit : ℕ → Bool = λ j. not (settingFits j (getD (settingWords capture) j 0)) in
+      let ranges = each-in-range (settingWords capture) (clear .2) in
       let fits : (i : ℕ) → i < eventCount capture → eventFits limit (eventBytes capture) i ≡ true =
       λ i l. not-false _ (none-below (λ j. not (eventFits limit (eventBytes capture) j)) (eventCount capture) (clear .3) i l) in
       record {
         sized = sized (not-false _ (not-given _ (clear .0))) (not-false _ (not-given _ (clear .1)));
-        settings = λ i l. not-false _ (none-below unfit (length (settingWords capture)) (clear .2) i (omega (arith, words-count)));
+        settings = λ i l. in-range (settingWords capture) (length (settingWords capture)) ranges i (omega (arith, words-count));
         events = λ i l. both (ltb (eventAt (eventBytes capture) i .pins) limit) _ (fits i l) .1;
       }
 

@@ -8,15 +8,15 @@ use lib.ListN.{length, take, drop, length-drop}
 use lib.Seq.{take-all}
 use lib.Dec.{eqb}
 use borrow.Author.Tests.{le-leb, lt-leb}
-use Rattle.reading.specs.Settings.{outOfRange, badSetting}
+use Rattle.reading.specs.Settings.{badSetting}
 use Rattle.reading.specs.Capture.{headerWord, countIn, eventsStart, captureSize, mostEvents, pinLimit, eventCount, settingWords, eventBytes, lengthFits, headerFits, badEvent}
 use Rattle.reading.specs.Answers.{refused, answered, unless, accepted}
 use Rattle.words.specs.Found.{placeOf}
 use Rattle.words.specs.declared.Found.{Found}
 use Rattle.words.specs.declared.Found.the-variants.{Nothing, At}
 use Rattle.capture.proofs.Accepted.{Sized, count-range, words-count}
-use Rattle.settings.specs.Meaning.{padded}
-use Rattle.settings.proofs.Padded.{padded-range}
+use Rattle.settings.specs.Meaning.{badAmong, padded}
+use Rattle.settings.proofs.Padded.{padded-among}
 
 module _ (capture : List ℕ) where
   -- the bytes from where the events start, as a slice has them
@@ -29,11 +29,11 @@ module _ (capture : List ℕ) where
 
   -- of all settings, those that the capture has
   pub settings-are : {loaded : List ℕ} {n : ℕ} → loaded ≡ padded (settingWords capture) → n ≡ countIn capture →
-      outOfRange loaded n ≡ badSetting (settingWords capture)
+      badAmong loaded n ≡ badSetting (settingWords capture)
   unfolding badSetting
   settings-are {loaded} {n} e f =
-      ap (λ (ws : List ℕ). outOfRange ws n) e ∙ padded-range (settingWords capture) n
-      ∙ ap (outOfRange (settingWords capture)) (f ∙ sym (words-count capture))
+      ap (λ (ws : List ℕ). badAmong ws n) e ∙ padded-among (settingWords capture) n
+      ∙ ap (badAmong (settingWords capture)) (f ∙ sym (words-count capture))
 
   -- the length, where it is asked about step by step
   pub too-short : length capture < eventsStart (countIn capture) → lengthFits capture ≡ false

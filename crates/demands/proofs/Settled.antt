@@ -12,6 +12,7 @@ use Rattle.demands.proofs.Judging as judging
 use Rattle.words.proofs.word_at.Reads as words-word-at
 use Rattle.words.proofs.put_word.Reads as words-put-word
 use Rattle.settings.proofs.mode_word.Reads as settings-mode-word
+use Rattle.settings.proofs.setting_fits.Reads as settings-setting-fits
 use Rattle.settings.proofs.lowest_bad.Reads as settings-lowest-bad
 use Rattle.settings.proofs.check.Reads as settings-check
 use Rattle.capture.proofs.event_count.Reads as capture-event-count
@@ -99,6 +100,10 @@ words-put-word-settles κs a z z′ e e′ p q = p ∙ sym q
 pub settings-mode-word-settles : (κs : _) (a : _) (z z′ : _) (e e′ : _) → settings-mode-word.Post κs a z e → settings-mode-word.Post κs a z′ e′ →
     z ≡ z′
 settings-mode-word-settles κs a z z′ e e′ p q = p ∙ sym q
+
+pub settings-setting-fits-settles : (κs : _) (a : _) (z z′ : _) (e e′ : _) → settings-setting-fits.Post κs a z e → settings-setting-fits.Post κs a z′ e′ →
+    z ≡ z′
+settings-setting-fits-settles κs a z z′ e e′ p q = p ∙ sym q
 
 pub settings-lowest-bad-settles : (κs : _) (a : _) (z z′ : _) (e e′ : _) → settings-lowest-bad.Post κs a z e → settings-lowest-bad.Post κs a z′ e′ →
     z ≡ z′

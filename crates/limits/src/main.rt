@@ -26,6 +26,12 @@ const MODE: u32 = 36;
 
 const T_RCD: u32 = 40;
 
+const T_RP: u32 = 44;
+
+const T_RAS: u32 = 48;
+
+const T_RC: u32 = 52;
+
 const T_MRD: u32 = 72;
 
 const GAP: u32 = 76;
@@ -53,8 +59,8 @@ const PINS_7999: u32 = 64_076;
 // Behind every capture.
 const NOWHERE: u32 = 100_000;
 
-// The settings of 01's cases.
-const SETTINGS: [u32; settings::COUNT] = [1, 13, 10, 0x32, 3, 3, 7, 10, 2, 3, 1, 12, 2, 1000];
+// The settings of 01's cases but for tRAS and tRC, so that each may be changed alone and contradict no other.
+const SETTINGS: [u32; settings::COUNT] = [1, 13, 10, 0x32, 3, 3, 10_000, 1, 2, 3, 1, 12, 2, 1000];
 
 // A number of 01's table and a place; 0 and 0 for what is accepted.
 struct Answer(u32, u32);
@@ -124,13 +130,17 @@ fn store_events(out: &mut [u8], events: u32)
     }
 }
 
+fn store_capture(out: &mut [u8], size: u32, count: u32) {
+    store_header(out, size, count);
+    store_settings(out);
+    store(out, T_XP, 2); // the events behind fourteen settings are stored over these two
+    store(out, T_XSR, 20);
+    store_events(out, events_at(count));
+}
+
 fn opened(count: u32, size: u32, at: u32, word: u32, other: u32, second: u32) -> Answer {
     let mut buffer = io::large_buffer();
-    store_header(&mut buffer, size, count);
-    store_settings(&mut buffer);
-    store(&mut buffer, T_XP, 2); // the events behind fourteen settings are stored over these two
-    store(&mut buffer, T_XSR, 20);
-    store_events(&mut buffer, events_at(count));
+    store_capture(&mut buffer, size, count);
     store(&mut buffer, at, word);
     store(&mut buffer, other, second);
     let n = io::count(size as isize, &buffer);
@@ -447,6 +457,89 @@ fn sleeping_pins() {
     }
 }
 
+// ---- refusal 3 of settings that contradict each other (K5): "a tRC above tRAS + tRP", place 7, "after all single ranges
+// have passed and before number 4". Captures of three events, with 14 settings and with 16, and lists.
+
+fn timed_capture(count: u32, times: [u32; 3], at: u32, word: u32) -> Answer {
+    let mut buffer = io::large_buffer();
+    let size = events_at(count) + 24;
+    store_capture(&mut buffer, size, count);
+    store(&mut buffer, T_RP, times[0]);
+    store(&mut buffer, T_RAS, times[1]);
+    store(&mut buffer, T_RC, times[2]);
+    store(&mut buffer, at, word);
+    let n = io::count(size as isize, &buffer);
+    of_checked(capture::open(&buffer[..n]))
+}
+
+fn timed_list(times: [u32; 3]) -> Answer {
+    let mut list = SETTINGS;
+    list[settings::places::T_RP] = times[0];
+    list[settings::places::T_RAS] = times[1];
+    list[settings::places::T_RC] = times[2];
+    of_checked(settings::check(&list))
+}
+
+fn print_times(times: [u32; 3]) {
+    say(b"tRP ");
+    print(times[0]);
+    say(b", tRAS ");
+    print(times[1]);
+    say(b", tRC ");
+    print(times[2]);
+}
+
+fn together(times: [u32; 3], number: u32, place: u32) {
+    print_times(times);
+    say(b": list ");
+    print_answer(timed_list(times), number, place);
+    say(b", capture ");
+    print_answer(timed_capture(14, times, NOWHERE, 0), number, place);
+    say(b", of 16 settings ");
+    print_answer(timed_capture(16, times, NOWHERE, 0), number, place);
+    say(b"\n");
+}
+
+// One more word is changed.
+fn together_with(count: u32, times: [u32; 3], at: u32, word: u32, number: u32, place: u32) {
+    print(count);
+    say(b" settings, ");
+    print_times(times);
+    print_change(at, word);
+    say(b": ");
+    print_answer(timed_capture(count, times, at, word), number, place);
+    say(b"\n");
+}
+
+fn contradictions() {
+    together([3, 7, 10], 0, 0);
+    together([3, 7, 11], 3, 7);
+    together([1, 1, 2], 0, 0);
+    together([1, 1, 3], 3, 7);
+    together([1, 9_999, 10_000], 0, 0);
+    together([1, 9_998, 10_000], 3, 7);
+    together([9_999, 1, 10_000], 0, 0);
+    together([9_998, 1, 10_000], 3, 7);
+    together([10_000, 10_000, 10_000], 0, 0);
+    together([10_000, 10_000, 10_001], 3, 7); // out of its range
+    together([0xFFFF_FFFF, 7, 7], 3, 5); // in 32 bits the sum is 6
+}
+
+fn contradictions_and_other_faults() {
+    let times = [3, 7, 11];
+    together_with(14, times, LANE, 0, 3, 0);
+    together_with(14, times, MODE, 0x02, 3, 3);
+    together_with(14, times, T_RP, 0, 3, 5);
+    together_with(14, times, GAP, 0, 3, 13);
+    together_with(16, times, T_XP, 0, 3, 14);
+    together_with(16, times, T_XSR, 0, 3, 15);
+    together_with(14, times, PINS_0, 0x0010_0000, 3, 7);
+    together_with(14, times, CYCLE_1, 0, 3, 7);
+    together_with(16, times, PINS_1, 0x0020_0000, 3, 7); // behind 16 settings those of event 0
+    together_with(14, times, LAST_WORD, 1, 2, 0);
+    together_with(14, times, TOTAL, 0, 1, 0);
+}
+
 fn main() {
     lengths();
     header_words();
@@ -466,4 +559,6 @@ fn main() {
     sleeping_headers();
     sleeping_settings();
     sleeping_pins();
+    contradictions();
+    contradictions_and_other_faults();
 }

@@ -9,9 +9,9 @@ use native.Mathlib.Omega.{arith}
 use borrow.Author.Tests.{eqb-true, ltb-false, not-false}
 use lib.Dec.{eqb, ltb}
 use lib.ListN.{length, length-append, length-map, length-reverse, getD}
-use Rattle.reading.specs.Search.{find, lowest, given}
+use Rattle.reading.specs.Search.{find, lowest, orElse, given}
 use Rattle.reading.specs.Search as search
-use Rattle.reading.specs.Settings.{Settings, settingsOf, settingFits, badSetting}
+use Rattle.reading.specs.Settings.{Settings, settingsOf, settingFits, outOfRange, contradiction, badSetting}
 use Rattle.reading.specs.Capture.{Event, eventCount, settingWords, eventBytes, eventAt, eventsOf, lengthFits, headerFits, pinLimit, eventFits, badEvent}
 use Rattle.reading.specs.Commands.{READ, WRITE, among, commandOf}
 use Rattle.reading.specs.Bursts.{Burst, beatCell, burstCells}
@@ -66,13 +66,20 @@ few capture a b = sized capture (not-false _ (clear _ a)) (not-false _ (clear _ 
     clear true e = let z : _≡_ {A = ℕ} 0 1 = cc in absurd (omega arith)
     clear false e = refl
 
+at-given : (k : ℕ) → Value k → (b : Bool) (place : ℕ) → given k b ≡ some place → Value place
+at-given k small true place e = let z : k ≡ place = cc in rw (sym z) small
+at-given k small false place e = let z : _≡_ {A = ℕ} 0 1 = cc in absurd (omega arith)
+
 at-zero : (b : Bool) (place : ℕ) → given 0 b ≡ some place → Value place
-at-zero true place e = let z : 0 ≡ place = cc in omega arith
-at-zero false place e = let z : _≡_ {A = ℕ} 0 1 = cc in absurd (omega arith)
+at-zero = at-given 0 (omega arith)
 
 bad-setting : (ws : List ℕ) (place : ℕ) → length ws ≤ 16 → badSetting ws ≡ some place → Value place
 unfolding badSetting
-bad-setting ws place l e = omega (arith, below (λ i. not (settingFits i (getD ws i 0))) (length ws) place e)
+bad-setting ws place l e = go (outOfRange ws (length ws)) refl e
+  where
+    go : (o : Option ℕ) → outOfRange ws (length ws) ≡ o → orElse o (contradiction (settingsOf ws)) ≡ some place → Value place
+    go none p e = at-given 7 (omega arith) (ltb (getD ws 6 0 + getD ws 5 0) (getD ws 7 0)) place e
+    go (some i) p e = omega (arith, below (λ i. not (settingFits i (getD ws i 0))) (length ws) place (p ∙ e))
 
 bad-event : (limit : ℕ) (bytes : List ℕ) (n place : ℕ) → n ≤ 8000 → badEvent limit bytes n ≡ some place → Value place
 unfolding badEvent

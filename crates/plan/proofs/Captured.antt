@@ -20,7 +20,7 @@ use Rattle.reading.specs.Schedule.{badRequest, freeFrom, planned, scheduleOf, e
 use Rattle.reading.specs.Answers.{Answer, Report, answered, accepted, verdictIn, judgeAnswer}
 use Rattle.reading.proofs.Meaning.{eventOf}
 use Rattle.words.proofs.Words.{bytesOf-length, word-drop, word-of-bytes}
-use Rattle.settings.proofs.Fitting.{rowAt, at-most, in-range}
+use Rattle.settings.proofs.Fitting.{rowAt, at-most, in-range, each-in-range}
 use Rattle.plan.proofs.Ranged.{ranged}
 use Rattle.plan.proofs.Reached.{Rises}
 use Rattle.plan.proofs.Ready.{Planned, few-requests, schedule-planned}
@@ -98,8 +98,7 @@ pins-word (e ∷ es) (suc i) = let k : 2 * suc i + 1 ≡ suc (suc (2 * i + 1)) =
 -- ---- the capture
 
 pub settings-fit : (ws : List ℕ) → length ws ≡ 14 → badSetting ws ≡ none → (i : ℕ) → i < 14 → settingFits i (getD ws i 0) ≡ true
-unfolding badSetting
-settings-fit ws fourteen good i l = in-range ws (length ws) good i (omega (arith, fourteen))
+settings-fit ws fourteen good i l = in-range ws (length ws) (each-in-range ws good) i (omega (arith, fourteen))
 
 -- clean, all events judged
 abbrev pub allClean : List Event → Report

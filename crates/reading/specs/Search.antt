@@ -41,6 +41,11 @@ count from (suc n) = from ∷ count (suc from) n
 abbrev pub lowest : (ℕ → Bool) → ℕ → Option ℕ
 lowest f n = find f (count 0 n)
 
+-- the first of two, if it is there
+abbrev pub orElse : {A : Type 0} → Option A → Option A → Option A
+orElse none other = other
+orElse (some a) other = some a
+
 -- the place of something that may be wrong
 abbrev pub given : ℕ → Bool → Option ℕ
 given place wrong = cond wrong (some place) none

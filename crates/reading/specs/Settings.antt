@@ -1,11 +1,11 @@
 -- The settings and the table of their limits.
-use Prim.Native.Nat.{ℕ}
+use Prim.Native.Nat.{ℕ, _+_}
 use mathlib.Core.Bool.{Bool, not, _&&_}
 use mathlib.Core.List.{List, [], _∷_, _++_}
 use mathlib.Core.Option.{Option}
 use lib.ListN.{length, getD, replicate}
-use lib.Dec.{leb, eqb}
-use Rattle.reading.specs.Search.{implies, lowest}
+use lib.Dec.{leb, ltb, eqb}
+use Rattle.reading.specs.Search.{implies, lowest, orElse, given}
 use Rattle.reading.specs.Mode.{modeWord}
 
 -- how many there are, and how many with those of sleep
@@ -81,6 +81,10 @@ settingFits i w =
 abbrev pub outOfRange : List ℕ → ℕ → Option ℕ
 outOfRange ws n = lowest (λ i. not (settingFits i (getD ws i 0))) n
 
--- refusal 3: the place of what is wrong with a list of settings
+-- tRC's place, if it contradicts tRAS and tRP: a bank is open for the one and closed for the other before it is opened again
+abbrev pub contradiction : Settings → Option ℕ
+contradiction s = given 7 (ltb (s .tRAS + s .tRP) (s .tRC))
+
+-- refusal 3: the place of what is wrong with a list of settings, each by itself first
 unfoldable pub badSetting : List ℕ → Option ℕ
-badSetting ws = outOfRange ws (length ws)
+badSetting ws = orElse (outOfRange ws (length ws)) (contradiction (settingsOf ws))

@@ -23,6 +23,7 @@ use Rattle.settings.specs.Meaning.{checked, padded}
 use Rattle.settings.specs.declared.Checked.{Checked}
 use Rattle.settings.specs.declared.Checked.the-variants as check
 use Rattle.settings.proofs.Padded.{padded-settings, padded-range}
+use Rattle.settings.proofs.Fitting.{each-in-range}
 use Rattle.memory.specs.Serving.{Sized}
 use Rattle.plan.proofs.Captured.{words-length, settings-fit}
 use Rattle.plan.proofs.Ranged.{ranged}
@@ -91,8 +92,9 @@ module _ {ws : List ℕ} (fit : Right ws) {s : List ℕ} (loaded : s ≡ padded 
   same = ap settingsOf loaded ∙ padded-settings ws
 
   in-range : outOfRange s settingsCount ≡ none
-  unfolding badSetting
-  in-range = ap (λ (x : List ℕ). outOfRange x settingsCount) loaded ∙ padded-range ws settingsCount ∙ ap (outOfRange ws) (sym (fit .count)) ∙ fit .each
+  in-range =
+      ap (λ (x : List ℕ). outOfRange x settingsCount) loaded ∙ padded-range ws settingsCount ∙ ap (outOfRange ws) (sym (fit .count))
+      ∙ each-in-range ws (fit .each)
 
   pub sized : Sized (settingsOf s)
   sized = rw same (ranged ws (settings-fit ws (fit .count) (fit .each)) .sized)

@@ -8,9 +8,9 @@ use native.Mathlib.Omega.{arith}
 use borrow.Author.Tests.{eqb-true, leb-true, not-false}
 use lib.ListN.{length, getD}
 use lib.Dec.{leb, eqb}
-use Rattle.reading.specs.Search.{given, implies}
+use Rattle.reading.specs.Search.{implies, orElse, given}
 use Rattle.reading.specs.Mode.{modeWord}
-use Rattle.reading.specs.Settings.{Limits, limits, settingFits, outOfRange, badSetting}
+use Rattle.reading.specs.Settings.{Limits, limits, settingsOf, settingFits, outOfRange, contradiction, badSetting}
 use Rattle.reading.specs.Answers.{answered, unless}
 use Rattle.words.proofs.Search.{none-below}
 use Rattle.settings.specs.Meaning.{checked}
@@ -42,6 +42,14 @@ mode-valid w h = parts 3 w h .1
 pub in-range : (ws : List ℕ) (n : ℕ) → outOfRange ws n ≡ none → (i : ℕ) → i < n → settingFits i (getD ws i 0) ≡ true
 in-range ws n good i l = not-false _ (none-below (λ j. not (settingFits j (getD ws j 0))) n good i l)
 
+none-first : (o p : Option ℕ) → orElse o p ≡ none → o ≡ none
+none-first none p h = refl
+none-first (some i) p h = h
+
+pub each-in-range : (ws : List ℕ) → badSetting ws ≡ none → outOfRange ws (length ws) ≡ none
+unfolding badSetting
+each-in-range ws good = none-first (outOfRange ws (length ws)) (contradiction (settingsOf ws)) good
+
 pub record Fitting (ws : List ℕ) : Type 0 where
   pub count : length ws ≡ 14
   pub fits : (i : ℕ) → i < 14 → settingFits i (getD ws i 0) ≡ true
@@ -52,11 +60,11 @@ nothing-wrong false (some p) h = let z : _≡_ {A = ℕ} 0 1 = cc in absurd (ome
 nothing-wrong true o h = let z : _≡_ {A = ℕ} 0 1 = cc in absurd (omega arith)
 
 pub fitting : (ws : List ℕ) → checked ws ≡ answered tt → Fitting ws
-unfolding checked badSetting
+unfolding checked
 fitting ws h =
     let clear = nothing-wrong (not (eqb (length ws) 14)) (badSetting ws) h in
     let fourteen : length ws ≡ 14 = eqb-true (length ws) 14 (not-false (eqb (length ws) 14) (clear .0)) in
     record {
       count = fourteen;
-      fits = λ i l. in-range ws (length ws) (clear .1) i (omega (arith, fourteen));
+      fits = λ i l. in-range ws (length ws) (each-in-range ws (clear .1)) i (omega (arith, fourteen));
     }

@@ -5,9 +5,9 @@ use mathlib.Core.List.{List, [], _∷_, _++_, append-nil}
 use mathlib.Core.Path.{_≡_, refl, ap, _∙_}
 use native.Mathlib.Omega.{arith}
 use lib.ListN.{length, getD, replicate, length-append, length-replicate}
-use Rattle.reading.specs.Search.{lowest}
-use Rattle.reading.specs.Settings.{sleepingCount, settingsOf, settingFits, outOfRange}
-use Rattle.settings.specs.Meaning.{padded}
+use Rattle.reading.specs.Search.{lowest, orElse}
+use Rattle.reading.specs.Settings.{sleepingCount, settingsOf, settingFits, outOfRange, contradiction}
+use Rattle.settings.specs.Meaning.{badAmong, padded}
 
 nothing-at : (n i : ℕ) → getD (replicate n zero) i 0 ≡ zero
 nothing-at zero i = refl
@@ -47,6 +47,9 @@ module _ (ws : List ℕ) where
 
   pub padded-range : (n : ℕ) → outOfRange (padded ws) n ≡ outOfRange ws n
   padded-range n u = lowest (λ i. not (settingFits i (padded-at i u))) n
+
+  pub padded-among : (n : ℕ) → badAmong (padded ws) n ≡ badAmong ws n
+  padded-among n u = orElse (padded-range n u) (contradiction (padded-settings u))
 
   pub padded-length : length ws ≤ sleepingCount → length (padded ws) ≡ sleepingCount
   unfolding padded

@@ -1,23 +1,25 @@
 -- A row of the table, a test at a time.
 use Prim.Native.Nat.{ℕ, _+_, _≤_, _<_}
-use mathlib.Core.Option.{none, some}
+use mathlib.Core.Option.{Option, none, some}
 use mathlib.Core.Bool.{Bool, true, false, not, _||_}
 use mathlib.Core.List.{List, map}
 use mathlib.Core.Path.{_≡_, refl, sym, ap, subst, _∙_}
 use native.Mathlib.Omega.{arith}
-use borrow.Author.Tests.{le-leb, lt-leb, eq-eqb, ne-eqb, eqb-false}
+use borrow.Author.Tests.{le-leb, lt-leb, lt-ltb, le-ltb, eq-eqb, ne-eqb, eqb-false}
 use lib.ListN.{length, getD, List·getD-map}
 use lib.Dec.{eqb}
+use Rattle.reading.specs.Search.{orElse, given}
 use Rattle.reading.specs.Mode.{modeWord}
 use Rattle.reading.specs.Settings as reading
-use Rattle.reading.specs.Settings.{settingFits, outOfRange, badSetting}
+use Rattle.reading.specs.Settings.{settingsOf, settingFits, outOfRange, contradiction, badSetting}
 use Rattle.words.specs.Found.{placeOf}
 use Rattle.words.specs.declared.Found.{Found}
 use Rattle.words.specs.declared.Found.the-variants.{Nothing, At}
 use Rattle.words.proofs.Search as search
 use Rattle.words.proofs.Search.{foundFrom}
 use Rattle.reading.specs.Answers.{refused, answered}
-use Rattle.settings.specs.Meaning.{checked}
+use Rattle.settings.specs.Meaning.{checked, badAmong}
+use Rattle.settings.proofs.Fitting.{rowAt, at-most, in-range}
 use Rattle.settings.specs.declared.Limits.{Limits}
 
 -- a latency is 2 or 3
@@ -87,15 +89,29 @@ pub record Sought (ws : List ℕ) (n i : ℕ) : Type 0 where
 pub begins : (ws : List ℕ) (n : ℕ) → Sought ws n 0
 begins ws n = record { within = omega arith; same = search.begins (bad ws) n }
 
+abbrev orContradiction : List ℕ → Option ℕ → Option ℕ
+orContradiction ws o = orElse o (contradiction (settingsOf ws))
+
 module _ {ws : List ℕ} {n i : ℕ} (s : Sought ws n i) where
   pub goes-on : i < n → settingFits i (getD ws i 0) ≡ true → Sought ws n (i + 1)
   goes-on l e = record { within = omega arith; same = sym (search.goes-on (bad ws) n i l (ap not e)) ∙ s .same }
 
-  pub stops : i < n → settingFits i (getD ws i 0) ≡ false → some i ≡ outOfRange ws n
-  stops l e = sym (search.stops (bad ws) n i l (ap not e)) ∙ s .same
+  pub stops : i < n → settingFits i (getD ws i 0) ≡ false → some i ≡ badAmong ws n
+  stops l e = ap (orContradiction ws) (sym (search.stops (bad ws) n i l (ap not e)) ∙ s .same)
 
-  pub ends : n ≤ i → none ≡ outOfRange ws n
-  ends l = sym (search.ends (bad ws) n i l) ∙ s .same
+  -- all rows are passed
+  module _ (l : n ≤ i) where
+    all-in-range : none ≡ outOfRange ws n
+    all-in-range = sym (search.ends (bad ws) n i l) ∙ s .same
+
+    pub row-most : (j : ℕ) → j < n → getD ws j 0 ≤ rowAt j .most
+    row-most j k = at-most j (getD ws j 0) (in-range ws n (sym all-in-range) j k)
+
+    pub contradicts : getD ws 6 0 + getD ws 5 0 < getD ws 7 0 → some 7 ≡ badAmong ws n
+    contradicts h = sym (ap (given 7) (lt-ltb _ _ h)) ∙ ap (orContradiction ws) all-in-range
+
+    pub agrees : getD ws 7 0 ≤ getD ws 6 0 + getD ws 5 0 → none ≡ badAmong ws n
+    agrees h = sym (ap (given 7) (le-ltb _ _ h)) ∙ ap (orContradiction ws) all-in-range
 
 -- ---- what a list of settings is answered
 
@@ -105,10 +121,10 @@ module _ (ws : List ℕ) where
   wrong-count h = rw (ne-eqb (length ws) 14 h)
 
   module _ (h : length ws ≡ 14) (r : Found) where
-    pub all-fit : r ≡ Nothing → placeOf r ≡ outOfRange ws 14 → checked ws ≡ answered tt
+    pub all-fit : r ≡ Nothing → placeOf r ≡ badAmong ws 14 → checked ws ≡ answered tt
     unfolding checked badSetting
     all-fit e p = rw (h, sym p, e)
 
-    pub one-unfit : {i : ℕ} → r ≡ At i → placeOf r ≡ outOfRange ws 14 → checked ws ≡ refused 3 i
+    pub one-unfit : {i : ℕ} → r ≡ At i → placeOf r ≡ badAmong ws 14 → checked ws ≡ refused 3 i
     unfolding checked badSetting
     one-unfit e p = rw (h, sym p, e)

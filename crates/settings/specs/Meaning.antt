@@ -2,10 +2,11 @@
 use Prim.Native.Nat.{ℕ, _-_}
 use mathlib.Core.Bool.{not}
 use mathlib.Core.List.{List, _++_}
+use mathlib.Core.Option.{Option}
 use lib.ListN.{length, replicate}
 use lib.Dec.{eqb}
-use Rattle.reading.specs.Search.{given}
-use Rattle.reading.specs.Settings.{sleepingCount, badSetting}
+use Rattle.reading.specs.Search.{orElse, given}
+use Rattle.reading.specs.Settings.{sleepingCount, settingsOf, outOfRange, contradiction, badSetting}
 use Rattle.reading.specs.Answers.{Answer, refused, answered, unless}
 use Rattle.settings.specs.declared.Checked.{Checked}
 use Rattle.settings.specs.declared.Checked.the-variants.{Fine, Refused}
@@ -20,6 +21,10 @@ unfoldable pub checked : List ℕ → Answer (Unit {0})
 checked ws =
     unless 2 (given 0 (not (eqb (length ws) 14)))
     (unless 3 (badSetting ws) (answered tt))
+
+-- refusal 3 of the first n words of a list
+abbrev pub badAmong : List ℕ → ℕ → Option ℕ
+badAmong ws n = orElse (outOfRange ws n) (contradiction (settingsOf ws))
 
 -- all of them, from a list of words: those that it does not have are 0
 unfoldable pub padded : List ℕ → List ℕ

@@ -1,14 +1,17 @@
 // The settings of a board: their places, their limits, and the list of words that holds them.
 pub mod places;
 
+use places::T_RAS;
+use places::T_RC;
+use places::T_RP;
 use words::Found;
 ghost use mathlib.Core.Path.{_≡_};
 ghost use Prim.Native.Nat.{_≤_, _<_};
 ghost use lib.ListN.{length};
 ghost use Rattle.words.specs.Found.{placeOf};
 ghost use Rattle.reading.specs.Mode.{modeWord};
-ghost use Rattle.reading.specs.Settings.{settingFits, outOfRange};
-ghost use Rattle.settings.specs.Meaning.{means, checked};
+ghost use Rattle.reading.specs.Settings.{settingFits};
+ghost use Rattle.settings.specs.Meaning.{means, checked, badAmong};
 
 // How many settings there are, and how many with those of sleep.
 pub const COUNT: usize = 14;
@@ -67,7 +70,8 @@ pub fn mode_word(w: u32) -> bool
     w < 128
 }
 
-fn setting_fits(i: usize, w: u32) -> bool
+// Word w may be setting i.
+pub fn setting_fits(i: usize, w: u32) -> bool
     requires { ⌜ i < 16 ⌝ }
     ensures { λ r. ⌜ r ≡ settingFits i w ⌝ }
 {
@@ -84,16 +88,19 @@ fn setting_fits(i: usize, w: u32) -> bool
     true
 }
 
-// The lowest of n settings that is out of its row's limits or no mode word.
+// The lowest of n settings that is out of its row's limits or no mode word; where all fit, a tRC above tRAS + tRP.
 pub fn lowest_bad(words: &[u32], n: usize) -> Found
-    requires { ⌜ (n ≤ 16) × (n ≤ length (now words)) ⌝ }
-    ensures { λ r. ⌜ placeOf r ≡ outOfRange (now (words .entry)) n ⌝ }
+    requires { ⌜ (14 ≤ n) × (n ≤ 16) × (n ≤ length (now words)) ⌝ }
+    ensures { λ r. ⌜ placeOf r ≡ badAmong (now (words .entry)) n ⌝ }
 {
     'settings: for i in 0..n {
         if setting_fits(i, words[i]) {
             continue 'settings;
         }
         return Found::At(i as u32);
+    }
+    if words[T_RAS] + words[T_RP] < words[T_RC] {
+        return Found::At(T_RC as u32);
     }
     Found::Nothing
 }

@@ -6,6 +6,9 @@ use console::say_word;
 use settings::COUNT;
 use settings::SLEEPING;
 use settings::Settings;
+use settings::places::T_RAS;
+use settings::places::T_RC;
+use settings::places::T_RP;
 use settings::places::T_XP;
 ghost use mathlib.Core.Path.{_≡_};
 ghost use Prim.Native.Nat.{_≤_};
@@ -113,7 +116,18 @@ pub fn print_settings(out: &mut Out, settings: &Settings) {
     }
 }
 
-// The setting that was refused.
+fn print_contradiction(out: &mut Out, settings: &Settings) {
+    say_number(
+        out,
+        b"settings 5, 6 and 7 contradict each other: tRC (",
+        settings[T_RC],
+    );
+    say_number(out, b") is above tRAS (", settings[T_RAS]);
+    say_number(out, b") + tRP (", settings[T_RP]);
+    say(out, b")\n");
+}
+
+// The setting that was refused; a tRC in its range was refused because of tRAS and tRP.
 pub fn print_refused(out: &mut Out, capture: &[u8], i: u32) {
     let settings = settings_of(capture);
     if SLEEPING <= i as usize {
@@ -121,4 +135,7 @@ pub fn print_refused(out: &mut Out, capture: &[u8], i: u32) {
     }
     say_setting(out, i, settings[i as usize]);
     say(out, b"\n");
+    if i as usize == T_RC && settings::setting_fits(T_RC, settings[T_RC]) {
+        print_contradiction(out, &settings);
+    }
 }

@@ -1,5 +1,6 @@
 //! Captures and request lists spelled in few bytes. Whatever the bytes are, the settings are
-//! in range and cycles rise, so that the fuzzer gets past the refusals.
+//! in range, tRC is at most tRAS + tRP and cycles rise, so that the fuzzer gets past the
+//! refusals.
 
 use second::capture::{bytes_of, Event, SETTINGS, SLEEP_SETTINGS};
 
@@ -53,6 +54,7 @@ fn settings(bytes: &[u8], count: usize) -> (Vec<u32>, &[u8]) {
     for (place, time) in (4..).zip(&mut settings[4..13]) {
         *time = 1 + byte(place);
     }
+    settings[7] = settings[7].min(settings[5] + settings[6]);
     settings[13] = 1 + byte(13) + 256 * byte(14);
     for (place, time) in (15..).zip(&mut settings[14..]) {
         *time = 1 + byte(place);

@@ -12,6 +12,10 @@ pub const LAST_CYCLE: u32 = 2_000_000_000;
 
 /// The setting that holds the mode word at cycle 0.
 pub const MODE_SETTING: usize = 3;
+/// The settings that may not contradict each other.
+pub const T_RP_SETTING: usize = 5;
+pub const T_RAS_SETTING: usize = 6;
+pub const T_RC_SETTING: usize = 7;
 /// The setting that holds GAP.
 pub const GAP_SETTING: usize = 13;
 
@@ -140,7 +144,8 @@ impl Settings {
         Settings::read(list)
     }
 
-    /// Refusal 2 for a list of another length, refusal 3 for its lowest bad setting.
+    /// Refusal 2 for a list of another length, refusal 3 for its lowest bad setting, or for
+    /// tRC where each is good by itself.
     pub fn read(list: &[u32]) -> Result<Settings, Refusal> {
         if list.len() != SETTINGS && list.len() != SLEEP_SETTINGS {
             return refused(2, 0);
@@ -150,6 +155,9 @@ impl Settings {
                 return refused(3, place as u32);
             }
         }
+        if contradict(list) {
+            return refused(3, T_RC_SETTING as u32);
+        }
         let time = |place: usize| u64::from(list[place]);
         Ok(Settings {
             lane_code: list[0],
@@ -157,9 +165,9 @@ impl Settings {
             column_bits: list[2],
             mode: Mode(list[MODE_SETTING]),
             t_rcd: time(4),
-            t_rp: time(5),
-            t_ras: time(6),
-            t_rc: time(7),
+            t_rp: time(T_RP_SETTING),
+            t_ras: time(T_RAS_SETTING),
+            t_rc: time(T_RC_SETTING),
             t_rrd: time(8),
             t_wr: time(9),
             t_wtr: time(10),
@@ -183,6 +191,11 @@ fn setting_is_good(place: usize, value: u32) -> bool {
     let (least, most) = LIMITS[place];
     let in_range = least <= value && value <= most;
     in_range && (place != MODE_SETTING || Mode(value).is_valid())
+}
+
+/// Whether tRC is above tRAS + tRP; each is in its range, so the sum cannot wrap.
+fn contradict(list: &[u32]) -> bool {
+    list[T_RC_SETTING] > list[T_RAS_SETTING] + list[T_RP_SETTING]
 }
 
 /// One event: the cycle it stands at and what its pins ask for.
@@ -286,7 +299,7 @@ pub fn word(bytes: &[u8], at: usize) -> u32 {
     u32::from_le_bytes([bytes[at], bytes[at + 1], bytes[at + 2], bytes[at + 3]])
 }
 
-fn words(bytes: &[u8]) -> Vec<u32> {
+pub fn words(bytes: &[u8]) -> Vec<u32> {
     (0..bytes.len() / 4).map(|i| word(bytes, 4 * i)).collect()
 }
 

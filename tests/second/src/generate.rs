@@ -12,7 +12,7 @@ pub use captures::{busy_capture, guided_capture};
 pub use damage::damaged_capture;
 pub use dice::Dice;
 pub use requests::request_list;
-pub use tally::Tally;
+pub use tally::{Tally, NEVER_LOWEST};
 
 #[derive(Clone, Debug)]
 pub enum Input {

@@ -2,7 +2,7 @@
 //! that looks only at running bursts, and the C.
 
 use second::capture::{bytes_of, word, Capture, Refusal, HEADER_BYTES, SETTINGS};
-use second::generate::{input, Dice, Input, Tally};
+use second::generate::{input, Dice, Input, Tally, NEVER_LOWEST};
 use second::schedule::schedule_literally;
 use second::verdict::{cells_literally, judge_literally};
 use second::{c, cells, judge, packed, plain, replay, schedule, Answer};
@@ -64,17 +64,22 @@ fn everything_comes_up() {
                 tally.count_cells(&capture, cells(&capture, &mut [0; 7]));
             }
             Input::Requests { settings, requests } => {
-                tally.count_schedule(schedule(&settings, &requests, &mut [0; 2_000]));
+                let answer = schedule(&settings, &requests, &mut [0; 2_000]);
+                tally.count_schedule(&settings, answer);
             }
         }
     }
     println!("{tally}");
     assert_eq!(tally.missing(), [""; 0]);
-    let seldom = |rules: &[u64]| rules.iter().any(|&count| count < 30);
-    assert!(
-        !seldom(&tally.awake.rules[..14]) && !seldom(&tally.sleeping.rules),
-        "a rule came up too seldom"
-    );
+    for rules in [&tally.awake.rules[..14], &tally.sleeping.rules] {
+        for (rule, &count) in (1..).zip(rules) {
+            if rule == NEVER_LOWEST {
+                assert_eq!(count, 0, "rule {rule} is never the lowest broken one");
+            } else {
+                assert!(count >= 30, "rule {rule} came up {count} times");
+            }
+        }
+    }
     assert!(full_and_clean >= 3, "too few full captures are clean");
 }
 

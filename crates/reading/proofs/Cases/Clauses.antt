@@ -18,6 +18,10 @@ one = 8388608
 abbrev three : ℕ
 three = 25165824
 
+-- no two times alike: tRCD 4, tRP 5, tRAS 11, tRC 16, tRRD 3, tWR 6, tWTR 2, tRFC 13, tMRD 7, GAP 900
+abbrev unlike : List ℕ
+unlike = 1 ∷ 13 ∷ 10 ∷ 0x32 ∷ 4 ∷ 5 ∷ 11 ∷ 16 ∷ 3 ∷ 6 ∷ 2 ∷ 13 ∷ 7 ∷ 900 ∷ []
+
 rule1 : List Line
 rule1 =
     -- 12 and 14 row bits; 13 stand in Readings
@@ -69,9 +73,9 @@ rule3 =
     ∷ line (at 0 (ACTIVE + bank 3) ∷ at 20 REFRESH ∷ []) (breaks 1 3 1 20)
     ∷ line (at 0 (ACTIVE + bank 1) ∷ at 20 (MODE + 0x32) ∷ []) (breaks 1 3 1 20)
     ∷ line (at 0 (ACTIVE + bank 3) ∷ at 20 (MODE + 0x32) ∷ []) (breaks 1 3 1 20)
-    -- it comes before rule 4, and before rule 8: tRAS 1
+    -- it comes before rule 4, and before rule 8: tRAS 1, tRC 4
     ∷ line (at 1 REFRESH ∷ at 12 READ ∷ []) (breaks 1 3 1 12)
-    ∷ lineUnder (set usual 6 1) (at 0 ACTIVE ∷ at 1 PRECHARGE ∷ at 2 READ ∷ []) (breaks 2 3 2 2)
+    ∷ lineUnder (set (set usual 6 1) 7 4) (at 0 ACTIVE ∷ at 1 PRECHARGE ∷ at 2 READ ∷ []) (breaks 2 3 2 2)
     ∷ []
 
 rule-3 : HoldLines rule3
@@ -102,9 +106,6 @@ rule4 =
     -- and both are asked
     ∷ line (at 0 (MODE + 0x32) ∷ at 2 REFRESH ∷ at 13 ACTIVE ∷ []) (breaks 2 4 2 13)
     ∷ line (at 0 REFRESH ∷ at 12 (MODE + 0x32) ∷ at 13 ACTIVE ∷ []) (breaks 2 4 2 13)
-    -- it comes before rule 6: tRC 50
-    ∷ lineUnder (set usual 7 50) (at 0 ACTIVE ∷ at 7 PRECHARGE ∷ at 10 REFRESH ∷ at 21 ACTIVE ∷ []) (breaks 3 4 3 21)
-    ∷ lineUnder (set usual 7 50) (at 0 ACTIVE ∷ at 7 PRECHARGE ∷ at 10 REFRESH ∷ at 22 ACTIVE ∷ []) (breaks 3 6 3 22)
     ∷ []
 
 rule-4 : HoldLines rule4
@@ -134,6 +135,7 @@ rule-5 : HoldLines rule5
 unfolding rule5 saidOf
 rule-5 = refl
 
+-- no capture with these settings is accepted, since tRC is above tRAS + tRP; with others rule 5 or 3 is broken wherever rule 6 is
 rule6 : List Line
 rule6 =
     -- tRC 20: of its own bank
@@ -145,6 +147,12 @@ rule6 =
     -- it comes before rule 7: 9 + 2
     ∷ lineUnder (set usual 7 11) (at 0 ACTIVE ∷ at 7 PRECHARGE ∷ at 9 (ACTIVE + bank 1) ∷ at 10 ACTIVE ∷ []) (breaks 3 6 3 10)
     ∷ lineUnder (set usual 7 11) (at 0 ACTIVE ∷ at 7 PRECHARGE ∷ at 9 (ACTIVE + bank 1) ∷ at 11 ACTIVE ∷ []) (touches 4 [])
+    -- and behind rule 4: tRC 50
+    ∷ lineUnder (set usual 7 50) (at 0 ACTIVE ∷ at 7 PRECHARGE ∷ at 10 REFRESH ∷ at 21 ACTIVE ∷ []) (breaks 3 4 3 21)
+    ∷ lineUnder (set usual 7 50) (at 0 ACTIVE ∷ at 7 PRECHARGE ∷ at 10 REFRESH ∷ at 22 ACTIVE ∷ []) (breaks 3 6 3 22)
+    -- tRP 5, tRAS 11, tRC 17: not the sum of the two
+    ∷ lineUnder (set unlike 7 17) (at 0 ACTIVE ∷ at 11 PRECHARGE ∷ at 16 ACTIVE ∷ []) (breaks 2 6 2 16)
+    ∷ lineUnder (set unlike 7 17) (at 0 ACTIVE ∷ at 11 PRECHARGE ∷ at 17 ACTIVE ∷ []) (touches 3 [])
     ∷ []
 
 rule-6 : HoldLines rule6
@@ -317,11 +325,7 @@ rule-14 : HoldLines rule14
 unfolding rule14 saidOf
 rule-14 = refl
 
--- ---- no two times alike, so that each rule shows which setting it takes
-
--- tRCD 4, tRP 5, tRAS 11, tRC 17, tRRD 3, tWR 6, tWTR 2, tRFC 13, tMRD 7, GAP 900
-abbrev unlike : List ℕ
-unlike = 1 ∷ 13 ∷ 10 ∷ 0x32 ∷ 4 ∷ 5 ∷ 11 ∷ 17 ∷ 3 ∷ 6 ∷ 2 ∷ 13 ∷ 7 ∷ 900 ∷ []
+-- ---- each rule shows which setting it takes
 
 ownSettings : List Line
 ownSettings =
@@ -330,10 +334,9 @@ ownSettings =
     ∷ lineUnder unlike (at 0 REFRESH ∷ at 13 ACTIVE ∷ []) (touches 2 [])
     ∷ lineUnder unlike (at 0 (MODE + 0x32) ∷ at 6 ACTIVE ∷ []) (breaks 1 4 1 6)
     ∷ lineUnder unlike (at 0 (MODE + 0x32) ∷ at 7 ACTIVE ∷ []) (touches 2 [])
-    -- tRP, tRC: 11 + 5, 0 + 17
+    -- tRP: 11 + 5; tRC is no longer than that
     ∷ lineUnder unlike (at 0 ACTIVE ∷ at 11 PRECHARGE ∷ at 15 ACTIVE ∷ []) (breaks 2 5 2 15)
-    ∷ lineUnder unlike (at 0 ACTIVE ∷ at 11 PRECHARGE ∷ at 16 ACTIVE ∷ []) (breaks 2 6 2 16)
-    ∷ lineUnder unlike (at 0 ACTIVE ∷ at 11 PRECHARGE ∷ at 17 ACTIVE ∷ []) (touches 3 [])
+    ∷ lineUnder unlike (at 0 ACTIVE ∷ at 11 PRECHARGE ∷ at 16 ACTIVE ∷ []) (touches 3 [])
     ∷ lineUnder unlike (at 0 ACTIVE ∷ at 11 PRECHARGE ∷ at 15 REFRESH ∷ []) (breaks 2 5 2 15)
     ∷ lineUnder unlike (at 0 ACTIVE ∷ at 11 PRECHARGE ∷ at 16 REFRESH ∷ []) (touches 3 [])
     -- tRRD, tRCD, tRAS

@@ -3,7 +3,7 @@ use Prim.Native.Nat.{_+_}
 use mathlib.Core.List.{List, [], _∷_}
 use mathlib.Core.Path.{refl}
 use lib.ListN.{set}
-use Rattle.reading.proofs.Cases.{ACTIVE, READ, WRITE, TERMINATE, PRECHARGE, REFRESH, NOP, A10, bank, at, usual, touches, breaks, said, Case, case, under, Hold}
+use Rattle.reading.proofs.Cases.{ACTIVE, READ, WRITE, TERMINATE, PRECHARGE, REFRESH, NOP, A10, bank, at, usual, refuses, touches, breaks, said, Case, case, under, Hold}
 
 cases : List Case
 cases =
@@ -28,7 +28,8 @@ cases =
     -- g
     ∷ case (at 0 ACTIVE ∷ at 3 (READ + A10) ∷ at 10 ACTIVE ∷ []) (touches 3 (0 ∷ 1 ∷ 2 ∷ 3 ∷ []))
     ∷ case (at 0 ACTIVE ∷ at 3 (READ + A10) ∷ at 9 ACTIVE ∷ []) (breaks 2 5 2 9)
-    ∷ under (set usual 7 11) (at 0 ACTIVE ∷ at 3 (READ + A10) ∷ at 10 ACTIVE ∷ []) (breaks 2 6 2 10)
+    -- its third line was rule 6 until settings that contradict each other were refused
+    ∷ under (set usual 7 11) (at 0 ACTIVE ∷ at 3 (READ + A10) ∷ at 10 ACTIVE ∷ []) (refuses 3 7)
     -- h
     ∷ case (at 0 ACTIVE ∷ at 3 WRITE ∷ at 7 READ ∷ []) (touches 3 (0 ∷ 1 ∷ 2 ∷ 3 ∷ 0 ∷ 1 ∷ 2 ∷ 3 ∷ []))
     ∷ case (at 0 ACTIVE ∷ at 3 WRITE ∷ at 6 READ ∷ []) (breaks 2 11 2 6)

@@ -14,15 +14,16 @@ use Rattle.reading.specs.Words.{bytesOf}
 use Rattle.reading.specs.Settings.{settingFits, badSetting}
 use Rattle.reading.specs.Capture.{headerWord, eventCount, captureSize, mostEvents, settingWords, eventBytes, lengthFits, headerFits, pinLimit, badEvent}
 use Rattle.reading.specs.Answers.{Answer, refused, unless, accepted}
-use Rattle.reading.proofs.Cases.{NOP, at, usual, refuses, touches, said, Case, case, bytes, Hold}
+use Rattle.reading.proofs.Cases.{NOP, at, usual, sleeping, refuses, touches, said, Case, case, bytes, Hold}
 
--- the usual settings with one word changed, and the lowest that does not fit
+-- settings, and the lowest that does not fit
 record Fit : Type 0 where
   settings : List ℕ
   lacks : Option ℕ
 
+-- one word is changed; with tRAS 10,000 and tRC 1 its range alone decides
 abbrev word : ℕ → ℕ → Option ℕ → Fit
-word i w o = record { settings = set usual i w; lacks = o }
+word i w o = record { settings = set (set (set usual 6 10000) 7 1) i w; lacks = o }
 
 abbrev row : ℕ → ℕ → ℕ → List Fit
 row i least most = word i (least - 1) (some i) ∷ word i least none ∷ word i most none ∷ word i (most + 1) (some i) ∷ []
@@ -53,8 +54,39 @@ table =
     ∷ word 3 0xa1 (some 3)
     ∷ [])
 
-each-limit : map (λ x. badSetting (x .settings)) table ≡ map (λ x. x .lacks) table
-unfolding table badSetting settingFits
+-- tRP, tRAS and tRC are changed
+abbrev times : ℕ → ℕ → ℕ → Option ℕ → Fit
+times rp ras rc o = record { settings = set (set (set usual 5 rp) 6 ras) 7 rc; lacks = o }
+
+together : List Fit
+together =
+    times 3 7 10 none
+    ∷ times 3 7 11 (some 7)
+    ∷ times 1 9 10 none
+    ∷ times 1 9 11 (some 7)
+    ∷ times 9 1 10 none
+    ∷ times 9 1 11 (some 7)
+    -- at the ends of their ranges
+    ∷ times 1 1 1 none
+    ∷ times 1 1 2 none
+    ∷ times 1 1 3 (some 7)
+    ∷ times 10000 10000 10000 none
+    ∷ times 1 9999 10000 none
+    ∷ times 1 9998 10000 (some 7)
+    ∷ times 9999 1 10000 none
+    ∷ times 9998 1 10000 (some 7)
+    -- a range decides first, of a setting before them and of one behind
+    ∷ times 0 7 11 (some 5)
+    ∷ times 3 0 11 (some 6)
+    ∷ record { settings = set (set usual 7 11) 3 0x02; lacks = some 3 }
+    ∷ record { settings = set (set usual 7 11) 8 0; lacks = some 8 }
+    ∷ record { settings = set (set usual 7 11) 13 0; lacks = some 13 }
+    ∷ record { settings = set (set sleeping 7 11) 14 0; lacks = some 14 }
+    ∷ record { settings = set (set sleeping 7 11) 15 0; lacks = some 15 }
+    ∷ []
+
+each-limit : map (λ x. badSetting (x .settings)) (table ++ together) ≡ map (λ x. x .lacks) (table ++ together)
+unfolding table together badSetting settingFits
 each-limit = refl
 
 shapes : List Case

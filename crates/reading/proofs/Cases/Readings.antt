@@ -59,8 +59,8 @@ readings =
     ∷ case (at 0 (MODE + bank 2) ∷ at 1 ACTIVE ∷ []) (breaks 1 4 1 1)
     ∷ case (at 0 ACTIVE ∷ at 20 (MODE + bank 2) ∷ []) (breaks 1 3 1 20)
     ∷ case (at 0 ACTIVE ∷ at 7 PRECHARGE ∷ at 9 (MODE + bank 2) ∷ []) (breaks 2 5 2 9)
-    ∷ under (set usual 5 1) (at 0 ACTIVE ∷ at 8 (READ + A10) ∷ at 12 (MODE + bank 2) ∷ []) (breaks 2 12 2 12)
-    ∷ under (set usual 5 1) (at 0 ACTIVE ∷ at 8 (READ + A10) ∷ at 13 (MODE + bank 2) ∷ []) (touches 3 (0 ∷ 1 ∷ 2 ∷ 3 ∷ []))
+    ∷ under (set (set usual 5 1) 7 8) (at 0 ACTIVE ∷ at 8 (READ + A10) ∷ at 12 (MODE + bank 2) ∷ []) (breaks 2 12 2 12)
+    ∷ under (set (set usual 5 1) 7 8) (at 0 ACTIVE ∷ at 8 (READ + A10) ∷ at 13 (MODE + bank 2) ∷ []) (touches 3 (0 ∷ 1 ∷ 2 ∷ 3 ∷ []))
     -- it leaves the mode word alone
     ∷ case (at 0 (MODE + bank 2 + 0x31) ∷ at 2 ACTIVE ∷ at 5 READ ∷ []) (touches 3 (0 ∷ 1 ∷ 2 ∷ 3 ∷ []))
     ∷ case (at 0 (MODE + 0x31) ∷ at 2 ACTIVE ∷ at 5 READ ∷ []) (touches 3 (0 ∷ 1 ∷ []))

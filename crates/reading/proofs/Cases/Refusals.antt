@@ -4,7 +4,7 @@ use mathlib.Core.List.{List, [], _∷_, _++_}
 use mathlib.Core.Path.{refl}
 use lib.ListN.{set, replicate}
 use Rattle.reading.specs.Words.{bytesOf}
-use Rattle.reading.proofs.Cases.{ACTIVE, READ, NOP, at, usual, refuses, touches, breaks, said, Case, case, under, bytes, Hold}
+use Rattle.reading.proofs.Cases.{ACTIVE, READ, NOP, at, usual, sleeping, refuses, touches, breaks, said, Case, case, under, bytes, Hold}
 
 -- a header word is wrong: the usual settings behind it, and no events
 abbrev wrong : List ℕ → ℕ → ℕ → Case
@@ -41,6 +41,12 @@ refusals =
     ∷ under (set usual 12 10001) [] (refuses 3 12)
     ∷ under (set usual 13 1000000) [] (touches 0 [])
     ∷ under (set usual 13 1000001) [] (refuses 3 13)
+    -- and where each is in its range, tRC above tRAS + tRP
+    ∷ under (set usual 7 10) [] (touches 0 [])
+    ∷ under (set usual 7 11) [] (refuses 3 7)
+    ∷ under (set usual 7 100) [] (refuses 3 7)
+    ∷ under (set sleeping 7 10) [] (touches 0 [])
+    ∷ under (set sleeping 7 11) [] (refuses 3 7)
     -- 4: the lowest event, by its pins or its cycle, before any event is judged
     ∷ case (at 0 (NOP + 0x100000) ∷ []) (refuses 4 0)
     ∷ case (at 0 NOP ∷ at 0 NOP ∷ []) (refuses 4 1)
@@ -52,6 +58,11 @@ refusals =
     ∷ wrong (81 ∷ 15 ∷ 24 ∷ 0 ∷ 80 ∷ 0 ∷ []) 1 0
     ∷ bytes (bytesOf (80 ∷ 14 ∷ 24 ∷ 0 ∷ 80 ∷ 7 ∷ []) ++ bytesOf (set usual 0 0)) (refuses 2 0)
     ∷ under (set usual 13 0) (at 0 (NOP + 0x100000) ∷ []) (refuses 3 13)
+    ∷ under (set (set usual 7 11) 13 0) [] (refuses 3 13)
+    ∷ under (set (set sleeping 7 11) 15 0) [] (refuses 3 15)
+    ∷ under (set usual 7 11) (at 0 (NOP + 0x100000) ∷ []) (refuses 3 7)
+    ∷ under (set sleeping 7 11) (at 0 NOP ∷ at 0 NOP ∷ []) (refuses 3 7)
+    ∷ bytes (bytesOf (80 ∷ 14 ∷ 24 ∷ 0 ∷ 80 ∷ 7 ∷ []) ++ bytesOf (set usual 7 11)) (refuses 2 0)
     ∷ []
 
 each-refusal : Hold refusals

@@ -75,7 +75,12 @@ cases =
     ∷ refusing [] [] [] 2 0
     ∷ refusing (take 13 usual) [] [] 2 0
     ∷ refusing (usual ++ (0 ∷ [])) (0x78000000 ∷ []) [] 2 0
+    ∷ refusing (set usual 7 11 ++ (2 ∷ [])) [] [] 2 0
     ∷ refusing (set usual 4 0) (0x78000000 ∷ []) [] 3 4
+    -- tRC above tRAS + tRP: 3 before 5
+    ∷ refusing (set usual 7 11) (5 ∷ []) (replicate 96 9) 3 7
+    ∷ refusing (set usual 7 11) (0x78000000 ∷ []) [] 3 7
+    ∷ refusing (set (set usual 7 11) 13 0) [] [] 3 13
     ∷ refusing usual (5 ∷ 0x08000000 ∷ []) [] 5 1
     ∷ refusing usual (0x10000000 ∷ []) [] 5 0
     ∷ refusing usual (0x20000000 ∷ []) [] 5 0
@@ -145,6 +150,11 @@ lists =
     ∷ lent (at 0 ACTIVE ∷ at 3 READ ∷ at 4 READ ∷ at 5 ACTIVE ∷ []) [] (record { answer = refused 8 3; buffer = [] })
     ∷ lent (at 0 ACTIVE ∷ at 2 READ ∷ []) (9 ∷ []) (record { answer = refused 8 1; buffer = 9 ∷ [] })
     ∷ lent (at 7 ACTIVE ∷ at 3 READ ∷ []) (9 ∷ []) (record { answer = refused 4 1; buffer = 9 ∷ [] })
+    ∷ record {
+      capture = captureOf (set usual 7 11) (at 0 ACTIVE ∷ at 2 READ ∷ []);
+      buffer = 9 ∷ [];
+      leaves = record { answer = refused 3 7; buffer = 9 ∷ [] };
+    }
     ∷ []
 
 burst-lists : map (λ x. cellsOutcome (x .capture) (x .buffer)) lists ≡ map (λ x. x .leaves) lists

@@ -105,7 +105,8 @@ clauses =
     ∷ breaking (at 0 (REFRESH + LOW) ∷ at 5000 (TERMINATE + LOW) ∷ []) 1 15 5000
     ∷ breaking (at 0 REFRESH ∷ at 5 (TERMINATE + LOW) ∷ []) 1 4 5
     -- self refresh behind a write with auto precharge, as soon as its bank has rested
-    ∷ under (set (set (set sleeping 5 1) 6 1) 9 1) (at 0 ACTIVE ∷ at 3 (WRITE + A10) ∷ at 8 (REFRESH + LOW) ∷ []) (touches 3 (0 ∷ 1 ∷ 2 ∷ 3 ∷ []))
+    ∷ under (set (set (set (set sleeping 5 1) 6 1) 7 2) 9 1) (at 0 ACTIVE ∷ at 3 (WRITE + A10) ∷ at 8 (REFRESH + LOW) ∷ [])
+    (touches 3 (0 ∷ 1 ∷ 2 ∷ 3 ∷ []))
     -- a capture may end asleep, and wakes to rule 14's end
     ∷ quietly 1 (at 7 (REFRESH + LOW) ∷ [])
     ∷ quietly 3 (at 5 (REFRESH + LOW) ∷ at 5000 NOP ∷ at 6000 (NOP + LOW) ∷ [])

@@ -2,7 +2,7 @@
 use Prim.Native.Nat.{_-_}
 use mathlib.Core.Path.{sym, _∙_}
 use native.Mathlib.Omega.{arith}
-use Rattle.settings.proofs.Rows.{Sought, begins, goes-on, stops, ends}
+use Rattle.settings.proofs.Rows.{Sought, begins, goes-on, stops, row-most, contradicts, agrees}
 use Rattle.settings.proofs.lowest_bad.Statement.{statement}
 use Rattle.settings.proofs.lowest_bad.Tie as tie
 
@@ -41,8 +41,28 @@ returns : tie.Need-returns Inv-settings μ-settings
 returns c =
     stops (c .before .before .before .before .settings .inv) (omega arith) (sym (c .before .setting-fits .ensures) ∙ c .if1 .left)
 
+shared-slice-read-if2 : tie.Need-shared-slice-read-if2 Inv-settings μ-settings
+shared-slice-read-if2 c = omega arith
+
+shared-slice-read-if2-2 : tie.Need-shared-slice-read-if2-2 Inv-settings μ-settings
+shared-slice-read-if2-2 c = omega arith
+
+add-if2 : tie.Need-add-if2 Inv-settings μ-settings
+add-if2 c =
+    let s = c .before .before .before .settings .inv in
+    omega (arith, row-most s (omega arith) 5 (omega arith), row-most s (omega arith) 6 (omega arith))
+
+shared-slice-read-if2-3 : tie.Need-shared-slice-read-if2-3 Inv-settings μ-settings
+shared-slice-read-if2-3 c = omega arith
+
+cast-t17 : tie.Need-cast-t17 Inv-settings μ-settings
+cast-t17 c = omega arith
+
 returns-2 : tie.Need-returns-2 Inv-settings μ-settings
-returns-2 c = ends (c .before .settings .inv) (omega arith)
+returns-2 c = contradicts (c .before .before .before .before .before .settings .inv) (omega arith) (c .if2 .taken)
+
+returns-3 : tie.Need-returns-3 Inv-settings μ-settings
+returns-3 c = agrees (c .before .before .before .before .before .settings .inv) (omega arith) (c .if2 .left)
 
 pub lowest-bad-spec : {M : Type 1} → statement M
 lowest-bad-spec =
@@ -59,4 +79,10 @@ lowest-bad-spec =
     settings-again
     cast-t8
     returns
-    returns-2)
+    shared-slice-read-if2
+    shared-slice-read-if2-2
+    add-if2
+    shared-slice-read-if2-3
+    cast-t17
+    returns-2
+    returns-3)

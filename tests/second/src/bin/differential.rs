@@ -142,7 +142,7 @@ impl Comparison {
         for length in self.lengths(needed, MOST_BYTES) {
             let mut buffer = vec![untouched; length + FENCE];
             let answer = schedule(settings, requests, &mut buffer[..length]);
-            self.tally.count_schedule(answer);
+            self.tally.count_schedule(settings, answer);
             let expected = Left {
                 answer: packed::of_count(answer),
                 buffer,

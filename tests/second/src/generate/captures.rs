@@ -1,7 +1,7 @@
 //! Captures built command by command, most of them legal, with at most one planned fault.
 
 use super::settings::{self, Kind};
-use super::Dice;
+use super::{Dice, NEVER_LOWEST};
 use crate::capture::{bytes_of, Event, Settings, GAP_SETTING, LAST_CYCLE, MOST_EVENTS};
 use crate::command::{Asked, Command, Named, BANKS, EXTENDED_REGISTER, LOW, MODE_REGISTER};
 use crate::part::{LookBack, Part};
@@ -122,13 +122,18 @@ impl Style {
             } else {
                 0
             },
-            // Rule 15 has more ways to be broken than any other.
-            fault_rule: if sleeps {
-                dice.between(1, 18).min(15)
-            } else {
-                dice.between(1, 14)
-            },
+            fault_rule: fault_rule(dice, sleeps),
         }
+    }
+}
+
+/// A rule that can be the lowest broken one: rule 5 stands for rule 6, and rule 15 has more
+/// ways to be broken than any other.
+fn fault_rule(dice: &mut Dice, sleeps: bool) -> u32 {
+    let most = if sleeps { 18 } else { 14 };
+    match dice.between(1, most).min(15) {
+        NEVER_LOWEST => 5,
+        rule => rule,
     }
 }
 

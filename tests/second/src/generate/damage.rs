@@ -1,9 +1,10 @@
 //! Captures with one fault or several in their bytes, for refusals 1 to 4.
 
+use super::settings::{most_t_rc, t_rc_beside};
 use super::{guided_capture, Dice};
 use crate::capture::{
-    events_at, settings_of_layout, total_bytes, word, EVENT_BYTES, HEADER_BYTES, LAST_CYCLE,
-    LIMITS, MODE_SETTING, MOST_EVENTS,
+    events_at, settings_of_layout, total_bytes, word, words, EVENT_BYTES, HEADER_BYTES, LAST_CYCLE,
+    LIMITS, MODE_SETTING, MOST_EVENTS, SETTINGS, T_RC_SETTING,
 };
 
 pub fn damaged_capture(dice: &mut Dice) -> Vec<u8> {
@@ -61,7 +62,7 @@ fn extreme_length(dice: &mut Dice) -> Vec<u8> {
 }
 
 fn damage(dice: &mut Dice, bytes: &mut Vec<u8>) {
-    match dice.below(14) {
+    match dice.below(15) {
         0 => shorten(dice, bytes),
         1 => lengthen(dice, bytes),
         2 => change_header(dice, bytes),
@@ -71,6 +72,7 @@ fn damage(dice: &mut Dice, bytes: &mut Vec<u8>) {
         7..=8 => change_cycle(dice, bytes),
         9..=10 => set_spare_pin(dice, bytes),
         11..=12 => change_layout(dice, bytes),
+        13 => change_t_rc(dice, bytes),
         _ => scribble(dice, bytes),
     }
 }
@@ -161,6 +163,14 @@ fn change_setting(dice: &mut Dice, bytes: &mut [u8]) {
 fn change_mode(dice: &mut Dice, bytes: &mut [u8]) {
     let value = dice.below(140);
     put(bytes, HEADER_BYTES + 4 * MODE_SETTING, value);
+}
+
+/// Settings that contradict each other, or nearly so.
+fn change_t_rc(dice: &mut Dice, bytes: &mut [u8]) {
+    if let Some(settings) = bytes.get(HEADER_BYTES..events_at(SETTINGS)) {
+        let value = t_rc_beside(dice, most_t_rc(&words(settings)));
+        put(bytes, HEADER_BYTES + 4 * T_RC_SETTING, value);
+    }
 }
 
 /// The byte offset of some event.

@@ -2,7 +2,7 @@
 
 use super::settings::{self, Kind};
 use super::Dice;
-use crate::capture::{GAP_SETTING, LIMITS, MODE_SETTING, SETTINGS};
+use crate::capture::{GAP_SETTING, LIMITS, MODE_SETTING, SETTINGS, T_RC_SETTING};
 use crate::schedule::MOST_REQUESTS;
 
 const WRITE: u32 = 1 << 31;
@@ -87,7 +87,7 @@ fn spoil_requests(dice: &mut Dice, list: &[u32; SETTINGS], requests: &mut [u32])
 }
 
 fn spoil_settings(dice: &mut Dice, list: &mut Vec<u32>) {
-    match dice.below(6) {
+    match dice.below(7) {
         0 => list.truncate(dice.below(14) as usize),
         1 => {
             for _ in 0..dice.between(1, 3) {
@@ -95,6 +95,7 @@ fn spoil_settings(dice: &mut Dice, list: &mut Vec<u32>) {
             }
         }
         2 => list[MODE_SETTING] = dice.below(140),
+        3 => list[T_RC_SETTING] = settings::t_rc_beside(dice, settings::most_t_rc(list)),
         _ => {
             for _ in 0..dice.between(1, 2) {
                 let place = dice.below(SETTINGS as u32) as usize;

@@ -2,13 +2,14 @@
 //! at the limits.
 
 use super::Dice;
-use crate::capture::{GAP_SETTING, LIMITS, MODE_SETTING, SETTINGS};
+use crate::capture::{
+    GAP_SETTING, LIMITS, MODE_SETTING, SETTINGS, T_RAS_SETTING, T_RC_SETTING, T_RP_SETTING,
+};
 
 const PARTS: &str = include_str!("../../../data/part-settings.csv");
 /// The column of the parts' table where the 14 settings start.
 const FIRST_COLUMN: usize = 3;
 const TIMES: std::ops::Range<usize> = 4..13;
-const T_RC: usize = 7;
 const T_WR: usize = 9;
 
 #[derive(Clone, Copy, Debug, PartialEq, Eq)]
@@ -48,12 +49,25 @@ fn wake(dice: &mut Dice, kind: Kind) -> [u32; 2] {
 }
 
 pub fn settings(dice: &mut Dice, kind: Kind) -> [u32; SETTINGS] {
-    match kind {
+    let mut settings = match kind {
         Kind::Short => short(dice),
         Kind::Tight => tight(dice),
         Kind::RealPart => real_part(dice),
         Kind::Limits => limits(dice),
-    }
+    };
+    settings[T_RC_SETTING] = settings[T_RC_SETTING].min(most_t_rc(&settings));
+    settings
+}
+
+/// The most that tRC may be, by tRAS and tRP; either may be anything in a damaged list.
+pub fn most_t_rc(settings: &[u32]) -> u32 {
+    settings[T_RAS_SETTING].wrapping_add(settings[T_RP_SETTING])
+}
+
+/// A tRC around the most that it may be.
+pub fn t_rc_beside(dice: &mut Dice, most: u32) -> u32 {
+    let (above, far_above) = (most.wrapping_add(1), LIMITS[T_RC_SETTING].1);
+    dice.pick(&[most, above, above, most.wrapping_add(2), far_above])
 }
 
 /// Any of the 16 valid mode words.
@@ -81,8 +95,8 @@ fn short(dice: &mut Dice) -> [u32; SETTINGS] {
     for time in &mut settings[TIMES] {
         *time = dice.between(1, longest);
     }
-    // tRC and tWR decide only where they outlast the other waits.
-    for place in [T_RC, T_WR] {
+    // tWR decides only where it outlasts the other waits; tRC is cut to its most.
+    for place in [T_RC_SETTING, T_WR] {
         if dice.percent(50) {
             settings[place] = dice.between(longest, 5 * longest);
         }

@@ -4,28 +4,39 @@
 use std::collections::BTreeMap;
 use std::fmt;
 
-use crate::capture::{settings_of_layout, Refusal, SETTINGS, SLEEP_SETTINGS};
+use crate::capture::{
+    events_at, settings_of_layout, words, Refusal, HEADER_BYTES, LIMITS, SETTINGS, SLEEP_SETTINGS,
+    T_RC_SETTING,
+};
 use crate::verdict::Answer;
 
 pub const RULES: usize = 15;
+/// It is never the lowest broken rule: a bank that is opened again was open for tRAS and
+/// closed for tRP, or rule 3 or 5 is broken, and no tRC above both together is accepted.
+pub const NEVER_LOWEST: u32 = 6;
 
 /// The refusals that document 01's table has for each question, in its order.
 const OF_JUDGE: [u32; 4] = [1, 2, 3, 4];
 const OF_CELLS: [u32; 6] = [1, 2, 3, 4, 8, 7];
 const OF_SCHEDULE: [u32; 5] = [2, 3, 5, 6, 7];
 
-/// How often a question was answered, and refused with each number.
+/// How often a question was answered, refused with each number, and refused for settings
+/// that contradict each other.
 #[derive(Clone, Debug, Default)]
 pub struct Answers {
     pub given: u64,
     refused: BTreeMap<u32, u64>,
+    contradictions: u64,
 }
 
 impl Answers {
-    fn count(&mut self, refusal: Option<u32>) {
+    fn count(&mut self, refusal: Option<Refusal>, settings: &[u32]) {
         match refusal {
             None => self.given += 1,
-            Some(number) => *self.refused.entry(number).or_default() += 1,
+            Some(refusal) => {
+                *self.refused.entry(refusal.number).or_default() += 1;
+                self.contradictions += u64::from(is_contradiction(refusal, settings));
+            }
         }
     }
 
@@ -55,7 +66,9 @@ impl OfCaptures {
         let rules = if settings == SETTINGS { 14 } else { RULES };
         let mut counts = vec![("judge: clean".to_string(), self.verdicts.given)];
         for (rule, &count) in (1..).zip(&self.rules[..rules]) {
-            counts.push((format!("judge: rule {rule}"), count));
+            if rule != NEVER_LOWEST {
+                counts.push((format!("judge: rule {rule}"), count));
+            }
         }
         counts.extend(refusals("judge", &self.verdicts, &OF_JUDGE));
         counts.push(("cells: written".to_string(), self.cell_lists.given));
@@ -77,22 +90,25 @@ impl Tally {
 
     pub fn count_answer(&mut self, capture: &[u8], answer: Answer) {
         let counts = self.of_layout(capture);
+        let settings = first_settings(capture);
         match answer {
-            Answer::Clean { .. } => counts.verdicts.count(None),
+            Answer::Clean { .. } => counts.verdicts.count(None, &settings),
             Answer::Broken { rule, .. } => counts.rules[rule as usize - 1] += 1,
-            Answer::Refused { number, .. } => counts.verdicts.count(Some(number)),
+            Answer::Refused { number, place } => {
+                let refusal = Refusal { number, place };
+                counts.verdicts.count(Some(refusal), &settings);
+            }
         }
     }
 
     pub fn count_cells(&mut self, capture: &[u8], answer: Result<u32, Refusal>) {
         self.of_layout(capture)
             .cell_lists
-            .count(answer.err().map(|refusal| refusal.number));
+            .count(answer.err(), &first_settings(capture));
     }
 
-    pub fn count_schedule(&mut self, answer: Result<u32, Refusal>) {
-        self.schedules
-            .count(answer.err().map(|refusal| refusal.number));
+    pub fn count_schedule(&mut self, settings: &[u32], answer: Result<u32, Refusal>) {
+        self.schedules.count(answer.err(), settings);
     }
 
     /// What was counted, by name.
@@ -114,14 +130,28 @@ impl Tally {
     }
 }
 
-fn refusals<'a>(
-    question: &'a str,
-    answers: &'a Answers,
-    numbers: &'a [u32],
-) -> impl Iterator<Item = (String, u64)> + 'a {
-    numbers
-        .iter()
-        .map(move |&number| (format!("{question}: refusal {number}"), answers.of(number)))
+/// The 14 settings that every capture has; none where the bytes end before.
+fn first_settings(capture: &[u8]) -> Vec<u32> {
+    let bytes = capture.get(HEADER_BYTES..events_at(SETTINGS));
+    words(bytes.unwrap_or_default())
+}
+
+/// Whether tRC is refused though it is in its range.
+fn is_contradiction(refusal: Refusal, settings: &[u32]) -> bool {
+    let (least, most) = LIMITS[T_RC_SETTING];
+    let of_t_rc = (refusal.number, refusal.place as usize) == (3, T_RC_SETTING);
+    of_t_rc && (least..=most).contains(&settings[T_RC_SETTING])
+}
+
+fn refusals(question: &str, answers: &Answers, numbers: &[u32]) -> Vec<(String, u64)> {
+    let mut counts = vec![(
+        format!("{question}: settings that contradict each other"),
+        answers.contradictions,
+    )];
+    for &number in numbers {
+        counts.push((format!("{question}: refusal {number}"), answers.of(number)));
+    }
+    counts
 }
 
 impl fmt::Display for Tally {
