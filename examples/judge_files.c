@@ -40,6 +40,8 @@ static const char *const SETTINGS[] = {
     "tRRD", "tWR", "tWTR", "tRFC", "tMRD", "GAP", "tXP", "tXSR",
 };
 
+enum { T_RC = 7 };
+
 static uint32_t word_at(size_t at)
 {
     return (uint32_t)capture[at] | (uint32_t)capture[at + 1] << 8 | (uint32_t)capture[at + 2] << 16
@@ -62,7 +64,8 @@ static int say_refused(const char *name, unsigned number, uint32_t place)
         printf("%s: refused (2): its header is wrong\n", name);
         break;
     case 3:
-        printf("%s: refused (3): setting %" PRIu32 ", %s, is out of its range\n", name, place, SETTINGS[place]);
+        printf("%s: refused (3): setting %" PRIu32 ", %s, is out of its range%s\n", name, place, SETTINGS[place],
+               place == T_RC ? " or above tRAS + tRP" : "");
         break;
     default:
         printf("%s: refused (4): event %" PRIu32 " has pins that do not exist, or a cycle that is too large or does not rise\n",

@@ -19,7 +19,8 @@
  *              as it says
  *        2     the capture's header is wrong; a settings list not of 14       0
  *              words
- *        3     a setting is out of its range, or the mode word not valid      the lowest such setting
+ *        3     a setting is out of its range, or the mode word not valid;     the lowest such setting; 7
+ *              else tRC is above tRAS + tRP
  *        4     pin bits 20-31 are set, or 21-31 with 16 settings, or a        the lowest such event
  *              cycle is above 2,000,000,000 or does not rise
  *        5     over 2,000 requests; else bits 27-30 of a request are set,     2,000; the lowest such request

@@ -122,6 +122,8 @@ CASES = [
     ("a megabyte", quiet(8000) * 16, 2, "refused (1): it is not as long as it says, or no capture is so long"),
     ("thirteen settings", capture([], header=[80, 13, 24, 0, 80, 0]), 2, "refused (2): its header is wrong"),
     ("a mode word of latency 4", capture([], setting(3, 0x42)), 2, "refused (3): setting 3, mode word, is out of its range"),
+    ("tRC 11 beside tRAS 7 and tRP 3", capture([], setting(7, 11)), 2,
+     "refused (3): setting 7, tRC, is out of its range or above tRAS + tRP"),
     ("tXSR 0", capture([], setting(15, 0, SLEEPY)), 2, "refused (3): setting 15, tXSR, is out of its range"),
     ("the second event's pins", capture([(0, NOP), (1, NOP | 1 << 20)]), 2,
      "refused (4): event 1 has pins that do not exist, or a cycle that is too large or does not rise"),
