@@ -1,7 +1,7 @@
-/* Morgazell for C programs on x86-64 Linux: judging captures of Mobile DDR commands, listing the cells of their bursts,
- * writing schedules. docs/RULES.md is the exact scope and rules.
+/* Morgazell for C and C++ programs on x86-64 Linux: judging captures of Mobile DDR commands, listing the cells of their
+ * bursts, writing schedules. Valid C99 and C++17.
  *
- * Every call answers one number:
+ * Every call but morgazell_version answers one number:
  *
  *     bits 56-63   the refusal, by its number below; 0: not refused
  *     bits 48-55   the broken rule, 1 to 15; 0: none (only morgazell_judge gives one)
@@ -10,15 +10,19 @@
  *                  a rule is broken:  the event, from 0; the events before it were judged and broke none
  *                  neither, a count:  events judged, cells written, bytes written
  *
+ * Nothing is lost by that: refusal and place, rule and event, and the count are got back from the number, and what else the
+ * judge knows of a broken event, its cycle, stands in the capture.
+ *
  *     refusal  given when                                                     place
  *        1     the capture is under 80 or over 64,080 bytes, or where its     0
  *              settings count is 16 under 88 or over 64,088, or not as long
  *              as it says
  *        2     the capture's header is wrong; a settings list not of 14       0
  *              words
- *        3     a setting is out of its range, or the mode word not valid      the lowest such setting
+ *        3     a setting is out of its range, or the mode word not valid;     the lowest such setting; 7
+ *              else tRC is above tRAS + tRP
  *        4     pin bits 20-31 are set, or 21-31 with 16 settings, or a        the lowest such event
- *              cycle is too large or does not rise
+ *              cycle is above 2,000,000,000 or does not rise
  *        5     over 2,000 requests; else bits 27-30 of a request are set,     2,000; the lowest such request
  *              or the part lacks its cell
  *        6     refresh cannot be kept                                         the request
@@ -28,17 +32,47 @@
  * They are tried in this order and the first that applies is given. morgazell_judge can give 1 to 4, morgazell_cells
  * 1 to 4, 8 and 7, morgazell_schedule 2, 3, 5, 6 and 7.
  *
- * The cycle of a broken event is not in the number: it is the word at byte 80 + 8 * event of a capture of 14 settings, at
- * byte 88 + 8 * event of one of 16.
+ * A capture is words of 32 bits, lowest byte first: six of header (its length in bytes; 14 or 16, the settings count; 24,
+ * where they start; the number of events, at most 8,000; 80 or 88, where these start; 0), the settings, and two words an
+ * event, cycle and pins: A0-A13 in bits 0-13, BA0 and BA1 in 14 and 15, CS#, RAS#, CAS# and WE# in 16-19 and, with
+ * 16 settings, CKE low in 20. So event i stands at byte 80 + 8 * i with 14 settings, at byte 88 + 8 * i with 16.
+ *
+ *     setting  name and range                        setting  name and range, all 1 to 10,000 cycles but GAP
+ *        0     lane code, 1 or 2: 2 or 4 bytes wide     4-12  tRCD, tRP, tRAS, tRC, tRRD, tWR, tWTR, tRFC, tMRD
+ *        1     row bits, 12 to 14                         13  GAP, 1 to 1,000,000: the longest time without refresh
+ *        2     column bits, 8 to 11                       14  tXP, from the end of power-down  (with 16 settings)
+ *        3     mode word at cycle 0                       15  tXSR, from the end of self refresh  (with 16 settings)
+ *
+ *     rule  what it asks of an event
+ *       1   the row of an ACTIVE is one of the part's
+ *       2   MODE REGISTER SET writes a valid mode word to register 00, or anything to register 10
+ *       3   ACTIVE finds its bank idle, READ and WRITE find theirs open, AUTO REFRESH and MODE REGISTER SET all idle
+ *       4   a command, or CKE falling, waits tRFC from AUTO REFRESH and tMRD from MODE REGISTER SET
+ *       5   ACTIVE waits tRP from its bank's precharge, AUTO REFRESH and MODE REGISTER SET from every bank's
+ *       6   ACTIVE waits tRC from the ACTIVE of its bank
+ *       7   ACTIVE waits tRRD from the ACTIVEs of other banks
+ *       8   READ and WRITE wait tRCD from their bank's ACTIVE
+ *       9   PRECHARGE waits tRAS from the ACTIVE of what it closes
+ *      10   PRECHARGE waits tWR from the write data of what it closes
+ *      11   READ waits tWTR from the last write data
+ *      12   WRITE, AUTO REFRESH and MODE REGISTER SET wait until the data of the last READ have left the bus
+ *      13   READ does not cut a read with auto precharge, WRITE no such write, BURST TERMINATE neither, nor any write
+ *      14   at most GAP since the last AUTO REFRESH, the end of self refresh or cycle 0; not asked in self refresh
+ *      15   CKE falls with NOP, DESELECT or AUTO REFRESH and after the data, rises with NOP or DESELECT, and nothing else
+ *           comes asleep; what follows waits tXP from the end of power-down, tXSR from that of self refresh
+ *           (only with 16 settings)
  *
  * Memory. Lengths count elements of the pointer's type. A pointer may be NULL where its length is 0; else it points to
  * that many elements, aligned for their type (a capture, being bytes, may stand anywhere). `out` must not overlap an
  * input; inputs may overlap each other. Nothing at or behind out + out_len is read or written, inputs are not written,
  * and a refused call leaves `out` as it was. So a call with an empty buffer asks what length is needed: refusal 7 says.
  *
- * No call allocates, keeps anything between calls, or asks anything of the system: threads may call at the same time
- * with buffers of their own. morgazell_schedule takes some 50 KB of stack. The archive wants memcpy and memset of the C
- * library and nothing else. */
+ * Threads. No call allocates, keeps anything between calls, or asks anything of the system: any number of threads may
+ * call at the same time, each with buffers of its own; inputs may be shared.
+ *
+ * Stack. The most that a call takes, in bytes, the return address included: morgazell_judge 1024, morgazell_cells 1280,
+ * morgazell_schedule 49152, morgazell_version 136; besides, what memcpy and memset of the C library take. The archive wants
+ * nothing of anyone but these two, and not even these where it is built for the smallest size. */
 #ifndef MORGAZELL_H
 #define MORGAZELL_H
 
@@ -49,6 +83,9 @@
 extern "C" {
 #endif
 
+/* What judges: 10000 * the first number of the version + 100 * the second + the third; 10203 for 1.2.3. */
+uint32_t morgazell_version(void);
+
 /* What the rules say of these bytes as a capture. */
 uint64_t morgazell_judge(const uint8_t *capture, size_t len);
 
@@ -57,8 +94,8 @@ uint64_t morgazell_judge(const uint8_t *capture, size_t len);
 uint64_t morgazell_cells(const uint8_t *capture, size_t len, uint32_t *out, size_t out_len);
 
 /* The schedule of the requests, as a whole capture from out[0] on; bytes behind it stay. 48,080 bytes are always
- * enough. The settings are document 01's fourteen words. A request has bit 31 set for a write, and in bits 0-26 the
- * cell where its burst starts. */
+ * enough. The settings are the first fourteen: a schedule never sleeps. A request has bit 31 set for a write, and in bits
+ * 0-26 the cell where its burst starts. */
 uint64_t morgazell_schedule(const uint32_t *settings, size_t settings_len,
                             const uint32_t *requests, size_t requests_len,
                             uint8_t *out, size_t out_len);

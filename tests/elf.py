@@ -1,13 +1,15 @@
-"""Object files as the compiler wrote them: sections and relocations of x86-64 ELF, alone or in an archive."""
+"""Object files as the compiler wrote them: sections, relocations and symbols of x86-64 ELF, alone or in an archive."""
 import struct
 
 ALLOCATED, EXECUTED, WRITTEN = 2, 4, 1
-PROGRAM_BITS, RELOCATIONS = 1, 4
+SYMBOLS, RELOCATIONS = 2, 4
+LOCAL = 0
 
 
 class Section:
-    def __init__(self, name, kind, flags, data, concerns):
-        self.name, self.kind, self.flags, self.data, self.concerns = name, kind, flags, data, concerns
+    def __init__(self, name, kind, flags, data, linked, concerns):
+        self.name, self.kind, self.flags, self.data = name, kind, flags, data
+        self.linked, self.concerns = linked, concerns
         self.relocated = []
 
     def is_code(self):
@@ -32,7 +34,7 @@ def sections(data):
     size, count, names = struct.unpack_from("<3H", data, 58)
     heads = [struct.unpack_from("<IIQQQQIIQQ", data, start + i * size) for i in range(count)]
     table = data[heads[names][4]:heads[names][4] + heads[names][5]]
-    found = [Section(_name(table, h[0]), h[1], h[2], data[h[4]:h[4] + h[5]], h[7]) for h in heads]
+    found = [Section(_name(table, h[0]), h[1], h[2], data[h[4]:h[4] + h[5]], h[6], h[7]) for h in heads]
     for section in found:
         if section.kind == RELOCATIONS:
             places = [struct.unpack_from("<Q", section.data, at)[0] for at in range(0, len(section.data), 24)]
@@ -53,3 +55,22 @@ def members(archive):
             found.append(data[at + 60:at + 60 + size])
         at += 60 + size + size % 2
     return found
+
+
+def _symbols(data):
+    """(name, section) of every global symbol; section 0 is somewhere else."""
+    found = sections(data)
+    for table in (s for s in found if s.kind == SYMBOLS):
+        names = found[table.linked].data
+        for at in range(0, len(table.data), 24):
+            name, info, _, section = struct.unpack_from("<IBBH", table.data, at)
+            if info >> 4 != LOCAL and name:
+                yield _name(names, name), section
+
+
+def exported(data):
+    return {name for name, section in _symbols(data) if section != 0}
+
+
+def wanted(data):
+    return {name for name, section in _symbols(data) if section == 0}

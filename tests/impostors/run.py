@@ -85,8 +85,8 @@ def is_present(edit, folder):
 
 
 def function_at(path, line):
-    """The function whose text holds this line of a source."""
-    return re.findall(r"\bfn (\w+)", "\n".join(read(path).split("\n")[:line]))[-1]
+    """The function whose text begins at this line of a source."""
+    return re.search(r"\bfn (\w+)", "\n".join(read(path).split("\n")[line - 1:])).group(1)
 
 
 def place(folder, path):

@@ -14,9 +14,9 @@ sys.path.insert(0, os.path.join(HERE, ".."))
 import elf
 
 PAGE = os.path.join(ROOT, "docs", "PERFORMANCE.md")
-BUILDS = {"`tools/archive`": "morgazell", "`tools/smallest`": "smallest"}
-JUDGE, CELLS, SCHEDULE = "morgazell_judge", "morgazell_cells", "morgazell_schedule"
-CALLERS = [(JUDGE, CELLS, SCHEDULE), (JUDGE, CELLS), (JUDGE,)]
+BUILDS = {"`tools/archive`": "morgazell", "`tools/smallest`": "morgazell-smallest"}
+VERSION, JUDGE, CELLS, SCHEDULE = "morgazell_version", "morgazell_judge", "morgazell_cells", "morgazell_schedule"
+CALLERS = [(VERSION, JUDGE, CELLS, SCHEDULE), (JUDGE, CELLS), (JUDGE,)]
 
 
 def carried(archive, functions):
@@ -31,7 +31,7 @@ def carried(archive, functions):
 
 
 def measured(title, folder):
-    archive = os.path.join(ROOT, "target", folder, "libmorgazell.a")
+    archive = os.path.join(ROOT, "target", folder, "lib", "libmorgazell.a")
     cells = ["{:,}".format(os.path.getsize(archive))]
     cells += ["{:,} and {:,}".format(*carried(archive, functions)) for functions in CALLERS]
     return "| %s | %s |" % (title, " | ".join(cells))

@@ -26,7 +26,7 @@ from captures import ACTIVE, READ, USUAL, WRITE, capture, column, mode_word, set
 from rows import published, searched
 
 X86 = os.path.join(ROOT, "tests", "x86")
-BUILDS = {"quick": "morgazell", "smallest": "smallest"}
+BUILDS = {"quick": "morgazell", "smallest": "morgazell-smallest"}
 
 wrong = 0
 
@@ -180,7 +180,7 @@ def main():
     for build, folder in BUILDS.items():
         subprocess.run([os.path.join(ROOT, "tests", "c", "build"), build], check=True, stdout=subprocess.DEVNULL)
         rows, asked = hold_rows(build, os.path.join(ROOT, "target", "c", build, "serve"))
-        for line in stored(elf.members(os.path.join(ROOT, "target", folder, "libmorgazell.a"))):
+        for line in stored(elf.members(os.path.join(ROOT, "target", folder, "lib", "libmorgazell.a"))):
             tell("%s build: %s" % (build, line))
         print("%s build: %d published rows, %d bursts listed" % (build, rows, asked))
     constants = list(array_constants())

@@ -76,6 +76,7 @@ use Rattle.cells.proofs.burst_cells.Reads as cells-burst-cells
 use Rattle.morgazell.proofs.morgazell_judge.Reads as morgazell-morgazell-judge
 use Rattle.morgazell.proofs.morgazell_cells.Reads as morgazell-morgazell-cells
 use Rattle.morgazell.proofs.morgazell_schedule.Reads as morgazell-morgazell-schedule
+use Rattle.morgazell.proofs.version.morgazell_version.Reads as morgazell-version-morgazell-version
 use Rattle.capture.proofs.event_bytes.Reads as capture-event-bytes
 use Rattle.capture.proofs.events_start.Reads as capture-events-start
 use Rattle.pins.proofs.code.Reads as pins-code
@@ -390,3 +391,7 @@ morgazell-morgazell-cells-settles κs a z z′ e e′ p q = (p .0 ∙ sym (q .0)
 pub morgazell-morgazell-schedule-settles : (κs : _) (a : _) (z z′ : _) (e e′ : _) → morgazell-morgazell-schedule.Post κs a z e → morgazell-morgazell-schedule.Post κs a z′ e′ →
     (z ≡ z′) × (now (e .1 .1 .0) ≡ now (e′ .1 .1 .0))
 morgazell-morgazell-schedule-settles κs a z z′ e e′ p q = (p .0 ∙ sym (q .0), p .1 ∙ sym (q .1))
+
+pub morgazell-version-morgazell-version-settles : (κs : _) (a : _) (z z′ : _) (e e′ : _) → morgazell-version-morgazell-version.Post κs a z e → morgazell-version-morgazell-version.Post κs a z′ e′ →
+    z ≡ z′
+morgazell-version-morgazell-version-settles κs a z z′ e e′ p q = p ∙ sym q

@@ -457,8 +457,8 @@ fn sleeping_pins() {
     }
 }
 
-// ---- refusal 3 of settings that contradict each other (K5): "a tRC above tRAS + tRP", place 7, "after all single ranges
-// have passed and before number 4". Captures of three events, with 14 settings and with 16, and lists.
+// ---- refusal 3 of settings that contradict each other (K5): tRC above tRAS + tRP, place 7, where each is in its range and
+// before events are looked at. Lists, and captures of three events, with 14 settings and with 16.
 
 fn timed_capture(count: u32, times: [u32; 3], at: u32, word: u32) -> Answer {
     let mut buffer = io::large_buffer();

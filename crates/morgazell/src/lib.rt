@@ -1,4 +1,6 @@
 // The calls for C and Rust programs. Each answers one number, whose bits `specs/Packing` and include/morgazell.h describe.
+pub mod version;
+
 use cells::Listed;
 use judge::Verdict;
 use schedule::Scheduled;

@@ -1,0 +1,91 @@
+/* stack: the stack that each function takes, by painting a stack of its own before a call and looking afterwards how far the
+ * paint is gone. A line a function: its name and the most bytes over all inputs. */
+#define _XOPEN_SOURCE 700
+#include <stdio.h>
+#include <ucontext.h>
+
+#include "inputs.h"
+
+enum { ROOM = 1 << 18, PAINT = 0x5c, REQUESTS = 2000 };
+
+static uint8_t stack[ROOM];
+static uint8_t capture[LONGEST], bytes[LONGEST];
+static uint32_t cells[16 * MOST_EVENTS], requests[REQUESTS];
+static size_t len;
+static ucontext_t here, there;
+
+/* Where the stack pointer stands when the function is called. */
+static uint8_t *called_at;
+
+static volatile uint64_t answered;
+
+#define CALL(name, call)                       \
+    static void name(void)                     \
+    {                                          \
+        called_at = __builtin_frame_address(0); \
+        answered = call;                       \
+    }
+
+CALL(version, morgazell_version())
+CALL(judge, morgazell_judge(capture, len))
+CALL(list, morgazell_cells(capture, len, cells, 16 * MOST_EVENTS))
+CALL(list_short, morgazell_cells(capture, len, cells, 100))
+CALL(schedule, morgazell_schedule(SETTINGS, 14, requests, REQUESTS, bytes, LONGEST))
+
+/* The frame of the caller itself is counted too. */
+static size_t taken(void (*function)(void))
+{
+    memset(stack, PAINT, ROOM);
+    getcontext(&there);
+    there.uc_stack.ss_sp = stack;
+    there.uc_stack.ss_size = ROOM;
+    there.uc_link = &here;
+    makecontext(&there, function, 0);
+    swapcontext(&here, &there);
+    size_t untouched = 0;
+    while (stack[untouched] == PAINT)
+        untouched++;
+    return (size_t)(called_at - stack) - untouched;
+}
+
+static size_t most(size_t a, size_t b)
+{
+    return a > b ? a : b;
+}
+
+/* Bursts of both kinds, sleep, a mode set and refresh; and the same with its last event in every way wrong. */
+static void make(uint32_t settings, uint32_t last)
+{
+    const uint32_t n = 4000;
+    len = begin(capture, settings, n);
+    for (uint32_t i = 0; i < n; i += 4) {
+        event(capture, settings, i, 50 * i, ACTIVE | i % 8192);
+        event(capture, settings, i + 1, 50 * i + 10, (i % 8 == 0 ? READ : WRITE) | AUTO | i % 1024);
+        event(capture, settings, i + 2, 50 * i + 60, REFRESH);
+        event(capture, settings, i + 3, 50 * i + 80, settings == 16 ? NOP | 0x100000 : NOP);
+        if (settings == 16 && i != 0)
+            event(capture, settings, i, 50 * i, NOP);
+    }
+    event(capture, settings, n - 1, 50 * n + 100, last);
+}
+
+int main(void)
+{
+    static const uint32_t LAST[] = {NOP,     ACTIVE | 1, READ,    WRITE,        0x40400,  0x60000,  REFRESH,
+                                    0x32,    0x10000,    0x1E0000, REFRESH | 0x100000, ACTIVE | 0x100000, 0xFFFFFFFF};
+    size_t judging = 0, listing = 0, scheduling;
+    for (uint32_t settings = 14; settings <= 16; settings++)
+        for (size_t i = 0; i < sizeof LAST / sizeof LAST[0]; i++) {
+            make(settings, LAST[i]);
+            judging = most(judging, taken(judge));
+            listing = most(listing, most(taken(list), taken(list_short)));
+        }
+    for (uint32_t i = 0; i < REQUESTS; i++)
+        requests[i] = i % 3 << 31 | (i * 7919) % 0x2000000;
+    scheduling = taken(schedule);
+    requests[REQUESTS - 1] = 0xFFFFFFFF;
+    scheduling = most(scheduling, taken(schedule));
+    printf("morgazell_judge %zu\nmorgazell_cells %zu\nmorgazell_schedule %zu\nmorgazell_version %zu\n", judging, listing,
+           scheduling, taken(version));
+    return 0;
+}

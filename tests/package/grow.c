@@ -1,0 +1,32 @@
+/* Linked into the example by -Wl,--wrap=read: a file that changes while it is read. CHANGE names what happens at which read,
+ * as 1a: a grow at the first read, before it; 2t: truncated at the second; 1w: bytes written over; 1l: grows after the read. */
+#define _POSIX_C_SOURCE 200809L
+#include <fcntl.h>
+#include <stdio.h>
+#include <stdlib.h>
+#include <sys/types.h>
+#include <unistd.h>
+
+ssize_t __real_read(int file, void *to, size_t bytes);
+ssize_t __wrap_read(int file, void *to, size_t bytes);
+
+static void change(char how)
+{
+    int file = open(getenv("FILE_TO_CHANGE"), O_WRONLY | (how == 'w' || how == 't' ? 0 : O_APPEND));
+    if (file < 0 || (how == 't' ? ftruncate(file, 80) : (int)write(file, "changed!", 8) - 8) != 0)
+        abort();
+    close(file);
+}
+
+ssize_t __wrap_read(int file, void *to, size_t bytes)
+{
+    static int reads;
+    const char *when = getenv("CHANGE");
+    int now = when != NULL && ++reads == when[0] - '0';
+    if (now && when[1] != 'l')
+        change(when[1]);
+    ssize_t got = __real_read(file, to, bytes);
+    if (now && when[1] == 'l')
+        change(when[1]);
+    return got;
+}

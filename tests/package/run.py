@@ -1,0 +1,249 @@
+#!/usr/bin/env python3
+"""What is sent to a client: the packed folder is unpacked in an empty one, as a client would, and everything is done from
+there by its pkg-config file, in C99 and in C++17 with warnings as errors.
+
+1. The folder has the files that it should, their checksums hold, and all of them say one version.
+2. The header compiles by itself; every function of it is in the manual page and in the archive, and no other.
+3. The example, compiled by gcc and by g++, says of files and lists of files what document 01 and the samples' table say; of
+   files that cannot be read or change while they are read it says so.
+4. Two threads that call at the same time get what each call answers alone; of both builds.
+5. No call of either build takes more stack than the header says: measured, and by its instructions on every path."""
+import glob
+import hashlib
+import os
+import re
+import shutil
+import subprocess
+import sys
+import tempfile
+
+HERE = os.path.dirname(os.path.abspath(__file__))
+ROOT = os.path.normpath(os.path.join(HERE, "..", ".."))
+sys.dont_write_bytecode = True
+sys.path[:0] = [HERE, os.path.join(HERE, "..")]
+import elf
+import frames
+from captures import ACTIVE, LOW, NOP, READ, SLEEPY, capture, quiet, setting
+
+X86 = os.path.join(ROOT, "tests", "x86")
+STRICT = ["-O2", "-Wall", "-Wextra", "-Wpedantic", "-Wconversion", "-Werror"]
+LANGUAGES = {"gcc": ["cc", "-std=c99"], "g++": ["c++", "-std=c++17", "-x", "c++"]}
+BUILDS = {"quick": "morgazell", "smallest": "morgazell-smallest"}
+
+FILES = ["LICENSE", "SHA256SUMS", "VERSION", "examples/judge_files.c", "include/morgazell.h", "lib/libmorgazell.a",
+         "lib/pkgconfig/morgazell.pc", "share/man/man3/morgazell.3"]
+
+wrong = 0
+
+
+def hold(name, found, expected):
+    global wrong
+    if found != expected:
+        wrong += 1
+        print("WRONG %s: %r, not %r" % (name, found, expected))
+
+
+def read(*path):
+    with open(os.path.join(*path), encoding="utf-8") as file:
+        return file.read()
+
+
+# ---- 1: the folder
+
+def unpacked(name, empty):
+    """The folder that comes out of the package, beside nothing else."""
+    packed = sorted(glob.glob(os.path.join(ROOT, "target", name + "-[0-9]*.tar.gz")))
+    newest = max(packed, key=os.path.getmtime)
+    subprocess.run(["tar", "--extract", "--file", newest, "--directory", empty], check=True)
+    folder, = os.listdir(empty)
+    hold("the name of the folder", folder + ".tar.gz", os.path.basename(newest))
+    return os.path.join(empty, folder)
+
+
+def hold_folder(folder):
+    there = sorted(os.path.relpath(os.path.join(at, name), folder) for at, _, names in os.walk(folder) for name in names)
+    hold("the files", there, sorted(FILES))
+    sums = dict(reversed(line.split("  ./")) for line in read(folder, "SHA256SUMS").splitlines())
+    for name in there:
+        if name != "SHA256SUMS":
+            with open(os.path.join(folder, name), "rb") as file:
+                hold("the checksum of " + name, sums.get(name), hashlib.sha256(file.read()).hexdigest())
+    hold("the number of checksums", len(sums), len(there) - 1)
+
+
+def pkg_config(folder, *words):
+    if not shutil.which("pkg-config"):
+        subprocess.run([os.path.join(ROOT, "tests", "install"), "pkg-config"], check=True)
+    path = dict(os.environ, PKG_CONFIG_PATH=os.path.join(folder, "lib", "pkgconfig"))
+    return subprocess.run(["pkg-config", *words, "morgazell"], check=True, capture_output=True, text=True, env=path).stdout.split()
+
+
+def hold_version(folder, program):
+    version = read(folder, "VERSION").strip()
+    hold("pkg-config's version", pkg_config(folder, "--modversion"), [version])
+    hold("the manual page's version", '"morgazell %s"' % version in read(folder, "share/man/man3/morgazell.3"), True)
+    hold("the example's version", output(program, ["--version"]), (0, "morgazell %s\n" % version, ""))
+
+
+# ---- 2: header, manual page, archive
+
+def hold_header(folder):
+    header = read(folder, "include", "morgazell.h")
+    exported = set(re.findall(r"^uint\w+ (morgazell_\w+)\(", header, re.M))
+    helping = set(re.findall(r"^static inline \w+ (morgazell_\w+)\(", header, re.M))
+    page = read(folder, "share", "man", "man3", "morgazell.3")
+    hold("functions of the manual page", set(re.findall(r"\b(morgazell_\w+)\(", page)), exported | helping)
+    data, = elf.members(os.path.join(folder, "lib", "libmorgazell.a"))
+    hold("functions of the archive", elf.exported(data), exported)
+    hold("what the archive wants", elf.wanted(data) - {"memcpy", "memset"}, set())
+    for compiler, language in LANGUAGES.items():
+        words = [X86, *language, *STRICT, *pkg_config(folder, "--cflags"), "-fsyntax-only", "-"]
+        text = "#include <morgazell.h>\n#include <morgazell.h>\nint main(void) { return morgazell_rule(0) != 0; }\n"
+        made = subprocess.run(words if "-x" in words else words[:2] + ["-x", "c"] + words[2:], input=text, capture_output=True, text=True)
+        hold("the header by itself, " + compiler, (made.returncode, made.stderr), (0, ""))
+    if not shutil.which("groff"):
+        subprocess.run([os.path.join(ROOT, "tests", "install"), "groff-base"], check=True)
+    shown = subprocess.run(["groff", "-man", "-ww", "-Tutf8", "-z"], input=page.encode(), capture_output=True)
+    hold("what groff says of the manual page", (shown.returncode, shown.stderr), (0, b""))
+
+
+# ---- 3: the example
+
+CASES = [
+    ("case b at cycle 3", capture([(0, ACTIVE), (3, READ)]), 0, "clean, 2 events judged"),
+    ("case a: no events", capture([]), 0, "clean, 0 events judged"),
+    ("64,080 bytes, the longest capture", quiet(8000), 0, "clean, 8000 events judged"),
+    ("64,088 bytes, the longest with 16 settings", quiet(8000, SLEEPY), 0, "clean, 8000 events judged"),
+    ("case b at cycle 2", capture([(0, ACTIVE), (2, READ)]), 1, "breaks rule 8 at event 1, cycle 2: tRCD is not over"),
+    ("case j at cycle 1001", capture([(1001, NOP)]), 1, "breaks rule 14 at event 0, cycle 1001: refresh comes too late"),
+    ("tXP is 2", capture([(0, NOP | LOW), (5, NOP), (6, ACTIVE)], SLEEPY), 1,
+     "breaks rule 15 at event 2, cycle 6: sleep is entered or left wrongly, or tXP or tXSR is not over"),
+    ("an empty file", b"", 2, "refused (1): it is not as long as it says, or no capture is so long"),
+    ("a megabyte", quiet(8000) * 16, 2, "refused (1): it is not as long as it says, or no capture is so long"),
+    ("thirteen settings", capture([], header=[80, 13, 24, 0, 80, 0]), 2, "refused (2): its header is wrong"),
+    ("a mode word of latency 4", capture([], setting(3, 0x42)), 2, "refused (3): setting 3, mode word, is out of its range"),
+    ("tRC 11 beside tRAS 7 and tRP 3", capture([], setting(7, 11)), 2,
+     "refused (3): setting 7, tRC, is out of its range or above tRAS + tRP"),
+    ("tXSR 0", capture([], setting(15, 0, SLEEPY)), 2, "refused (3): setting 15, tXSR, is out of its range"),
+    ("the second event's pins", capture([(0, NOP), (1, NOP | 1 << 20)]), 2,
+     "refused (4): event 1 has pins that do not exist, or a cycle that is too large or does not rise"),
+]
+
+TOO_LONG = "refused (1): it is not as long as it says, or no capture is so long"
+
+
+def compiled(folder, compiler, out, *more):
+    """The example as a client compiles it, by what pkg-config says."""
+    source = os.path.join(folder, "examples", "judge_files.c")
+    words = [X86, *LANGUAGES[compiler], *STRICT, *pkg_config(folder, "--cflags"), "-o", out, source, "-x", "none", *more]
+    subprocess.run(words + pkg_config(folder, "--libs"), check=True)
+    return out
+
+
+def output(program, words, **more):
+    run = subprocess.run([X86, "run", program, *words], capture_output=True, text=True, **more)
+    return run.returncode, run.stdout, run.stderr
+
+
+def hold_cases(program, folder):
+    names, lines = [], []
+    for number, (name, data, status, said) in enumerate(CASES):
+        path = os.path.join(folder, "%d.capture" % number)
+        with open(path, "wb") as file:
+            file.write(data)
+        names.append(path)
+        lines.append("%s: %s\n" % (path, said))
+        hold(name, output(program, [path]), (status, lines[-1], ""))
+    hold("all cases in one call", output(program, names), (2, "".join(lines), ""))
+    hold("those that are not refused", output(program, names[:7]), (1, "".join(lines[:7]), ""))
+    hold("the worst first", output(program, names[::-1]), (2, "".join(lines[::-1]), ""))
+    missing = os.path.join(folder, "no such file")
+    there = "%s: cannot be read: No such file or directory\n" % missing
+    hold("one of them is not there", output(program, [names[0], missing, names[4]]), (3, lines[0] + there + lines[4], ""))
+    hold("a folder", output(program, [folder]), (3, "%s: cannot be read: Is a directory\n" % folder, ""))
+    hold("a file without end", output(program, ["/dev/zero"]), (2, "/dev/zero: %s\n" % TOO_LONG, ""))
+    with open(names[0], "rb") as file:
+        piped = subprocess.run(["sh", "-c", 'cat | exec "$0" "$@"', X86, "run", program, "/dev/stdin"], stdin=file, capture_output=True, text=True)
+    hold("through a pipe", (piped.returncode, piped.stdout), (0, "/dev/stdin: clean, 2 events judged\n"))
+    hold("no files", output(program, [])[0], 3)
+    full = subprocess.run(["sh", "-c", '"$0" "$@" >/dev/full', X86, "run", program, names[0]], capture_output=True, text=True)
+    complaint = "judge_files: standard output could not be written to its end; what was printed is not whole\n"
+    hold("a full disk", (full.returncode, full.stderr), (3, complaint))
+
+
+def said_of_samples():
+    """What the table of the samples says of each, in the words of the example."""
+    for row in (line for line in read(ROOT, "samples", "README.md").splitlines() if line.startswith("| `")):
+        cells = row.strip("| ").split(" | ")
+        report = " ".join(re.findall("`([^`]*)`", cells[-1]))
+        yield cells[0].strip("`"), re.sub(r"events \d+ judged (\d+) clean", r"clean, \1 events judged",
+                                          re.sub(r".*broken rule (\d+) event (\d+) cycle (\d+)", r"breaks rule \1 at event \2, cycle \3: ",
+                                                 re.sub(r"refused (\d) place \d+", r"refused (\1): ", report)))
+
+
+def hold_samples(program):
+    expected = dict(said_of_samples())
+    names = sorted(expected)
+    status, out, err = output(program, [os.path.join(ROOT, "samples", name) for name in names])
+    hold("the samples", (status, err, out.count("\n")), (2, "", len(names)))
+    for name, line in zip(names, out.splitlines()):
+        said = line.split(": ", 1)[1]
+        hold(name, said[:len(expected[name])], expected[name])
+
+
+def hold_changing(program, folder):
+    """A clean file of two events that changes at the first or the second read, by growing, shrinking or in place."""
+    path = os.path.join(folder, "changing.capture")
+    for change in ("1a", "2a", "1l", "2l", "1t", "2t", "1w", "2w"):
+        with open(path, "wb") as file:
+            file.write(CASES[0][1])
+        os.utime(path, (0, 0))
+        environment = dict(os.environ, CHANGE=change, FILE_TO_CHANGE=path)
+        hold("a file that changes, " + change, output(program, [path], env=environment), (2, path + ": refused: it changed while it was read\n", ""))
+    hold("one that does not", output(program, [os.path.join(folder, "0.capture")], env=dict(os.environ, FILE_TO_CHANGE=path)),
+         (0, os.path.join(folder, "0.capture") + ": clean, 2 events judged\n", ""))
+
+
+# ---- 4 and 5: threads and stack
+
+def hold_threads(build):
+    run = output(os.path.join(ROOT, "target", "c", build, "threads"), [])
+    hold("two threads, %s build" % build, (run[0], run[1].splitlines()[-1:]), (0, ["300 rounds in each of two threads, 0 differ"]))
+
+
+def hold_stack(build, folder):
+    header = read(ROOT, "include", "morgazell.h")
+    stated = {name: int(most) for name, most in re.findall(r"(morgazell_\w+) (\d+)[,;]", re.sub(r"\n \* ", " ", header))}
+    code = frames.functions(X86, os.path.join(ROOT, "target", folder, "lib", "libmorgazell.a"))
+    run = output(os.path.join(ROOT, "target", "c", build, "stack"), [])
+    measured = {name: int(bytes) for name, bytes in (line.split() for line in run[1].splitlines())}
+    hold("functions whose stack is stated", set(stated), set(measured))
+    for name in sorted(measured):
+        reckoned = frames.deepest(code, name)
+        print("%s build, %s: stack %d measured, %d by its instructions, %d stated" % (build, name, measured[name], reckoned, stated[name]))
+        hold("the stack of %s is within what is stated" % name, max(measured[name], reckoned) <= stated[name], True)
+
+
+def main():
+    for build in BUILDS:
+        subprocess.run([os.path.join(ROOT, "tests", "c", "build"), build], check=True, stdout=subprocess.DEVNULL)
+    for build, name in BUILDS.items():
+        with tempfile.TemporaryDirectory() as empty, tempfile.TemporaryDirectory() as out:
+            folder = unpacked(name, empty)
+            hold_folder(folder)
+            hold_header(folder)
+            for compiler in LANGUAGES:
+                program = compiled(folder, compiler, os.path.join(out, "judge_files"))
+                hold_version(folder, program)
+                hold_cases(program, out)
+                hold_samples(program)
+            grows = os.path.join(out, "grow.o")
+            subprocess.run([X86, "cc", "-std=c99", "-c", "-o", grows, os.path.join(HERE, "grow.c")], check=True)
+            hold_changing(compiled(folder, "gcc", os.path.join(out, "judge_changing"), grows, "-Wl,--wrap=read"), out)
+        hold_threads(build)
+        hold_stack(build, name)
+    print("package: %d wrong" % wrong)
+    return 1 if wrong else 0
+
+
+sys.exit(main())
