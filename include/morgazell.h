@@ -4,7 +4,7 @@
  * Every call but morgazell_version answers one number:
  *
  *     bits 56-63   the refusal, by its number below; 0: not refused
- *     bits 48-55   the broken rule, 1 to 15; 0: none (only morgazell_judge gives one)
+ *     bits 48-55   the broken rule, 1 to 15 without 6; 0: none (only morgazell_judge gives one)
  *     bits 32-47   0
  *     bits  0-31   refused:           the place
  *                  a rule is broken:  the event, from 0; the events before it were judged and broke none
@@ -49,7 +49,6 @@
  *       3   ACTIVE finds its bank idle, READ and WRITE find theirs open, AUTO REFRESH and MODE REGISTER SET all idle
  *       4   a command, or CKE falling, waits tRFC from AUTO REFRESH and tMRD from MODE REGISTER SET
  *       5   ACTIVE waits tRP from its bank's precharge, AUTO REFRESH and MODE REGISTER SET from every bank's
- *       6   ACTIVE waits tRC from the ACTIVE of its bank
  *       7   ACTIVE waits tRRD from the ACTIVEs of other banks
  *       8   READ and WRITE wait tRCD from their bank's ACTIVE
  *       9   PRECHARGE waits tRAS from the ACTIVE of what it closes

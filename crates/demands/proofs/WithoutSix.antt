@@ -13,7 +13,7 @@ use Rattle.reading.specs.Search.{given, orElse}
 use Rattle.reading.specs.Settings.{Settings, settingsCount, settingsOf, outOfRange, contradiction, Consistent, badSetting}
 use Rattle.reading.specs.Capture.{Event, eventCount, eventsOf, eventBytes, settingWords, lengthFits, headerFits, pinLimit, badEvent}
 use Rattle.reading.specs.Part.{start}
-use Rattle.reading.specs.Rules.{placing, rules, placingWithSix, rulesWithSix}
+use Rattle.reading.specs.Rules.{aboveSix, placing, rules, placingWithSix, rulesWithSix}
 use Rattle.reading.specs.Verdict.{Verdict, verdictBy, judgedOf}
 use Rattle.reading.specs.Schedule.{Schedule, badRequest, scheduleBy, captureOf}
 use Rattle.reading.specs.Answers.{Answer, answered, Outcome, unless, accepted, settingsIn, notClean, cellsIn, fitting, leaves, whenPlanned, verdictIn, judgeAnswer, cellsOutcome, scheduleOutcome}
@@ -40,20 +40,13 @@ short ws fine = ltb-false sum (settingsOf ws .tRC) (go (outOfRange ws (length ws
 
 -- ---- judging
 
--- the rules that come behind 6, where commands are placed and where events are judged
-abbrev placing-behind : List ℕ
-placing-behind = 7 ∷ 8 ∷ 9 ∷ 10 ∷ 11 ∷ 12 ∷ 13 ∷ []
-
-abbrev judging-behind : List ℕ
-judging-behind = placing-behind ++ (14 ∷ 15 ∷ [])
-
-ninth : List·Memᴰ 9 placing-behind
+ninth : List·Memᴰ 9 aboveSix
 ninth = List·Memᴰ.List·Memᴰ·tail (List·Memᴰ.List·Memᴰ·tail (List·Memᴰ.List·Memᴰ·head refl))
 
 -- Of whatever settings with a tRC of at most tRAS + tRP: the same verdict, rule, event and count.
 pub verdicts-agree : (s : Settings) → Consistent s → (es : List Event) → verdictBy rulesWithSix s es ≡ verdictBy rules s es
 unfolding verdictBy
-verdicts-agree s fits es = same-judged s fits judging-behind (Memᴰ·append-left (14 ∷ 15 ∷ []) ninth) (start s) (start-rest s) 0 es
+verdicts-agree s fits es = same-judged s fits (aboveSix ++ (14 ∷ 15 ∷ [])) (Memᴰ·append-left (14 ∷ 15 ∷ []) ninth) (start s) (start-rest s) 0 es
 
 accepted-alike : {A : Type 0} (capture : List ℕ) (x y : Answer A) → (badSetting (settingWords capture) ≡ none → x ≡ y) →
     accepted capture x ≡ accepted capture y
@@ -104,7 +97,7 @@ schedule-without-six ws qs out =
     same : length ws ≡ 14 → badSetting ws ≡ none → badRequest (settingsOf ws) qs ≡ none → rest placingWithSix ≡ rest placing
     same fourteen fine fit =
         ap (λ (x : Schedule). whenPlanned x (λ es. fitting out (captureOf ws es)))
-        (same-schedule (settingsOf ws) (short ws fine) placing-behind ninth (ranged ws (settings-fit ws fourteen fine) .sized) qs
+        (same-schedule (settingsOf ws) (short ws fine) aboveSix ninth (ranged ws (settings-fit ws fourteen fine) .sized) qs
         (requests-fit (settingsOf ws) qs fit))
 
     go : (count : Bool) → not (eqb (length ws) settingsCount) ≡ count → (bad : Option ℕ) → badSetting ws ≡ bad → (asked : Option ℕ) →

@@ -14,7 +14,7 @@ use Rattle.reading.specs.Settings.{Settings, Consistent}
 use Rattle.reading.specs.Capture.{Event}
 use Rattle.reading.specs.Commands.{Command, ACTIVE, READ, WRITE, is, among, commandOf}
 use Rattle.reading.specs.Part.{Bank, Part, start, step, openOn, idleFrom, autoPrecharge, closes, bankAfter, partAfter}
-use Rattle.reading.specs.Rules.{everyBank, keepsRule, rule3, rule5, rule6, rule9, lowestBroken}
+use Rattle.reading.specs.Rules.{everyBank, belowSix, keepsRule, rule3, rule5, rule6, rule9, lowestBroken}
 use Rattle.reading.proofs.Found.{find-none}
 use Rattle.reading.specs.Schedule.{passes}
 use Rattle.reading.specs.Verdict.{Verdict, judgeBy, verdictBy, brokenOr}
@@ -53,13 +53,10 @@ and-right : (a b : Bool) → a && b ≡ true → b ≡ true
 and-right true b e = e
 and-right false b e = absurd (false≢true e)
 
-abbrev pub before-six : List ℕ
-before-six = 1 ∷ 2 ∷ 3 ∷ 4 ∷ 5 ∷ []
-
-third : List·Memᴰ 3 before-six
+third : List·Memᴰ 3 belowSix
 third = List·Memᴰ.List·Memᴰ·tail (List·Memᴰ.List·Memᴰ·tail (List·Memᴰ.List·Memᴰ·head refl))
 
-fifth : List·Memᴰ 5 before-six
+fifth : List·Memᴰ 5 belowSix
 fifth = List·Memᴰ.List·Memᴰ·tail (List·Memᴰ.List·Memᴰ·tail (List·Memᴰ.List·Memᴰ·tail (List·Memᴰ.List·Memᴰ·tail (List·Memᴰ.List·Memᴰ·head refl))))
 
 every-bank : (f : ℕ → Bool) → everyBank f ≡ true → (b : ℕ) → b < 4 → f b ≡ true
@@ -145,10 +142,10 @@ module _ (s : Settings) where
     -- the rules before 6, and any that come behind it and have 9 among them
     module _ (behind : List ℕ) (nine : List·Memᴰ 9 behind) where
       abbrev pub asked : List ℕ
-      asked = before-six ++ behind
+      asked = belowSix ++ behind
 
       abbrev pub asked-with-six : List ℕ
-      asked-with-six = before-six ++ 6 ∷ behind
+      asked-with-six = belowSix ++ 6 ∷ behind
 
       module _ (p : Part) (rest : Rest p) (t w : ℕ) where
         abbrev breaks : ℕ → Bool
@@ -159,15 +156,15 @@ module _ (s : Settings) where
 
         same-lowest : lowestBroken asked-with-six s p t (commandOf w) ≡ lowestBroken asked s p t (commandOf w)
         same-lowest =
-            left-out breaks before-six 6 behind
+            left-out breaks belowSix 6 behind
             (λ e.
-            ap not (six-kept p t (commandOf w) (omega arith) rest (kept before-six e 3 third) (kept before-six e 5 fifth)))
+            ap not (six-kept p t (commandOf w) (omega arith) rest (kept belowSix e 3 third) (kept belowSix e 5 fifth)))
 
         -- so do those that pass a command of a schedule
         pub same-passes : passes asked-with-six s p w t ≡ passes asked s p w t
         unfolding passes
         same-passes =
-            left-unasked (λ r. keepsRule r s p t (commandOf w)) before-six 6 behind
+            left-unasked (λ r. keepsRule r s p t (commandOf w)) belowSix 6 behind
             (λ e.
             let keeps : ℕ → Bool = λ r. keepsRule r s p t (commandOf w) in
             let behind-two = and-right (keeps 2) _ (and-right (keeps 1) _ e) in
@@ -176,7 +173,7 @@ module _ (s : Settings) where
             (and-left (keeps 5) _ (and-right (keeps 4) _ behind-three)))
 
         rest-on : lowestBroken asked s p t (commandOf w) ≡ none → Rest (partAfter s p t (commandOf w))
-        rest-on e = next-rest p t (commandOf w) (kept asked e 9 (Memᴰ·append-right before-six nine)) rest
+        rest-on e = next-rest p t (commandOf w) (kept asked e 9 (Memᴰ·append-right belowSix nine)) rest
 
       pub same-judged : (p : Part) → Rest p → (i : ℕ) (es : List Event) → judgeBy asked-with-six s p i es ≡ judgeBy asked s p i es
       unfolding judgeBy

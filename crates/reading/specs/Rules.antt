@@ -132,15 +132,21 @@ keepsRule r s p t c =
 
 -- the rules by which commands are placed, and those by which events are judged. Rule 6 is not among them: where tRC is at
 -- most tRAS + tRP, as refusal 3 has it, no event breaks it that breaks no lower one
+abbrev pub belowSix : List ℕ
+belowSix = 1 ∷ 2 ∷ 3 ∷ 4 ∷ 5 ∷ []
+
+abbrev pub aboveSix : List ℕ
+aboveSix = 7 ∷ 8 ∷ 9 ∷ 10 ∷ 11 ∷ 12 ∷ 13 ∷ []
+
 abbrev pub placing : List ℕ
-placing = 1 ∷ 2 ∷ 3 ∷ 4 ∷ 5 ∷ 7 ∷ 8 ∷ 9 ∷ 10 ∷ 11 ∷ 12 ∷ 13 ∷ []
+placing = belowSix ++ aboveSix
 
 abbrev pub rules : List ℕ
 rules = placing ++ (14 ∷ 15 ∷ [])
 
 -- the same with rule 6, for the theorem that both find the same
 abbrev pub placingWithSix : List ℕ
-placingWithSix = 1 ∷ 2 ∷ 3 ∷ 4 ∷ 5 ∷ 6 ∷ 7 ∷ 8 ∷ 9 ∷ 10 ∷ 11 ∷ 12 ∷ 13 ∷ []
+placingWithSix = belowSix ++ 6 ∷ aboveSix
 
 abbrev pub rulesWithSix : List ℕ
 rulesWithSix = placingWithSix ++ (14 ∷ 15 ∷ [])
