@@ -16,8 +16,8 @@ ROOT = os.path.join(HERE, "..", "..")
 SAMPLES = os.path.join(ROOT, "samples")
 
 # For settings 4 to 12, tRCD to tMRD, the rules that ask for them. An auto precharge waits for tRAS and tWR, and rule 5 for
-# an auto precharge. The samples of sleep are at the limit of tXP or tXSR as well. tRC, setting 7, is not among them: rule 6
-# asks for it, and what tRAS and tRP ask by rules 3 and 5 is as much as an accepted tRC can be.
+# an auto precharge. The samples of sleep are at the limit of tXP or tXSR as well. tRC, setting 7, is not among them:
+# no rule asks for it, and above tRAS + tRP it is refused.
 ASKING = [(4, [8]), (5, [5]), (6, [5, 9]), (8, [7]), (9, [5, 10]), (10, [11]), (11, [4]), (12, [4])]
 ASKING_BESIDES = {"clean-power-down.capture": [(14, [15])], "clean-self-refresh.capture": [(15, [15])]}
 

@@ -59,7 +59,7 @@ fn case_g_active_after_auto_precharge() {
     let until = |cycle| [(0, active(0)), (3, read_auto(0)), (cycle, active(0))];
     clean(&CASE, &until(10));
     breaks(5, &CASE, &until(9));
-    // Rule 6 until settings that contradict each other were refused.
+    // tRC above tRAS + tRP: the settings contradict each other.
     refuses(3, 7, &capture(&with(CASE, &[(7, 11)]), &until(10)));
 }
 

@@ -9,7 +9,7 @@ use Rattle.reading.specs.Capture.{Event}
 use Rattle.reading.specs.Part.{start}
 use Rattle.reading.specs.Rules.{placing, rules, rulesWithSix, brokenBy}
 use Rattle.reading.specs.Verdict.{Verdict, clean, broken, judgeBy, verdictBy, judgeFrom, judgedOf}
-use Rattle.reading.proofs.Cases.{ACTIVE, READ, WRITE, TERMINATE, PRECHARGE, REFRESH, MODE, NOP, DESELECT, A10, bank, at, usual, four, Said, touches, breaks, verdictSaid, saidOf, Line, line, lineUnder, HoldLines}
+use Rattle.reading.proofs.Cases.{ACTIVE, READ, WRITE, TERMINATE, PRECHARGE, REFRESH, MODE, NOP, DESELECT, A10, LOW, bank, at, usual, sleeping, four, Said, touches, breaks, verdictSaid, saidOf, Line, line, lineUnder, HoldLines}
 
 -- the first cells of banks 1 and 3: 8192 x 1024 a bank
 abbrev one : ℕ
@@ -158,6 +158,9 @@ rule6 =
     -- tRP 5, tRAS 11, tRC 17: not the sum of the two
     ∷ lineUnder (set unlike 7 17) (at 0 ACTIVE ∷ at 11 PRECHARGE ∷ at 16 ACTIVE ∷ []) (breaks 2 6 2 16)
     ∷ lineUnder (set unlike 7 17) (at 0 ACTIVE ∷ at 11 PRECHARGE ∷ at 17 ACTIVE ∷ []) (touches 3 [])
+    -- rules 14 and 15 are asked behind it
+    ∷ line (at 1001 NOP ∷ []) (breaks 0 14 0 1001)
+    ∷ lineUnder sleeping (at 0 (NOP + LOW) ∷ at 5 ACTIVE ∷ []) (breaks 1 15 1 5)
     ∷ []
 
 rule-6 : map (λ x. saidWithSix (settingsOf (x .settings)) (x .events)) rule6 ≡ map (λ x. x .says) rule6
