@@ -1,5 +1,6 @@
-/* Linked into the example by -Wl,--wrap=read: a file that changes while it is read. CHANGE names what happens at which read,
- * as 1a: a grow at the first read, before it; 2t: truncated at the second; 1w: bytes written over; 1l: grows after the read. */
+/* Linked into the example by -Wl,--wrap=read: a file, FILE_TO_CHANGE, that changes while it is read. CHANGE is the number of
+ * a read and how the file changes: a, it grows before that read; l, it grows after it; t, it is cut short; w, its first bytes
+ * are written over. */
 #define _POSIX_C_SOURCE 200809L
 #include <fcntl.h>
 #include <stdio.h>

@@ -16,6 +16,7 @@ use Rattle.reading.specs.Bursts.{Burst, reads, dataEnd, withPairs}
 use Rattle.reading.specs.Part.{Part, Bank, cuts, cutBy}
 use Rattle.reading.specs.Rules.{autoOver, untouchable}
 use Rattle.reading.proofs.Cuts.{All, nil, cons, Spent}
+use Rattle.reading.proofs.Found.{later-first, later-second}
 use Rattle.bridge.specs.Summary.{ended, heldBy}
 use Rattle.bridge.proofs.Tests.{ltb-is, held-is}
 
@@ -212,22 +213,8 @@ pub record Over (t : ℕ) (kind : Burst → Bool) (x : Burst) : Type 0 where
 pub held-over : (kind : Burst → Bool) (t : ℕ) (xs : List Burst) → heldBy kind xs ≤ t → All (Over t kind) xs
 held-over kind t [] l = nil
 held-over kind t (x ∷ xs) l =
-    cons {x = x} (record { by = λ a b. omega (arith, l, later-left (x .k + h (x .mode)) (heldBy kind xs), here a b) })
-    (held-over kind t xs (omega (arith, l, later-right (cond (kind x && x .auto) (x .k + h (x .mode)) 0) (heldBy kind xs))))
+    cons {x = x} (record { by = λ a b. omega (arith, l, later-first (x .k + h (x .mode)) (heldBy kind xs), here a b) })
+    (held-over kind t xs (omega (arith, l, later-second (cond (kind x && x .auto) (x .k + h (x .mode)) 0) (heldBy kind xs))))
   where
-    later-right : (a b : ℕ) → b ≤ later a b
-    later-right a b = go (leb a b) refl
-      where
-        go : (v : Bool) → leb a b ≡ v → b ≤ cond v b a
-        go true e = omega arith
-        go false e = omega (arith, leb-false a b e)
-
-    later-left : (a b : ℕ) → a ≤ later a b
-    later-left a b = go (leb a b) refl
-      where
-        go : (v : Bool) → leb a b ≡ v → a ≤ cond v b a
-        go true e = leb-true a b e
-        go false e = omega arith
-
     here : kind x ≡ true → x .auto ≡ true → later (cond (kind x && x .auto) (x .k + h (x .mode)) 0) (heldBy kind xs) ≡ later (x .k + h (x .mode)) (heldBy kind xs)
     here a b = rw (a, b)

@@ -1,6 +1,7 @@
 -- The summary of a part answers as the part does, and the summary of the next part is the next summary.
 pub mod Laid
 pub mod Tests
+pub mod Clock
 pub mod Sleeping
 pub mod Bursts
 pub mod Rules

@@ -3,6 +3,7 @@ use Prim.Native.Nat.{ℕ, _+_, _<_}
 use mathlib.Core.Bool.{Bool, true, false, cond, not, _&&_, _||_, or-true}
 use mathlib.Core.Option.{Option, none, some}
 use mathlib.Core.Path.{_≡_, refl, sym, ap, _∙_}
+use native.Mathlib.Nat.{suc-mul}
 use native.Mathlib.Omega.{arith}
 use lib.Dec.{leb, ltb, eqb, leb·zero}
 use borrow.Author.Tests.{leb-true, leb-false, le-leb, lt-leb, lt-ltb, ne-eqb}
@@ -16,10 +17,11 @@ use Rattle.reading.specs.Part.{Part, lastWrite}
 use Rattle.reading.specs.Rules.{rule1, rule2, rule3, rule4, rule5, rule7, rule8, rule9, rule10, rule11, rule12, rule13, rule14, rule15, afterData, rules, lowestBroken}
 use Rattle.deadlines.specs.Deadlines.{FAR, orElse, enterBreaks, lowBreaks, selfBreaks}
 use Rattle.steps.specs.Steps.{unlessLower}
-use Rattle.bridge.specs.Summary.{SleepHeld, ended, laid, summary, sleepHeld, overdueBy}
+use Rattle.bridge.specs.Summary.{SleepHeld, Timed, ended, laid, summary, sleepHeld, overdueBy}
 use Rattle.bridge.proofs.Tests.{num, num-cond, after-is, cleared-is, leb-later}
 use Rattle.bridge.proofs.Rules.{does, doesLow, says, refresh-agrees}
-use Rattle.bridge.proofs.Sleeping.{in-time-is, never, sleepOf}
+use Rattle.bridge.proofs.Sleeping.{never, sleepOf}
+use Rattle.bridge.proofs.Clock.{in-time-is}
 
 -- ---- the rules up to 14, and what comes last
 
@@ -99,13 +101,13 @@ end-is (some x) w t = go (leb (dataEnd x + 0) t) refl
     go true e = sym (le-leb (dataEnd x + w) (t + w) (omega (arith, leb-true (dataEnd x + 0) t e)))
     go false e = sym (lt-leb (dataEnd x + w) (t + w) (omega (arith, leb-false (dataEnd x + 0) t e)))
 
-not-zero : (n : ℕ) → eqb (n + 1) 0 ≡ false
-not-zero n = ne-eqb (n + 1) 0 (λ e. omega arith)
-
-module _ (s : Settings) (k : Clock) (t : ℕ) (early : t < FAR) where
+module _ (s : Settings) (k : Clock) (t : ℕ) (timed : Timed s t) where
   abbrev entered : SleepHeld → Bool → Bool → Bool → ℕ
   entered h busy bus end =
       orElse busy 4 (orElse (ltb t (h .overdue)) 14 (orElse bus 15 (orElse end 15 (orElse (leb (h .wake) t) 15 0))))
+
+  due-some : eqb (overdueBy s k) 0 ≡ false
+  due-some = ne-eqb (overdueBy s k) 0 (λ e. omega (arith, timed .ticks, suc-mul (8 + k .paid) (s .tREFI)))
 
   -- asleep they are asked for rule 14 alone; awake they enter
   low-is : (a v : Bool) (left : Option ℕ) (busy bus end : Bool) →
@@ -114,15 +116,15 @@ module _ (s : Settings) (k : Clock) (t : ℕ) (early : t < FAR) where
       (orElse (cond a true ((bus && end) && after (cond v (s .tXSR) (s .tXP)) left t)) 15 0)) ≡
       cond (ltb t (sleepHeld s k (sleepOf a v left) .asleep)) 0
       (cond (eqb (sleepHeld s k (sleepOf a v left) .overdue) 0) 14 (entered (sleepHeld s k (sleepOf a v left)) busy bus end))
-  low-is true true left busy bus end = rw (lt-ltb t FAR early)
-  low-is true false left busy bus end = rw (in-time-is t (k .since + s .GAP)) (go (ltb t (k .since + s .GAP + 1)))
+  low-is true true left busy bus end = rw (lt-ltb t FAR (timed .early))
+  low-is true false left busy bus end = rw (in-time-is s (timed .ticks) k t) (go (ltb t (overdueBy s k)))
     where
       go : (v : Bool) → orElse v 14 0 ≡ cond v 0 14
       go true = refl
       go false = refl
   low-is false v left busy bus end =
-      rw (never t, in-time-is t (k .since + s .GAP), not-zero (k .since + s .GAP), after-is (cond v (s .tXSR) (s .tXP)) left t)
-      (go busy (ltb t (k .since + s .GAP + 1)) bus end _)
+      rw (never t, in-time-is s (timed .ticks) k t, due-some, after-is (cond v (s .tXSR) (s .tXP)) left t)
+      (go busy (ltb t (overdueBy s k)) bus end _)
     where
       go : (b i u e w : Bool) → orElse b 4 (orElse i 14 (orElse ((u && e) && w) 15 0)) ≡ orElse b 4 (orElse i 14 (orElse u 15 (orElse e 15 (orElse w 15 0))))
       go false i u e w = refl
@@ -131,18 +133,18 @@ module _ (s : Settings) (k : Clock) (t : ℕ) (early : t < FAR) where
       go true true true false w = refl
       go true true true true w = refl
 
-module _ (s : Settings) (p : Part) (t : ℕ) (early : t < FAR) where
+module _ (s : Settings) (p : Part) (t : ℕ) (timed : Timed s t) where
   pub low-agrees : (b a : ℕ) (ten : Bool) → num (lowestBroken rules s p t (doesLow NOP b a ten)) ≡ lowBreaks s (laid (summary s p)) t
   unfolding lowBreaks enterBreaks
   low-agrees b a ten =
-      simp num-cond (rw (low-is s (p .clock) t early (p .sleep .asleep) (p .sleep .self) (p .sleep .left), end-is (lastWrite p) (s .tWTR) t)
+      simp num-cond (rw (low-is s (p .clock) t timed (p .sleep .asleep) (p .sleep .self) (p .sleep .left), end-is (lastWrite p) (s .tWTR) t)
       (simp (leb-later, after-is, cleared-is)))
 
   pub low-deselect-agrees : (b a : ℕ) (ten : Bool) →
       num (lowestBroken rules s p t (doesLow DESELECT b a ten)) ≡ lowBreaks s (laid (summary s p)) t
   unfolding lowBreaks enterBreaks
   low-deselect-agrees b a ten =
-      simp num-cond (rw (low-is s (p .clock) t early (p .sleep .asleep) (p .sleep .self) (p .sleep .left), end-is (lastWrite p) (s .tWTR) t)
+      simp num-cond (rw (low-is s (p .clock) t timed (p .sleep .asleep) (p .sleep .self) (p .sleep .left), end-is (lastWrite p) (s .tWTR) t)
       (simp (leb-later, after-is, cleared-is)))
 
   -- ---- AUTO REFRESH
@@ -167,4 +169,4 @@ module _ (s : Settings) (p : Part) (t : ℕ) (early : t < FAR) where
       (self-last (rule12 s p t c) (rule14 s p t c) (p .sleep .asleep) (afterData 0 (lastWrite p) t) (rested s (p .sleep) t))
       ∙ sym (sealed-chain true true (rule3 s p t c) (rule4 s p t c) (rule5 s p t c) true true true true true (rule12 s p t c) true
       (rule14 s p t c) (rule15 s p t c) (afterData 0 (lastWrite p) t))
-      ∙ (λ i. sealed ((sym (chain-is s p t c) ∙ refresh-agrees s p t early b a ten) i) (orElse (end-is (lastWrite p) (s .tWTR) t i) 15 0))
+      ∙ (λ i. sealed ((sym (chain-is s p t c) ∙ refresh-agrees s p t timed b a ten) i) (orElse (end-is (lastWrite p) (s .tWTR) t i) 15 0))

@@ -19,9 +19,9 @@ use Rattle.reading.specs.Commands.{ACTIVE, READ, WRITE, BURST-TERMINATE, PRECHA
 use Rattle.reading.specs.Bursts.{Burst, reads, dataEnd}
 use Rattle.reading.specs.Part.{Part, Bank, openOn, idleFrom, cuts, cutBy, burstGiven, clockAfter, partAfter, bankWrite, lastBankWrite}
 use Rattle.reading.proofs.Cuts.{All, nil, cons, auto-uncut}
-use Rattle.deadlines.specs.Deadlines.{WRITES, READER, FAR, at, paceOf, overdueFrom, quietAfter, lowAfter, selfAfter, cutWrite, newWrite, autoAfter, restAfter, restAll}
+use Rattle.deadlines.specs.Deadlines.{WRITES, READER, FAR, at, paceOf, overdueAfter, quietAfter, lowAfter, selfAfter, cutWrite, newWrite, autoAfter, restAfter, restAll}
 use Rattle.deadlines.specs.Deadlines.{activeAfter, readAfter, writeAfter, cutRead, closeAfter, closeAllAfter, refreshAfter, modeSetAfter}
-use Rattle.bridge.specs.Summary.{BankHeld, SleepHeld, Held, laid, summary, bankHeld, writeHeld, sleepHeld, from, ended, cleared, readerOf, writerOf}
+use Rattle.bridge.specs.Summary.{BankHeld, SleepHeld, Held, Timed, laid, summary, bankHeld, writeHeld, sleepHeld, from, ended, cleared, readerOf, writerOf}
 use Rattle.bridge.proofs.Laid.{same, same-read, same-write, banked, readGiven, writeGiven, timed}
 use Rattle.bridge.proofs.Laid.{onBank, activated, shut, writtenTill, autoShut, closed, writtenBy, active-laid, auto-laid, cut-laid, new-laid, rest-laid}
 use Rattle.bridge.proofs.Bursts.{uncut, find-same, find-map, held-cut, Given, Running, all-spent, Late, nothing, read, write, Over, held-over}
@@ -94,22 +94,22 @@ module _ (s : Settings) (p : Part) (from₀ t : ℕ) (l : from₀ ≤ t) (g : So
   abbrev sleepy : Command → SleepHeld
   sleepy c = sleepHeld s (clockAfter s t c (p .sleep) (p .clock)) (sleepAfter t c (p .sleep))
 
-  pub quiet-next : (b a : ℕ) (ten : Bool) → rule14 s p t (does NOP b a ten) ≡ true → laid (after (does NOP b a ten)) ≡ quietAfter s (laid X) t
-  quiet-next b a ten k =
+  pub quiet-next : (b a : ℕ) (ten : Bool) → Timed s t → rule14 s p t (does NOP b a ten) ≡ true → laid (after (does NOP b a ten)) ≡ quietAfter s (laid X) t
+  quiet-next b a ten early k =
       ap (λ (y : Held). laid (slept (sleepy (does NOP b a ten)) y)) (unchanged (does NOP b a ten) (λ x. none-cut (x .writes)))
-      ∙ quiet-laid s t (p .clock) (p .sleep .asleep) (p .sleep .self) (p .sleep .left) X k
+      ∙ quiet-laid s t (p .clock) early (p .sleep .asleep) (p .sleep .self) (p .sleep .left) X k
 
-  pub deselect-next : (b a : ℕ) (ten : Bool) → rule14 s p t (does DESELECT b a ten) ≡ true → laid (after (does DESELECT b a ten)) ≡ quietAfter s (laid X) t
-  deselect-next b a ten k =
+  pub deselect-next : (b a : ℕ) (ten : Bool) → Timed s t → rule14 s p t (does DESELECT b a ten) ≡ true → laid (after (does DESELECT b a ten)) ≡ quietAfter s (laid X) t
+  deselect-next b a ten early k =
       ap (λ (y : Held). laid (slept (sleepy (does DESELECT b a ten)) y)) (unchanged (does DESELECT b a ten) (λ x. none-cut (x .writes)))
-      ∙ quiet-laid s t (p .clock) (p .sleep .asleep) (p .sleep .self) (p .sleep .left) X k
+      ∙ quiet-laid s t (p .clock) early (p .sleep .asleep) (p .sleep .self) (p .sleep .left) X k
 
-  pub low-next : (b a : ℕ) (ten : Bool) → t < FAR → rule14 s p t (doesLow NOP b a ten) ≡ true → laid (after (doesLow NOP b a ten)) ≡ lowAfter (laid X) t
+  pub low-next : (b a : ℕ) (ten : Bool) → Timed s t → rule14 s p t (doesLow NOP b a ten) ≡ true → laid (after (doesLow NOP b a ten)) ≡ lowAfter (laid X) t
   low-next b a ten early k =
       ap (λ (y : Held). laid (slept (sleepy (doesLow NOP b a ten)) y)) (unchanged (doesLow NOP b a ten) (λ x. none-cut (x .writes)))
       ∙ low-laid s t (p .clock) early (p .sleep .asleep) (p .sleep .self) (p .sleep .left) X k
 
-  pub low-deselect-next : (b a : ℕ) (ten : Bool) → t < FAR → rule14 s p t (doesLow DESELECT b a ten) ≡ true →
+  pub low-deselect-next : (b a : ℕ) (ten : Bool) → Timed s t → rule14 s p t (doesLow DESELECT b a ten) ≡ true →
       laid (after (doesLow DESELECT b a ten)) ≡ lowAfter (laid X) t
   low-deselect-next b a ten early k =
       ap (λ (y : Held). laid (slept (sleepy (doesLow DESELECT b a ten)) y)) (unchanged (doesLow DESELECT b a ten) (λ x. none-cut (x .writes)))
@@ -126,15 +126,15 @@ module _ (s : Settings) (p : Part) (from₀ t : ℕ) (l : from₀ ≤ t) (g : So
       (record { asleep = false; self = p .sleep .self; left = cond (p .sleep .asleep && true) (some t) (p .sleep .left) }) ≡ X .sleep
   awake-stays awake = stays-laid s t (p .clock) (p .sleep .asleep) (p .sleep .self) (p .sleep .left) awake
 
-  pub refresh-next : p .sleep .asleep ≡ false → (b a : ℕ) (ten : Bool) → X .busy ≤ t → laid (after (does AUTO-REFRESH b a ten)) ≡ refreshAfter s (laid X) t
+  pub refresh-next : 0 < s .tREFI → p .sleep .asleep ≡ false → (b a : ℕ) (ten : Bool) → X .busy ≤ t → laid (after (does AUTO-REFRESH b a ten)) ≡ refreshAfter s (laid X) t
   unfolding refreshAfter
-  refresh-next awake b a ten busy =
+  refresh-next ticks awake b a ten busy =
       let set = from (p .lastModeSet) (s .tMRD) in
-      let y : SleepHeld = record { overdue = overdueFrom s t; wake = X .sleep .wake; asleep = X .sleep .asleep; self = X .sleep .self } in
+      let y : SleepHeld = record { overdue = overdueAfter s t (X .sleep .overdue); wake = X .sleep .wake; asleep = X .sleep .asleep; self = X .sleep .self } in
       ap (λ (z : Held). laid (timed (later (t + s .tRFC) set) (sleepy (does AUTO-REFRESH b a ten)) z))
       (unchanged (does AUTO-REFRESH b a ten) (λ x. none-cut (x .writes)))
       ∙ ap (λ (z : SleepHeld). laid (timed (later (t + s .tRFC) set) z X))
-      (refresh-laid s t (p .clock) (p .sleep .asleep) (p .sleep .self) (p .sleep .left) awake)
+      (refresh-laid s t (p .clock) ticks (p .sleep .asleep) (p .sleep .self) (p .sleep .left) awake)
       ∙ ap (λ (v : ℕ). laid (timed v y X)) (later-high (t + s .tRFC) set (omega (arith, busy, later-least)))
     where
       later-least : from (p .lastModeSet) (s .tMRD) ≤ X .busy

@@ -15,7 +15,7 @@ use Rattle.reading.specs.Rules.{everyBank, rules, lowestBroken}
 use Rattle.reading.proofs.Cuts.{All}
 use Rattle.deadlines.specs.Deadlines.{FAR, unmet, quietBreaks, activeBreaks, readBreaks, writeBreaks, terminateBreaks, closeBreaks, closeAllBreaks, refreshBreaks, modeBreaks}
 use Rattle.deadlines.proofs.Waits.{both, unasked}
-use Rattle.bridge.specs.Summary.{heldBy, laid, summary}
+use Rattle.bridge.specs.Summary.{Timed, heldBy, laid, summary}
 use Rattle.bridge.proofs.Laid.{stands}
 use Rattle.bridge.proofs.Tests.{num, num-cond, after-is, ended-is, cleared-is, leb-later, held-is, open-is, shut-is, closing-is}
 use Rattle.bridge.proofs.Bursts.{Given, Late, terminate-is}
@@ -50,23 +50,23 @@ doesLow o b a ten = record { op = o; bank = b; address = a; A10 = ten; low = tru
 abbrev pub says : Settings → Part → ℕ → Op → ℕ → ℕ → Bool → ℕ
 says s p t o b a ten = num (lowestBroken rules s p t (does o b a ten))
 
-module _ (s : Settings) (p : Part) (t : ℕ) (early : t < FAR) where
+module _ (s : Settings) (p : Part) (t : ℕ) (timed : Timed s t) where
   pub quiet : (b a : ℕ) (ten : Bool) → says s p t NOP b a ten ≡ quietBreaks (laid (summary s p)) t
-  quiet b a ten = simp num-cond (quiet-is s (p .clock) (p .sleep) t early)
+  quiet b a ten = simp num-cond (quiet-is s (p .clock) (p .sleep) t timed)
 
   pub deselect : (b a : ℕ) (ten : Bool) → says s p t DESELECT b a ten ≡ quietBreaks (laid (summary s p)) t
-  deselect b a ten = simp num-cond (quiet-is s (p .clock) (p .sleep) t early)
+  deselect b a ten = simp num-cond (quiet-is s (p .clock) (p .sleep) t timed)
 
   pub read-agrees : (b a : ℕ) (ten : Bool) → b < 4 → says s p t READ b a ten ≡ readBreaks (laid (summary s p)) t b
   unfolding readBreaks unmet
   read-agrees b a ten l =
-      simp num-cond (rw (last-is s (p .clock) (p .sleep) t early, stands (summary s p) b l .opened, stands (summary s p) b l .column, shut-is (p .banks b .opened))
+      simp num-cond (rw (last-is s (p .clock) (p .sleep) t timed, stands (summary s p) b l .opened, stands (summary s p) b l .column, shut-is (p .banks b .opened))
       (simp (leb-later, after-is, ended-is, held-is)))
 
   pub write-agrees : (b a : ℕ) (ten : Bool) → b < 4 → says s p t WRITE b a ten ≡ writeBreaks (laid (summary s p)) t b
   unfolding writeBreaks unmet
   write-agrees b a ten l =
-      simp num-cond (rw (last-is s (p .clock) (p .sleep) t early, stands (summary s p) b l .opened, stands (summary s p) b l .column, shut-is (p .banks b .opened))
+      simp num-cond (rw (last-is s (p .clock) (p .sleep) t timed, stands (summary s p) b l .opened, stands (summary s p) b l .column, shut-is (p .banks b .opened))
       (simp (leb-later, after-is, cleared-is, held-is)))
 
   pub active-agrees : (b a : ℕ) (ten : Bool) → b < 4 → s .rowBits < 32 → says s p t ACTIVE b a ten ≡ activeBreaks s (laid (summary s p)) t b a
@@ -74,7 +74,7 @@ module _ (s : Settings) (p : Part) (t : ℕ) (early : t < FAR) where
   active-agrees b a ten l w =
       let at-bank = stands (summary s p) b l in
       simp num-cond
-      (rw (last-is s (p .clock) (p .sleep) t early, at-bank .opened, at-bank .rest, open-is (p .banks b .opened), mod-eq-of-lt w)
+      (rw (last-is s (p .clock) (p .sleep) t timed, at-bank .opened, at-bank .rest, open-is (p .banks b .opened), mod-eq-of-lt w)
       (simp (leb-later, after-is, unasked, both)))
 
   pub terminate-agrees : (b a : ℕ) (ten : Bool) (from : ℕ) → from ≤ t → All (Given from) (p .bursts) → Late from (p .bursts) →
@@ -82,7 +82,7 @@ module _ (s : Settings) (p : Part) (t : ℕ) (early : t < FAR) where
   unfolding terminateBreaks
   terminate-agrees b a ten from l g e =
       simp num-cond
-      (rw (last-is s (p .clock) (p .sleep) t early, terminate-is from t l (s .tWTR) g e, both (leb (heldBy reads (p .bursts)) t))
+      (rw (last-is s (p .clock) (p .sleep) t timed, terminate-is from t l (s .tWTR) g e, both (leb (heldBy reads (p .bursts)) t))
       (simp (leb-later, after-is)))
 
   pub close-agrees : (b a : ℕ) → b < 4 → says s p t PRECHARGE b a false ≡ closeBreaks (laid (summary s p)) t b
@@ -90,7 +90,7 @@ module _ (s : Settings) (p : Part) (t : ℕ) (early : t < FAR) where
   close-agrees b a l =
       simp num-cond
       (rw (
-        last-is s (p .clock) (p .sleep) t early,
+        last-is s (p .clock) (p .sleep) t timed,
         one-is (λ i. p .banks i .opened) (λ i. after (s .tRAS) (p .banks i .lastActive) t) b l,
         one-is (λ i. p .banks i .opened) (λ i. ever (find (bankWrite p i) (p .bursts)) (λ x. leb (dataEnd x + s .tWR) t)) b l,
         stands (summary s p) b l .opened,
@@ -102,12 +102,12 @@ module _ (s : Settings) (p : Part) (t : ℕ) (early : t < FAR) where
 
   pub close-all-agrees : (b a : ℕ) → says s p t PRECHARGE b a true ≡ closeAllBreaks (laid (summary s p)) t
   unfolding closeAllBreaks
-  close-all-agrees b a = simp num-cond (rw (last-is s (p .clock) (p .sleep) t early) (simp (leb-later, after-is, ended-is, open-is, named-is)))
+  close-all-agrees b a = simp num-cond (rw (last-is s (p .clock) (p .sleep) t timed) (simp (leb-later, after-is, ended-is, open-is, named-is)))
 
   pub refresh-agrees : (b a : ℕ) (ten : Bool) → says s p t AUTO-REFRESH b a ten ≡ refreshBreaks (laid (summary s p)) t
   unfolding refreshBreaks unmet
-  refresh-agrees b a ten = simp num-cond (rw (last-is s (p .clock) (p .sleep) t early) (simp (leb-later, after-is, cleared-is, open-is, both)))
+  refresh-agrees b a ten = simp num-cond (rw (last-is s (p .clock) (p .sleep) t timed) (simp (leb-later, after-is, cleared-is, open-is, both)))
 
   pub mode-agrees : (b a : ℕ) (ten : Bool) → says s p t MODE-REGISTER-SET b a ten ≡ modeBreaks (laid (summary s p)) t b a
   unfolding modeBreaks refreshBreaks unmet
-  mode-agrees b a ten = simp num-cond (rw (last-is s (p .clock) (p .sleep) t early) (simp (leb-later, after-is, cleared-is, open-is, register-is, both)))
+  mode-agrees b a ten = simp num-cond (rw (last-is s (p .clock) (p .sleep) t timed) (simp (leb-later, after-is, cleared-is, open-is, register-is, both)))

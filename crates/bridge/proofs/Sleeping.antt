@@ -10,18 +10,11 @@ use Rattle.reading.specs.Search.{implies, after}
 use Rattle.reading.specs.Settings.{Settings}
 use Rattle.reading.specs.RefreshClock.{Clock, clockAfterRefresh, clockAfterSleep, inTime}
 use Rattle.reading.specs.Sleep.{Sleep, rested}
-use Rattle.deadlines.specs.Deadlines.{FAR, orElse, overdueFrom, quietAfter, leaveAfter, powerUpAfter, wakeAfter, lowAfter, enterAfter, selfAfter}
-use Rattle.bridge.specs.Summary.{SleepHeld, Held, laid, from, overdueBy, sleepHeld}
-use Rattle.bridge.proofs.Laid.{timed}
+use Rattle.deadlines.specs.Deadlines.{FAR, orElse, overdueAfter, quietAfter, leaveAfter, powerUpAfter, wakeAfter, lowAfter, enterAfter, selfAfter}
+use Rattle.bridge.specs.Summary.{SleepHeld, Held, Timed, laid, from, overdueBy, sleepHeld}
+use Rattle.bridge.proofs.Laid.{timed as at-times}
+use Rattle.bridge.proofs.Clock.{in-time-is, refreshed-is}
 use Rattle.bridge.proofs.Tests.{after-is}
-
--- in time is before the first cycle that is too late
-pub in-time-is : (t due : ℕ) → leb t due ≡ ltb t (due + 1)
-in-time-is t due = go (leb t due) refl
-  where
-    go : (v : Bool) → leb t due ≡ v → v ≡ ltb t (due + 1)
-    go true e = sym (lt-ltb t (due + 1) (omega (arith, leb-true t due e)))
-    go false e = sym (le-ltb t (due + 1) (omega (arith, leb-false t due e)))
 
 pub never : (t : ℕ) → ltb t 0 ≡ false
 never t = le-ltb t 0 (omega arith)
@@ -30,7 +23,7 @@ never t = le-ltb t 0 (omega arith)
 abbrev timelyBy : SleepHeld → ℕ → Bool
 timelyBy h t = ltb t (h .overdue) || ltb t (h .asleep)
 
-module _ (s : Settings) (k : Clock) (x : Sleep) (t : ℕ) (early : t < FAR) where
+module _ (s : Settings) (k : Clock) (x : Sleep) (t : ℕ) (timed : Timed s t) where
   abbrev h : SleepHeld
   h = sleepHeld s k x
 
@@ -41,11 +34,11 @@ module _ (s : Settings) (k : Clock) (x : Sleep) (t : ℕ) (early : t < FAR) wher
   timely-is = go (x .asleep) (x .self)
     where
       go : (a v : Bool) →
-          implies (not (a && v)) (leb t (k .since + s .GAP)) ≡
+          implies (not (a && v)) (inTime s k t) ≡
           (ltb t (cond a 0 (overdueBy s k)) || ltb t (cond a (cond v FAR (overdueBy s k)) 0))
-      go true true = rw (never t, lt-ltb t FAR early)
-      go true false = rw (never t) (in-time-is t (k .since + s .GAP))
-      go false v = rw (never t) (in-time-is t (k .since + s .GAP) ∙ sym (or-false (ltb t (overdueBy s k))))
+      go true true = rw (never t, lt-ltb t FAR (timed .early))
+      go true false = rw (never t) (in-time-is s (timed .ticks) k t)
+      go false v = rw (never t) (in-time-is s (timed .ticks) k t ∙ sym (or-false (ltb t (overdueBy s k))))
 
   pub quiet-is : orElse asked 14 (orElse (cond (x .asleep) true true) 15 0) ≡ orElse (timelyBy h t) 14 0
   quiet-is = rw timely-is (ap (λ (v : Bool). orElse (timelyBy h t) 14 (orElse v 15 0)) (go (x .asleep)))
@@ -72,7 +65,7 @@ module _ (s : Settings) (k : Clock) (x : Sleep) (t : ℕ) (early : t < FAR) wher
 -- ---- what sleep leaves in the places
 
 abbrev pub slept : SleepHeld → Held → Held
-slept h x = timed (x .busy) h x
+slept h x = at-times (x .busy) h x
 
 abbrev pub sleepOf : Bool → Bool → Option ℕ → Sleep
 sleepOf a v left = record { asleep = a; self = v; left = left }
@@ -88,23 +81,25 @@ module _ (s : Settings) (t : ℕ) (k : Clock) where
   stays-laid false v left e = refl
 
   -- but for the refresh clock at an AUTO REFRESH
-  pub refresh-laid : (a v : Bool) (left : Option ℕ) → a ≡ false →
+  pub refresh-laid : 0 < s .tREFI → (a v : Bool) (left : Option ℕ) → a ≡ false →
       sleepHeld s (cond ((a && true) && v) (clockAfterSleep s t) (clockAfterRefresh s t k)) (sleepOf false v (cond (a && true) (some t) left)) ≡
       record {
-        overdue = overdueFrom s t;
+        overdue = overdueAfter s t (sleepHeld s k (sleepOf a v left) .overdue);
         wake = sleepHeld s k (sleepOf a v left) .wake;
         asleep = sleepHeld s k (sleepOf a v left) .asleep;
         self = sleepHeld s k (sleepOf a v left) .self;
       }
-  refresh-laid true v left e = let z : _≡_ {A = ℕ} 0 1 = cc in absurd (omega arith)
-  refresh-laid false v left e = refl
+  refresh-laid ticks true v left e = let z : _≡_ {A = ℕ} 0 1 = cc in absurd (omega arith)
+  refresh-laid ticks false v left e =
+      let h = sleepHeld s k (sleepOf false v left) in
+      ap (λ (due : ℕ). record { overdue = due; wake = h .wake; asleep = h .asleep; self = h .self }) (refreshed-is s ticks k t)
 
-  pub quiet-laid : (a v : Bool) (left : Option ℕ) (x : Held) → implies (not (a && v)) (inTime s k t) ≡ true →
+  pub quiet-laid : Timed s t → (a v : Bool) (left : Option ℕ) (x : Held) → implies (not (a && v)) (inTime s k t) ≡ true →
       laid (slept (risen a v left) x) ≡ quietAfter s (laid (slept (sleepHeld s k (sleepOf a v left)) x)) t
   unfolding quietAfter leaveAfter powerUpAfter wakeAfter
-  quiet-laid true true left x e = rw (never t)
-  quiet-laid true false left x e = rw (never t)
-  quiet-laid false v left x e = rw (sym (in-time-is t (k .since + s .GAP)) ∙ e)
+  quiet-laid timed true true left x e = rw (never t)
+  quiet-laid timed true false left x e = rw (never t)
+  quiet-laid timed false v left x e = rw (sym (in-time-is s (timed .ticks) k t) ∙ e)
 
   -- after an event with CKE low
   abbrev fallen : Bool → Bool → Option ℕ → Bool → SleepHeld
@@ -112,12 +107,12 @@ module _ (s : Settings) (t : ℕ) (k : Clock) where
       sleepHeld s (cond ((a && false) && v) (clockAfterSleep s t) k)
       (sleepOf true (cond (not a) refresh v) (cond (not a) none (cond (a && false) (some t) left)))
 
-  pub low-laid : t < FAR → (a v : Bool) (left : Option ℕ) (x : Held) → implies (not (a && v)) (inTime s k t) ≡ true →
+  pub low-laid : Timed s t → (a v : Bool) (left : Option ℕ) (x : Held) → implies (not (a && v)) (inTime s k t) ≡ true →
       laid (slept (fallen a v left false) x) ≡ lowAfter (laid (slept (sleepHeld s k (sleepOf a v left)) x)) t
   unfolding lowAfter enterAfter
-  low-laid early true true left x e = rw (lt-ltb t FAR early)
-  low-laid early true false left x e = rw (sym (in-time-is t (k .since + s .GAP)) ∙ e)
-  low-laid early false v left x e = rw (never t)
+  low-laid timed true true left x e = rw (lt-ltb t FAR (timed .early))
+  low-laid timed true false left x e = rw (sym (in-time-is s (timed .ticks) k t) ∙ e)
+  low-laid timed false v left x e = rw (never t)
 
   pub self-laid : (a v : Bool) (left : Option ℕ) (x : Held) → a ≡ false →
       laid (slept (fallen a v left true) x) ≡ selfAfter (laid (slept (sleepHeld s k (sleepOf a v left)) x))

@@ -21,7 +21,7 @@ use Rattle.pins.specs.Pins.{codeOf, bankOf, addressOf, tenOf, lowOf, quietCode}
 use Rattle.steps.specs.Steps.{unlessLower, highBreaks, Quiet, stepBreaks, stepAfter, paceAfter}
 use Rattle.steps.proofs.Codes as codes
 use Rattle.pins.proofs.Pins.{turned, op-is}
-use Rattle.bridge.specs.Summary.{Held, laid, summary, from}
+use Rattle.bridge.specs.Summary.{Held, Timed, laid, summary, from}
 use Rattle.bridge.proofs.Tests.{num, first-of, after-is, leb-later, held-is, cleared-is}
 use Rattle.bridge.proofs.Bursts.{terminate-is, nothing}
 use Rattle.bridge.proofs.Rules.{does, doesLow, says, quiet, deselect, read-agrees, write-agrees, active-agrees, terminate-agrees, close-agrees, close-all-agrees, refresh-agrees, mode-agrees}
@@ -43,7 +43,7 @@ carries w q v n e =
 
 -- ---- one event
 
-module _ (s : Settings) (wide : s .rowBits < 32) (p : Part) (from₀ t : ℕ) (l : from₀ ≤ t) (early : t < FAR) (g : Sound from₀ p) (w : ℕ) where
+module _ (s : Settings) (wide : s .rowBits < 32) (p : Part) (from₀ t : ℕ) (l : from₀ ≤ t) (timed : Timed s t) (g : Sound from₀ p) (w : ℕ) where
   -- the deadlines, h and CL, and what holds of the part, after an event that keeps every rule
   pub record Onward (c : Command) : Type 0 where
     pub leaves : stepAfter s (laid (summary s p)) (paceOf (p .mode)) t w ≡ laid (summary s (partAfter s p t c))
@@ -127,13 +127,13 @@ module _ (s : Settings) (wide : s .rowBits < 32) (p : Part) (from₀ t : ℕ) (l
   turn-active : lowOf w ≡ false → codeOf w ≡ 12 → Turned (commandOf w)
   unfolding b a ten
   turn-active n e =
-      turn 12 (does ACTIVE b a ten) (carries w 12 false n e) (codes.active s (laid X) (paceOf (p .mode)) t w refl refl n e) (active-agrees s p t early b a ten small wide)
+      turn 12 (does ACTIVE b a ten) (carries w 12 false n e) (codes.active s (laid X) (paceOf (p .mode)) t w refl refl n e) (active-agrees s p t timed b a ten small wide)
       (λ z. active-next s p from₀ t l g (awake _ (kept (does ACTIVE b a ten) z 15 fifteenth)) b a ten small) refl (λ z. kept-plain s p from₀ t l g (does ACTIVE b a ten) refl refl)
 
   turn-read : lowOf w ≡ false → codeOf w ≡ 10 → Turned (commandOf w)
   unfolding b a ten
   turn-read n e =
-      turn 10 c (carries w 10 false n e) (codes.read s (laid X) (paceOf (p .mode)) t w refl refl n e) (read-agrees s p t early b a ten small)
+      turn 10 c (carries w 10 false n e) (codes.read s (laid X) (paceOf (p .mode)) t w refl refl n e) (read-agrees s p t timed b a ten small)
       (λ z. read-next s p from₀ t l g (awake _ (kept c z 15 fifteenth)) b a ten small (leb-true (X .read .reads) t (sym (held-is reads t (p .bursts)) ∙ kept c z 13 thirteenth)))
       refl (λ z. kept-read s p from₀ t l g b a ten small (kept c z 3 third))
     where
@@ -143,7 +143,7 @@ module _ (s : Settings) (wide : s .rowBits < 32) (p : Part) (from₀ t : ℕ) (l
   turn-write : lowOf w ≡ false → codeOf w ≡ 2 → Turned (commandOf w)
   unfolding b a ten
   turn-write n e =
-      turn 2 c (carries w 2 false n e) (codes.write s (laid X) (paceOf (p .mode)) t w refl refl n e) (write-agrees s p t early b a ten small)
+      turn 2 c (carries w 2 false n e) (codes.write s (laid X) (paceOf (p .mode)) t w refl refl n e) (write-agrees s p t timed b a ten small)
       (λ z. write-next s p from₀ t l g (awake _ (kept c z 15 fifteenth)) b a ten small (held z)) refl (λ z. kept-write s p from₀ t l g b a ten small (free z) (held z))
     where
       c : Command
@@ -162,17 +162,17 @@ module _ (s : Settings) (wide : s .rowBits < 32) (p : Part) (from₀ t : ℕ) (l
       go : (v : Bool) → tenOf w ≡ v → Turned (commandOf w)
       go true f =
           turn 4 (does PRECHARGE b a true) (carries w 4 false n e ∙ ap (does PRECHARGE b a) f) (codes.close-all s (laid X) (paceOf (p .mode)) t w n e f)
-          (close-all-agrees s p t early b a) (λ z. close-all-next s p from₀ t l g (awake _ (kept (does PRECHARGE b a true) z 15 fifteenth)) b a) refl
+          (close-all-agrees s p t timed b a) (λ z. close-all-next s p from₀ t l g (awake _ (kept (does PRECHARGE b a true) z 15 fifteenth)) b a) refl
           (λ z. kept-plain s p from₀ t l g (does PRECHARGE b a true) refl refl)
       go false f =
           turn 4 (does PRECHARGE b a false) (carries w 4 false n e ∙ ap (does PRECHARGE b a) f) (codes.close s (laid X) (paceOf (p .mode)) t w refl n e f)
-          (close-agrees s p t early b a small) (λ z. close-next s p from₀ t l g (awake _ (kept (does PRECHARGE b a false) z 15 fifteenth)) b a small) refl
+          (close-agrees s p t timed b a small) (λ z. close-next s p from₀ t l g (awake _ (kept (does PRECHARGE b a false) z 15 fifteenth)) b a small) refl
           (λ z. kept-plain s p from₀ t l g (does PRECHARGE b a false) refl refl)
 
   turn-terminate : lowOf w ≡ false → codeOf w ≡ 6 → Turned (commandOf w)
   unfolding b a ten
   turn-terminate n e =
-      turn 6 c (carries w 6 false n e) (codes.terminate s (laid X) (paceOf (p .mode)) t w n e) (terminate-agrees s p t early b a ten from₀ l (g .bursts) (g .late))
+      turn 6 c (carries w 6 false n e) (codes.terminate s (laid X) (paceOf (p .mode)) t w n e) (terminate-agrees s p t timed b a ten from₀ l (g .bursts) (g .late))
       (λ z. terminate-next s p from₀ t l g (awake _ (kept c z 15 fifteenth)) b a ten (held z)) refl (λ z. kept-plain s p from₀ t l g c refl refl)
     where
       c : Command
@@ -186,8 +186,8 @@ module _ (s : Settings) (wide : s .rowBits < 32) (p : Part) (from₀ t : ℕ) (l
   turn-refresh : lowOf w ≡ false → codeOf w ≡ 8 → Turned (commandOf w)
   unfolding b a ten
   turn-refresh n e =
-      turn 8 c (carries w 8 false n e) (codes.refresh s (laid X) (paceOf (p .mode)) t w n e) (refresh-agrees s p t early b a ten)
-      (λ z. refresh-next s p from₀ t l g (awake _ (kept c z 15 fifteenth)) b a ten (both-after (kept c z 4 fourth))) refl (λ z. kept-plain s p from₀ t l g c refl refl)
+      turn 8 c (carries w 8 false n e) (codes.refresh s (laid X) (paceOf (p .mode)) t w n e) (refresh-agrees s p t timed b a ten)
+      (λ z. refresh-next s p from₀ t l g (timed .ticks) (awake _ (kept c z 15 fifteenth)) b a ten (both-after (kept c z 4 fourth))) refl (λ z. kept-plain s p from₀ t l g c refl refl)
     where
       c : Command
       c = does AUTO-REFRESH b a ten
@@ -195,7 +195,7 @@ module _ (s : Settings) (wide : s .rowBits < 32) (p : Part) (from₀ t : ℕ) (l
   turn-mode : lowOf w ≡ false → codeOf w ≡ 0 → Turned (commandOf w)
   unfolding b a ten
   turn-mode n e =
-      turn 0 c (carries w 0 false n e) (codes.mode-set s (laid X) (paceOf (p .mode)) t w refl refl n e) (mode-agrees s p t early b a ten)
+      turn 0 c (carries w 0 false n e) (codes.mode-set s (laid X) (paceOf (p .mode)) t w refl refl n e) (mode-agrees s p t timed b a ten)
       (λ z. mode-next s p from₀ t l g (awake _ (kept c z 15 fifteenth)) b a ten (both-after (kept c z 4 fourth))) (which (eqb b 0))
       (λ z. kept-mode s p from₀ t l g b a ten (leb-true (X .read .bus) t (sym (cleared-is (find reads (p .bursts)) t) ∙ kept c z 12 twelfth)))
     where
@@ -209,8 +209,8 @@ module _ (s : Settings) (wide : s .rowBits < 32) (p : Part) (from₀ t : ℕ) (l
   turn-quiet : lowOf w ≡ false → (q : ℕ) → codeOf w ≡ q → Quiet q → opOf (turned q) ≡ NOP → Turned (commandOf w)
   unfolding b a ten
   turn-quiet k q e n o =
-      turn q c (carries w q false k e ∙ ap (λ (y : Op). does y b a ten) o) (codes.quiet s (laid X) (paceOf (p .mode)) t w (sym e) k n) (quiet s p t early b a ten)
-      (λ z. quiet-next s p from₀ t l g b a ten (kept c z 14 fourteenth)) refl (λ z. kept-plain s p from₀ t l g c refl refl)
+      turn q c (carries w q false k e ∙ ap (λ (y : Op). does y b a ten) o) (codes.quiet s (laid X) (paceOf (p .mode)) t w (sym e) k n) (quiet s p t timed b a ten)
+      (λ z. quiet-next s p from₀ t l g b a ten timed (kept c z 14 fourteenth)) refl (λ z. kept-plain s p from₀ t l g c refl refl)
     where
       c : Command
       c = does NOP b a ten
@@ -218,8 +218,8 @@ module _ (s : Settings) (wide : s .rowBits < 32) (p : Part) (from₀ t : ℕ) (l
   turn-deselect : lowOf w ≡ false → (q : ℕ) → codeOf w ≡ q → Quiet q → opOf (turned q) ≡ DESELECT → Turned (commandOf w)
   unfolding b a ten
   turn-deselect k q e n o =
-      turn q c (carries w q false k e ∙ ap (λ (y : Op). does y b a ten) o) (codes.quiet s (laid X) (paceOf (p .mode)) t w (sym e) k n) (deselect s p t early b a ten)
-      (λ z. deselect-next s p from₀ t l g b a ten (kept c z 14 fourteenth)) refl (λ z. kept-plain s p from₀ t l g c refl refl)
+      turn q c (carries w q false k e ∙ ap (λ (y : Op). does y b a ten) o) (codes.quiet s (laid X) (paceOf (p .mode)) t w (sym e) k n) (deselect s p t timed b a ten)
+      (λ z. deselect-next s p from₀ t l g b a ten timed (kept c z 14 fourteenth)) refl (λ z. kept-plain s p from₀ t l g c refl refl)
     where
       c : Command
       c = does DESELECT b a ten
@@ -243,7 +243,7 @@ module _ (s : Settings) (wide : s .rowBits < 32) (p : Part) (from₀ t : ℕ) (l
   unfolding b a ten
   turn-low-quiet k q e n o =
       turn q c (carries w q true k e ∙ ap (λ (y : Op). doesLow y b a ten) o) (codes.low-quiet s (laid X) (paceOf (p .mode)) t w (sym e) k n)
-      (low-agrees s p t early b a ten) (λ z. low-next s p from₀ t l g b a ten early (kept c z 14 fourteenth)) refl
+      (low-agrees s p t timed b a ten) (λ z. low-next s p from₀ t l g b a ten timed (kept c z 14 fourteenth)) refl
       (λ z. kept-plain s p from₀ t l g c refl refl)
     where
       c : Command
@@ -254,7 +254,7 @@ module _ (s : Settings) (wide : s .rowBits < 32) (p : Part) (from₀ t : ℕ) (l
   unfolding b a ten
   turn-low-deselect k q e n o =
       turn q c (carries w q true k e ∙ ap (λ (y : Op). doesLow y b a ten) o) (codes.low-quiet s (laid X) (paceOf (p .mode)) t w (sym e) k n)
-      (low-deselect-agrees s p t early b a ten) (λ z. low-deselect-next s p from₀ t l g b a ten early (kept c z 14 fourteenth)) refl
+      (low-deselect-agrees s p t timed b a ten) (λ z. low-deselect-next s p from₀ t l g b a ten timed (kept c z 14 fourteenth)) refl
       (λ z. kept-plain s p from₀ t l g c refl refl)
     where
       c : Command
@@ -263,7 +263,7 @@ module _ (s : Settings) (wide : s .rowBits < 32) (p : Part) (from₀ t : ℕ) (l
   turn-low-refresh : lowOf w ≡ true → codeOf w ≡ 8 → Turned (commandOf w)
   unfolding b a ten
   turn-low-refresh n e =
-      turn 8 c (carries w 8 true n e) (codes.low-refresh s (laid X) (paceOf (p .mode)) t w n e) (self-agrees s p t early b a ten)
+      turn 8 c (carries w 8 true n e) (codes.low-refresh s (laid X) (paceOf (p .mode)) t w n e) (self-agrees s p t timed b a ten)
       (λ z. self-next s p from₀ t l g b a ten (awake _ (kept c z 15 fifteenth))) refl (λ z. kept-plain s p from₀ t l g c refl refl)
     where
       c : Command
@@ -291,32 +291,32 @@ module _ (s : Settings) (wide : s .rowBits < 32) (p : Part) (from₀ t : ℕ) (l
 
   turn-low-active : lowOf w ≡ true → codeOf w ≡ 12 → Turned (commandOf w)
   unfolding b a ten
-  turn-low-active n e = turn-low-command 12 ACTIVE n e refl refl refl refl refl (rw e (sym (active-agrees s p t early b a ten small wide)))
+  turn-low-active n e = turn-low-command 12 ACTIVE n e refl refl refl refl refl (rw e (sym (active-agrees s p t timed b a ten small wide)))
 
   turn-low-read : lowOf w ≡ true → codeOf w ≡ 10 → Turned (commandOf w)
   unfolding b a ten
-  turn-low-read n e = turn-low-command 10 READ n e refl refl refl refl refl (rw e (sym (read-agrees s p t early b a ten small)))
+  turn-low-read n e = turn-low-command 10 READ n e refl refl refl refl refl (rw e (sym (read-agrees s p t timed b a ten small)))
 
   turn-low-write : lowOf w ≡ true → codeOf w ≡ 2 → Turned (commandOf w)
   unfolding b a ten
-  turn-low-write n e = turn-low-command 2 WRITE n e refl refl refl refl refl (rw e (sym (write-agrees s p t early b a ten small)))
+  turn-low-write n e = turn-low-command 2 WRITE n e refl refl refl refl refl (rw e (sym (write-agrees s p t timed b a ten small)))
 
   turn-low-terminate : lowOf w ≡ true → codeOf w ≡ 6 → Turned (commandOf w)
   unfolding b a ten
   turn-low-terminate n e =
-      turn-low-command 6 BURST-TERMINATE n e refl refl refl refl refl (rw e (sym (terminate-agrees s p t early b a ten from₀ l (g .bursts) (g .late))))
+      turn-low-command 6 BURST-TERMINATE n e refl refl refl refl refl (rw e (sym (terminate-agrees s p t timed b a ten from₀ l (g .bursts) (g .late))))
 
   turn-low-mode : lowOf w ≡ true → codeOf w ≡ 0 → Turned (commandOf w)
   unfolding b a ten
-  turn-low-mode n e = turn-low-command 0 MODE-REGISTER-SET n e refl refl refl refl refl (rw e (sym (mode-agrees s p t early b a ten)))
+  turn-low-mode n e = turn-low-command 0 MODE-REGISTER-SET n e refl refl refl refl refl (rw e (sym (mode-agrees s p t timed b a ten)))
 
   turn-low-close : lowOf w ≡ true → codeOf w ≡ 4 → Turned (commandOf w)
   unfolding b a ten
   turn-low-close n e = turn-low-command 4 PRECHARGE n e refl refl refl refl refl (rw e (go (tenOf w)))
     where
       go : (v : Bool) → cond v (closeAllBreaks (laid X) t) (closeBreaks (laid X) t b) ≡ says s p t PRECHARGE b a v
-      go true = sym (close-all-agrees s p t early b a)
-      go false = sym (close-agrees s p t early b a small)
+      go true = sym (close-all-agrees s p t timed b a)
+      go false = sym (close-agrees s p t timed b a small)
 
   -- ---- every event: an odd code has CS# high
 

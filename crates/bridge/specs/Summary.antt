@@ -1,6 +1,6 @@
 -- The deadlines as a function of the reading's part: of the bursts, the last read, the last write, each bank's last write
 -- since its ACTIVE, and the latest end of auto precharge bursts.
-use Prim.Native.Nat.{ℕ, _+_}
+use Prim.Native.Nat.{ℕ, _+_, _*_, _<_}
 use mathlib.Core.Bool.{Bool, cond, _&&_}
 use mathlib.Core.List.{List, [], _∷_}
 use mathlib.Core.Option.{Option, none, some}
@@ -10,7 +10,7 @@ use Rattle.reading.specs.RefreshClock.{Clock}
 use Rattle.reading.specs.Sleep.{Sleep}
 use Rattle.reading.specs.Bursts.{Burst, reads, wholeEnd, readEnd, dataEnd}
 use Rattle.reading.specs.Part.{Bank, Part, lastBankWrite}
-use Rattle.deadlines.specs.Deadlines.{FAR, overdueFrom}
+use Rattle.deadlines.specs.Deadlines.{FAR}
 
 -- so long after it, 0 where it has not happened
 abbrev pub from : Option ℕ → ℕ → ℕ
@@ -22,8 +22,13 @@ ended none wait = 0
 ended (some x) wait = dataEnd x + wait
 
 -- the first cycle that is too late for the refresh clock
+-- an event that is looked at: below the cycle FAR, under settings by which AUTO REFRESHes come to be owed
+pub record Timed (s : Settings) (t : ℕ) : Type 0 where
+  pub early : t < FAR
+  pub ticks : 0 < s .tREFI
+
 abbrev pub overdueBy : Settings → Clock → ℕ
-overdueBy s k = overdueFrom s (k .since)
+overdueBy s k = k .origin + (9 + k .paid) * s .tREFI
 
 -- the bus is free of a read's data
 abbrev pub cleared : Option Burst → ℕ

@@ -48,13 +48,13 @@ module _ (s : Settings) where
   unfolding verdictBy
   all-clean bytes n k = ap (λ (m : ℕ). judgeFrom s (start s) 0 (map (eventAt bytes) (count 0 m))) (sub-zero n) ∙ is-clean _ k
 
-  module _ (wide : s .rowBits < 32) where
+  module _ (wide : s .rowBits < 32) (ticks : 0 < s .tREFI) where
     behind : (p : Part) (from i : ℕ) (es : List Event) → Sound from p → Rises from es → Early es → judgeFrom s p i es ≡ clean → Alone s p es
     unfolding judgeBy
     behind p from i [] g r y k = tt
     behind p from i (e ∷ es) g r y k =
         let rest = clean-rest (brokenBy s p e) i (e .cycle) (judgeFrom s (step s p e) (suc i) es) k in
-        let next = turned-event s wide p from (e .cycle) (r .0) (y .0) g (e .pins) .onward (rest .0) .sound in (
+        let next = turned-event s wide p from (e .cycle) (r .0) (record { early = y .0; ticks = ticks }) g (e .pins) .onward (rest .0) .sound in (
           same-cuts s p from (e .cycle) (r .0) g (commandOf (e .pins)),
           behind (step s p e) (suc (e .cycle)) (suc i) es next (r .1) (y .1) (rest .1),
         )

@@ -40,7 +40,7 @@ module _ (settings bytes : List ℕ) (n : ℕ) where
   unfolding cellsOn
   all-ahead z k =
       ap (λ (k : ℕ). cellsOf s (burstsOf s (map (eventAt bytes) (count 0 k)))) (sym (sub-zero n))
-      ∙ cells-ahead s (eventsFrom bytes n 0) rises (each-alone s (z .fit .rows) (eventsFrom bytes n 0) rises (events-early bytes n (fitting z)) (all-clean s bytes n k))
+      ∙ cells-ahead s (eventsFrom bytes n 0) rises (each-alone s (z .fit .rows) (z .fit .ticks) (eventsFrom bytes n 0) rises (events-early bytes n (fitting z)) (all-clean s bytes n k))
     where
       rises : Rises 0 (eventsFrom bytes n 0)
       rises = events-rise bytes n (fitting z)

@@ -1,6 +1,6 @@
 -- The deadlines that are kept of a part, thirty-nine numbers in a row; which rule a command breaks by them, and what it makes of them.
 -- A deadline is the first cycle at which a rule lets a command through; 0 where nothing has happened.
-use Prim.Native.Nat.{ℕ, _+_, _%_, _^_}
+use Prim.Native.Nat.{ℕ, _+_, _*_, _%_, _^_}
 use mathlib.Core.Bool.{Bool, cond, not, _&&_, _||_}
 use mathlib.Core.List.{List, [], _∷_}
 use lib.ListN.{getD, set, replicate}
@@ -92,9 +92,13 @@ orElse kept rule rest = cond kept rest rule
 
 -- ---- the refresh clock
 
--- it counts from the start, from an AUTO REFRESH, and from the event that leaves self refresh
+-- the first cycle at which nine are owed, where they count from cycle t
 abbrev pub overdueFrom : Settings → ℕ → ℕ
-overdueFrom s t = t + s .GAP + 1
+overdueFrom s t = t + 9 * s .tREFI
+
+-- an AUTO REFRESH at t puts it off by one, if one is owed
+abbrev pub overdueAfter : Settings → ℕ → ℕ → ℕ
+overdueAfter s t due = cond (leb due (t + 8 * s .tREFI)) (due + s .tREFI) due
 
 -- nothing has happened: no read that can be cut
 unfoldable pub startOf : Settings → List ℕ
@@ -283,7 +287,9 @@ unfoldable pub closeAllAfter : Settings → List ℕ → List ℕ → ℕ → Li
 closeAllAfter s d m t = cutRead (restAll d (t + s .tRP)) m t (ltb (at (restAll d (t + s .tRP)) READER) 4)
 
 unfoldable pub refreshAfter : Settings → List ℕ → ℕ → List ℕ
-refreshAfter s d t = set (set d BUSY (t + s .tRFC)) OVERDUE (overdueFrom s t)
+refreshAfter s d t =
+    let d₁ = set d BUSY (t + s .tRFC) in
+    set d₁ OVERDUE (overdueAfter s t (at d₁ OVERDUE))
 
 unfoldable pub modeSetAfter : Settings → List ℕ → ℕ → List ℕ
 modeSetAfter s d t = set d BUSY (t + s .tMRD)

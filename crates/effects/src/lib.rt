@@ -155,7 +155,7 @@ pub fn refresh_after(s: &Settings, d: &mut Deadlines, t: u32)
     ensures { λ r. ⌜ now (d .exit) ≡ is.refreshAfter (settingsOf (now (s .entry))) (now (d .entry)) t ⌝ }
 {
     d[BUSY] = after(t, s[T_RFC]);
-    d[OVERDUE] = clock::overdue_from(s, t);
+    d[OVERDUE] = clock::overdue_after(s, t, d[OVERDUE]);
 }
 
 pub fn mode_set_after(s: &Settings, d: &mut Deadlines, t: u32)
@@ -210,7 +210,7 @@ pub fn leave_after(s: &Settings, d: &mut Deadlines, t: u32)
     wake_after(s, d, t);
 }
 
-// The deadlines of a part at the start: nothing has happened, and the first AUTO REFRESH is due after GAP.
+// The deadlines of a part at the start: nothing has happened, and nine AUTO REFRESHes are owed after nine times tREFI.
 pub fn start(s: &Settings) -> Deadlines
     ensures { λ r. ⌜ r ≡ is.startOf (settingsOf (now (s .entry))) ⌝ }
 {

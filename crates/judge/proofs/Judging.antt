@@ -8,7 +8,7 @@ use Rattle.reading.specs.Settings.{settingsOf}
 use Rattle.reading.specs.Capture.{countIn, eventsStart, eventCount, settingWords, eventBytes, eventsOf}
 use Rattle.reading.specs.Verdict as is
 use Rattle.reading.specs.Answers.{answered, accepted, settingsIn, verdictIn, judgeAnswer}
-use Rattle.settings.proofs.Fitting.{at-most}
+use Rattle.settings.proofs.Fitting.{at-least, at-most}
 use Rattle.settings.specs.declared.Checked.{Checked}
 use Rattle.settings.specs.declared.Checked.the-variants as checked
 use Rattle.settings.specs.Meaning as check
@@ -42,6 +42,9 @@ module _ (c : List ℕ) (o : Checked) (opened : check.means o ≡ accepted c (an
           rows =
               rw (e, padded-at (settingWords c) 1)
               (omega (arith, at-most 1 (getD (settingWords c) 1 0) (sound .settings 1 (omega (arith, count-range c .0)))));
+          ticks =
+              rw (e, padded-at (settingWords c) 13)
+              (omega (arith, at-least 13 (getD (settingWords c) 13 0) (sound .settings 13 (omega (arith, count-range c .0)))));
           events = λ i l. rw g (sound .events i (omega (arith, f)));
         }
 

@@ -23,7 +23,7 @@ use Rattle.part.specs.declared.Answer.{Answer}
 use Rattle.part.specs.declared.Answer.the-variants.{Kept, Broke}
 use Rattle.part.specs.Means.{means}
 use Rattle.steps.specs.Steps.{ruleOf, leftBy, stepBreaks, stepAfter, paceAfter}
-use Rattle.bridge.specs.Summary.{laid, summary}
+use Rattle.bridge.specs.Summary.{Timed, laid, summary}
 use Rattle.bridge.proofs.Tests.{num}
 use Rattle.bridge.proofs.Next.{Sound}
 use Rattle.bridge.proofs.Turn.{Turned, turned-event, start-laid, start-sound}
@@ -119,11 +119,11 @@ module _ (settings bytes : List ℕ) (n : ℕ) where
     abbrev w : ℕ
     w = eventAt bytes i .pins
 
-    early : t < FAR
-    early = omega (arith, cycle-fits bytes i (fit .events i l))
+    timed : Timed s t
+    timed = record { early = omega (arith, cycle-fits bytes i (fit .events i l)); ticks = fit .ticks }
 
-    turn : Turned s (fit .rows) (b .reached) (b .from) t (b .above l) early (b .sound) w (commandOf w)
-    turn = turned-event s (fit .rows) (b .reached) (b .from) (eventAt bytes i .cycle) (b .above l) early (b .sound) (eventAt bytes i .pins)
+    turn : Turned s (fit .rows) (b .reached) (b .from) t (b .above l) timed (b .sound) w (commandOf w)
+    turn = turned-event s (fit .rows) (b .reached) (b .from) (eventAt bytes i .cycle) (b .above l) timed (b .sound) (eventAt bytes i .pins)
 
     -- the step's answer is the reading's
     breaks-is : stepBreaks s d t w ≡ num (brokenBy s (b .reached) (eventAt bytes i))

@@ -32,6 +32,7 @@ pub record Fit (settings bytes : List ℕ) (n : ℕ) : Type 0 where
   pub few : n ≤ 8000
   pub long : 8 * n ≤ length bytes
   pub rows : reading.settingsOf settings .rowBits < 32
+  pub ticks : 0 < reading.settingsOf settings .tREFI
   pub events : (i : ℕ) → i < n → cycleFits bytes i ≡ true
 
 -- the deadlines, and h and CL, of a part at its start

@@ -22,7 +22,7 @@ use Rattle.memory.proofs.Pins.{activeCommand, burstCommand, refresh-car
 unclosing : (s : Settings) (p : Part) (t : ℕ) (c : Command) → is PRECHARGE c ≡ false → rule9 s p t c ≡ true
 unclosing s p t c e = rw e
 
-run-more : (s : Settings) (p : Part) (es : List Event) (e : Event) → run s p (es ++ (e ∷ [])) ≡ step s (run s p es) e
+pub run-more : (s : Settings) (p : Part) (es : List Event) (e : Event) → run s p (es ++ (e ∷ [])) ≡ step s (run s p es) e
 run-more s p [] e = refl
 run-more s p (x ∷ es) e = run-more s (step s p x) es e
 

@@ -73,7 +73,7 @@ module _ (s : Settings) (g : Ranged s) {n : ℕ} {d : List ℕ} (near : Near n d
 
   pub near-refresh : Near (suc t) (refreshAfter s d t)
   unfolding refreshAfter
-  near-refresh = near-overdue (near-set now BUSY (t + s .tRFC) (omega (arith, g .tRFC))) (overdueFrom s t)
+  near-refresh = near-overdue (near-set now BUSY (t + s .tRFC) (omega (arith, g .tRFC))) _
 
   module _ (b : ℕ) (lb : b < 4) where
     pub near-active : Near (suc t) (activeAfter s d t b)

@@ -28,7 +28,8 @@ use Rattle.plan.proofs.Ranged.{Ranged}
 use Rattle.plan.proofs.Pins.{row-low, active-small, burst-small, refresh-small}
 use Rattle.plan.proofs.Passing.{passed, carried-passes, active-passed, read-passed, write-passed, refresh-passed}
 use Rattle.plan.proofs.Near.{Near, near-active, near-read, near-write, near-refresh, active-most, burst-most, refresh-most}
-use Rattle.plan.proofs.Sending.{later-first, later-second, Goes, goes-free, goes-soonest}
+use Rattle.reading.proofs.Found.{later-first, later-second}
+use Rattle.plan.proofs.Sending.{Goes, goes-free, goes-soonest}
 use Rattle.plan.proofs.Reached.{Reached, Sent, part-is, sent}
 use Rattle.plan.proofs.Awake.{awake, awake-now, awake-clock}
 
@@ -125,7 +126,7 @@ module _ {s : Settings} (g : Ranged s) {es : List Event} (r : Reached s es) wher
         let c = does AUTO-REFRESH 0 0 false in
         let l = goes-free refresh-goes in
         sent r refreshPins c refresh-carried refresh-goes refresh-small refl (kept-plain s p free t l (r .sound) c refl refl)
-        (refresh-next s p free t l (r .sound) (awake-now r) 0 0 false (le-trans (waited (refreshWaits d) 0) (goes-soonest refresh-goes)))
+        (refresh-next s p free t l (r .sound) (omega (arith, g .least-tREFI)) (awake-now r) 0 0 false (le-trans (waited (refreshWaits d) 0) (goes-soonest refresh-goes)))
         (near-refresh s g (r .near) t l)
 
     pub refresh-idle : Idle s (send placing s es refreshPins)

@@ -22,6 +22,7 @@ pub record Ranged (s : Settings) : Type 0 where
   pub least-tRCD : 1 ≤ s .tRCD
   pub least-tRP : 1 ≤ s .tRP
   pub least-tRFC : 1 ≤ s .tRFC
+  pub least-tREFI : 1 ≤ s .tREFI
 
 module _ (ws : List ℕ) (fits : (i : ℕ) → i < 14 → settingFits i (getD ws i 0) ≡ true) where
   most : (i : ℕ) (l : i < 14) → getD ws i 0 ≤ rowAt i .most
@@ -45,4 +46,5 @@ module _ (ws : List ℕ) (fits : (i : ℕ) → i < 14 → settingFits i (getD ws
         least-tRCD = least 4 (omega arith);
         least-tRP = least 5 (omega arith);
         least-tRFC = least 11 (omega arith);
+        least-tREFI = least 13 (omega arith);
       }

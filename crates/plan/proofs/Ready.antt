@@ -22,7 +22,7 @@ use Rattle.words.proofs.Search.{none-below}
 use Rattle.deadlines.specs.Deadlines.{OVERDUE, at, soonest, activeAfter, refreshAfter}
 use Rattle.plan.specs.Soonest.{activeSoonest, burstSoonest, refreshSoonest}
 use Rattle.bridge.specs.Summary.{overdueBy}
-use Rattle.bridge.proofs.Sleeping as sleeping
+use Rattle.bridge.proofs.Clock as clock
 use Rattle.plan.specs.Behind.{partOf, deadlinesOf, burstAfter}
 use Rattle.plan.proofs.Ranged.{Ranged}
 use Rattle.plan.proofs.Sending.{free-sent, last-sent, length-sent, clean-sent}
@@ -34,31 +34,31 @@ use Rattle.plan.proofs.Placed.{Idle, Opened, refresh-sent, refresh-idle
 abbrev pub overdueOf : Settings → List Event → ℕ
 overdueOf s es = overdueBy s (partOf s es .clock)
 
-in-time : (s : Settings) (es : List Event) → refreshInTime placing s es ≡ ltb (placed placing s es refreshPins) (overdueOf s es)
+in-time : (s : Settings) → Ranged s → (es : List Event) → refreshInTime placing s es ≡ ltb (placed placing s es refreshPins) (overdueOf s es)
 unfolding refreshInTime sendRefresh sendAll
-in-time s es =
+in-time s g es =
     ap (inTime s (partOf s es .clock)) (last-sent s es refreshPins)
-    ∙ sleeping.in-time-is (placed placing s es refreshPins) (partOf s es .clock .since + s .GAP)
+    ∙ clock.in-time-is s (omega (arith, g .least-tREFI)) (partOf s es .clock) (placed placing s es refreshPins)
 
-in-time-lt : (s : Settings) (es : List Event) → refreshInTime placing s es ≡ true → placed placing s es refreshPins < overdueOf s es
-in-time-lt s es k = ltb-true (placed placing s es refreshPins) (overdueOf s es) (sym (in-time s es) ∙ k)
+in-time-lt : (s : Settings) → Ranged s → (es : List Event) → refreshInTime placing s es ≡ true → placed placing s es refreshPins < overdueOf s es
+in-time-lt s g es k = ltb-true (placed placing s es refreshPins) (overdueOf s es) (sym (in-time s g es) ∙ k)
 
 -- the test of a schedule, by the deadlines
 pub in-time-is : {s : Settings} → Ranged s → {es : List Event} → Reached s es → Idle s es →
     refreshInTime placing s es ≡ ltb (later (freeFrom 0 es) (refreshSoonest (deadlinesOf s es))) (at (deadlinesOf s es) OVERDUE)
 unfolding deadlinesOf
 in-time-is {s} g {es} r idle =
-    in-time s es
+    in-time s g es
     ∙ ap (λ (t : ℕ). ltb t (overdueOf s es)) (refresh-sent g r idle .cycle)
     ∙ sym (ap (λ (asleep : Bool). ltb (later (freeFrom 0 es) (refreshSoonest (deadlinesOf s es))) (cond asleep 0 (overdueOf s es))) (awake-now r))
 
 -- a command in time for rule 14
-timely-clean : {s : Settings} {es : List Event} {pins soonest : ℕ} {d : List ℕ} → Reached s es → Sent s es pins soonest d →
+timely-clean : {s : Settings} → Ranged s → {es : List Event} {pins soonest : ℕ} {d : List ℕ} → Reached s es → Sent s es pins soonest d →
     verdictOf s es ≡ clean → placed placing s es pins < overdueOf s es → verdictOf s (send placing s es pins) ≡ clean
-timely-clean {s} {es} {pins} r w c l =
+timely-clean {s} g {es} {pins} r w c l =
     let p = partOf s es in
     let t = placed placing s es pins in
-    let in-time : inTime s (p .clock) t ≡ true = le-leb t (p .clock .since + s .GAP) (omega arith) in
+    let in-time : inTime s (p .clock) t ≡ true = clock.in-time-is s (omega (arith, g .least-tREFI)) (p .clock) t ∙ lt-ltb t (overdueOf s es) l in
     clean-sent s es pins c (w .passed) (awake-asked s p (awake r) t (commandOf pins) ∙ in-time)
     (awake-allowed s p (awake r) t (commandOf pins) (cke-high pins (w .small)))
 
@@ -120,7 +120,7 @@ module _ (s : Settings) (g : Ranged s) (q : ℕ) (fits : requestFits s q ≡ tru
   request-ready : verdictOf s es ≡ clean → refreshInTime placing s (sendRequest placing s es q) ≡ true → Ready s (sendRequest placing s es q)
   unfolding sendRequest sendAll
   request-ready c k =
-      let last : placed placing s alone refreshPins < overdueOf s es = omega (arith, in-time-lt s alone k, same-overdue) in
+      let last : placed placing s alone refreshPins < overdueOf s es = omega (arith, in-time-lt s g alone k, same-overdue) in
       let burst : placed placing s opened (burstPins true s q) < overdueOf s es =
       omega (arith, last, refresh-sent g request-reached request-idle .not-before, free-sent s opened (burstPins true s q)) in
       let active : placed placing s es (activePins s q) < overdueOf s es = omega (arith, burst, second-sent .not-before, free-sent s es (activePins s q)) in
@@ -128,7 +128,7 @@ module _ (s : Settings) (g : Ranged s) (q : ℕ) (fits : requestFits s q ≡ tru
       record {
         reached = request-reached;
         idle = request-idle;
-        judged = timely-clean (first-sent .reached) second-sent (timely-clean r first-sent c active) (omega (arith, burst, due));
+        judged = timely-clean g (first-sent .reached) second-sent (timely-clean g r first-sent c active) (omega (arith, burst, due));
         timely = k;
       }
 
@@ -168,7 +168,7 @@ module _ (s : Settings) (g : Ranged s) where
           (record {
             ready =
                 request-ready s g q fits first (ahead .reached) (refresh-idle g (y .reached) (y .idle))
-                (timely-clean (y .reached) ahead (y .judged) (in-time-lt s es (y .timely))) m;
+                (timely-clean g (y .reached) ahead (y .judged) (in-time-lt s g es (y .timely))) m;
             few = omega (arith, request-length s g q fits first (ahead .reached) (refresh-idle g (y .reached) (y .idle)), length-sent s es refreshPins);
           })
       go false k false m f = let z : _≡_ {A = ℕ} 0 1 = cc in absurd (omega arith)

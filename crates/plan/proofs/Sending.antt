@@ -17,25 +17,12 @@ use Rattle.reading.specs.Part.{Part, start, partAfter, step, run}
 use Rattle.reading.specs.Rules.{keepsRule, rule14, rule15, placing, brokenBy}
 use Rattle.reading.specs.Verdict.{clean, brokenOr, judgeFrom, verdictOf, judgeBy, verdictBy}
 use Rattle.reading.specs.Schedule.{passes, earliest, freeFrom, lastFrom, placed, send}
-use Rattle.reading.proofs.Found.{earliest-is}
+use Rattle.reading.proofs.Found.{earliest-is, later-first, later-second}
+use Rattle.memory.proofs.Six.{run-more}
 use Rattle.plan.specs.Behind.{partOf}
 use Rattle.plan.proofs.Near.{wait, later-most}
 
 -- ---- the earliest cycle of a test that holds from m on
-
-pub later-first : (a b : ℕ) → a ≤ later a b
-later-first a b = go (leb a b) refl
-  where
-    go : (v : Bool) → leb a b ≡ v → a ≤ cond v b a
-    go true e = leb-true a b e
-    go false e = omega arith
-
-pub later-second : (a b : ℕ) → b ≤ later a b
-later-second a b = go (leb a b) refl
-  where
-    go : (v : Bool) → leb a b ≡ v → b ≤ cond v b a
-    go true e = omega arith
-    go false e = omega (arith, leb-false a b e)
 
 earliest-from : (f : ℕ → Bool) (m : ℕ) → ((t : ℕ) → f t ≡ leb m t) → (from n : ℕ) → m ≤ from + n → earliest f from n ≡ later from m
 earliest-from f m is from n l = go (leb from m) refl
@@ -48,10 +35,6 @@ earliest-from f m is from n l = go (leb from m) refl
         (λ u k j. absurd (omega arith))
 
 -- ---- one more event
-
-run-more : (s : Settings) (p : Part) (es : List Event) (e : Event) → run s p (es ++ (e ∷ [])) ≡ step s (run s p es) e
-run-more s p [] e = refl
-run-more s p (x ∷ es) e = run-more s (step s p x) es e
 
 free-more : (from : ℕ) (es : List Event) (e : Event) → freeFrom from (es ++ (e ∷ [])) ≡ suc (e .cycle)
 unfolding freeFrom

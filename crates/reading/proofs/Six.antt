@@ -15,7 +15,7 @@ use Rattle.reading.specs.Capture.{Event}
 use Rattle.reading.specs.Commands.{Command, ACTIVE, READ, WRITE, is, among, commandOf}
 use Rattle.reading.specs.Part.{Bank, Part, start, step, openOn, idleFrom, autoPrecharge, closes, bankAfter, partAfter}
 use Rattle.reading.specs.Rules.{everyBank, belowSix, keepsRule, rule3, rule5, rule6, rule9, lowestBroken}
-use Rattle.reading.proofs.Found.{find-none}
+use Rattle.reading.proofs.Found.{find-none, later-first}
 use Rattle.reading.specs.Schedule.{passes}
 use Rattle.reading.specs.Verdict.{Verdict, judgeBy, verdictBy, brokenOr}
 
@@ -66,13 +66,6 @@ every-bank f e (suc (suc zero)) l = and-left (f 2) _ (and-right (f 1) _ (and-rig
 every-bank f e (suc (suc (suc zero))) l = and-right (f 2) _ (and-right (f 1) _ (and-right (f 0) _ e))
 every-bank f e (suc (suc (suc (suc b)))) l = absurd (omega arith)
 
-later-least : (a b : ℕ) → a ≤ later a b
-later-least a b = go (leb a b) refl
-  where
-    go : (v : Bool) → leb a b ≡ v → a ≤ cond v b a
-    go true e = leb-true a b e
-    go false e = omega arith
-
 module _ (s : Settings) where
   -- ---- a bank
 
@@ -94,7 +87,7 @@ module _ (s : Settings) where
     where
       go : (active : Option ℕ) (end : ℕ) → after (s .tRAS) active (later (orZero active + s .tRAS) end) ≡ true
       go none end = refl
-      go (some a) end = le-leb (a + s .tRAS) (later (a + s .tRAS) end) (later-least (a + s .tRAS) end)
+      go (some a) end = le-leb (a + s .tRAS) (later (a + s .tRAS) end) (later-first (a + s .tRAS) end)
 
   stays-rested : (m t : ℕ) (c : Command) (b : ℕ) (x : Bank) → implies (closes c b x) (after (s .tRAS) (x .lastActive) t) ≡ true →
       Rested x → Rested (bankAfter s m t c b x)

@@ -29,7 +29,7 @@ pub record Settings : Type 0 where
   pub tWTR : ℕ
   pub tRFC : ℕ
   pub tMRD : ℕ
-  pub GAP : ℕ
+  pub tREFI : ℕ
   pub tXP : ℕ
   pub tXSR : ℕ
 
@@ -50,7 +50,7 @@ settingsOf ws =
       tWTR = getD ws 10 0;
       tRFC = getD ws 11 0;
       tMRD = getD ws 12 0;
-      GAP = getD ws 13 0;
+      tREFI = getD ws 13 0;
       tXP = getD ws 14 0;
       tXSR = getD ws 15 0;
     }

@@ -40,7 +40,7 @@ module _ (ws : List ℕ) where
         tWTR = padded-at 10 u;
         tRFC = padded-at 11 u;
         tMRD = padded-at 12 u;
-        GAP = padded-at 13 u;
+        tREFI = padded-at 13 u;
         tXP = padded-at 14 u;
         tXSR = padded-at 15 u;
       }

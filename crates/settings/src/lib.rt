@@ -38,7 +38,7 @@ const LIMITS: [Limits; SLEEPING] = [
     Limits(1, 10_000), // tWTR
     Limits(1, 10_000), // tRFC
     Limits(1, 10_000), // tMRD
-    Limits(1, 1_000_000), // GAP
+    Limits(1, 1_000_000), // tREFI
     Limits(1, 10_000), // tXP
     Limits(1, 10_000), // tXSR
 ];

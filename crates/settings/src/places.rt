@@ -25,7 +25,7 @@ pub const T_RFC: usize = 11;
 
 pub const T_MRD: usize = 12;
 
-pub const GAP: usize = 13;
+pub const T_REFI: usize = 13;
 
 pub const T_XP: usize = 14;
 

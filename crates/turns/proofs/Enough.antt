@@ -1,5 +1,5 @@
 -- A request's turn by the twelve cycles is its turn by the deadlines, of which they are taken.
-use Prim.Native.Nat.{ℕ, zero, suc, _+_, _%_, _≤_, _<_}
+use Prim.Native.Nat.{ℕ, zero, suc, _+_, _*_, _%_, _≤_, _<_}
 use mathlib.Core.Bool.{Bool, true, false, cond}
 use mathlib.Core.List.{List, [], _∷_}
 use mathlib.Core.Path.{_≡_, refl, sym, ap, _∙_}
@@ -19,7 +19,7 @@ use Rattle.plan.specs.Soonest.{readSoonest, writeSoonest}
 use Rattle.plan.specs.Soonest as plan
 use Rattle.plan.proofs.Ranged.{Ranged}
 use Rattle.plan.proofs.Near.{later-most}
-use Rattle.plan.proofs.Sending.{later-first, later-second}
+use Rattle.reading.proofs.Found.{later-first, later-second}
 use Rattle.turns.specs.Turning.{inTime, burstLeaves}
 use Rattle.turns.specs.Between.{REST, APART, apart, betweenOf, activeSoonest, burstSoonest, refreshSoonest, restAfter, busAfter, apartAfter, burstAfter, taking}
 
@@ -191,15 +191,13 @@ refresh-same d f l =
     let z : ℕ = over (λ i. at d (all.REST + i)) (at d BUS) in
     ap (λ (y : ℕ). later y z) (sym (later-high f (at d BUSY) l)) ∙ sym (later-group f (at d BUSY) z)
 
-pub refresh-behind : (x : Held) →
-    ((i : ℕ) → i < 4 → x .banks i .rest ≤ plan.refreshSoonest (laid x)) × (x .read .bus ≤ plan.refreshSoonest (laid x))
-unfolding plan.refreshSoonest soonest
-refresh-behind x =
-    let rests : ℕ → ℕ = λ i. x .banks i .rest in
-    let bus = x .read .bus in (
-      λ i l. omega (arith, above (x .busy) (over rests bus), over-own rests bus i l),
-      omega (arith, above (x .busy) (over rests bus), over-last rests bus),
-    )
+-- which never brings the next one forward
+pub put-off : (s : Settings) (t due : ℕ) → due ≤ all.overdueAfter s t due
+put-off s t due = go (leb due (t + 8 * s .tREFI))
+  where
+    go : (v : Bool) → due ≤ cond v (due + s .tREFI) due
+    go true = omega arith
+    go false = omega arith
 
 -- its READ or WRITE
 abbrev pub withActive : Settings → ℕ → ℕ → Held → Held

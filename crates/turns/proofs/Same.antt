@@ -20,12 +20,12 @@ use Rattle.bridge.proofs.Laid.{stands, timed, active-laid}
 use Rattle.plan.specs.Soonest as plan
 use Rattle.plan.proofs.Ranged.{Ranged}
 use Rattle.plan.proofs.Near.{Near, wait, later-most, near-active, near-refresh, active-most, burst-most, refresh-most}
-use Rattle.plan.proofs.Sending.{later-first, later-second}
+use Rattle.reading.proofs.Found.{later-first, later-second}
 use Rattle.turns.specs.Turning.{cycleFor, inTime, burstLeaves, activeAt, opened, burstAt, triedAfter, triedKept, refreshAt, refreshed, alone, led, turning, turnedAfter}
 use Rattle.turns.specs.Between as by
 use Rattle.turns.specs.Between.{betweenOf, restAfter, busAfter, taking}
 use Rattle.turns.proofs.Timely.{far}
-use Rattle.turns.proofs.Enough.{later-low, later-high, Fair, active-same, refresh-same, refresh-behind, burst-same, withActive, landed-is, After, taken-same, kept-same, fair-after}
+use Rattle.turns.proofs.Enough.{later-low, later-high, Fair, active-same, refresh-same, put-off, burst-same, withActive, landed-is, After, taken-same, kept-same, fair-after}
 
 -- a word holds the later of two cycles that it holds
 word-is : (a b : ℕ) → a < 4200000000 → b < 4200000000 → cycleFor a b ≡ later a b
@@ -185,9 +185,9 @@ module _ (s : Settings) (g : Ranged s) (x : Held) (q : ℕ) (lb : cellBank s (fi
   unfolding by.refreshAt refreshAt cycleFor
   refresh-by = ap (λ (z : ℕ). z % 2 ^ 32) (refresh-same D f free)
 
-  -- the refresh clock counts from it
+  -- one that is owed is paid
   abbrev ticking : SleepHeld
-  ticking = record { overdue = all.overdueFrom s r; wake = x .sleep .wake; asleep = x .sleep .asleep; self = x .sleep .self }
+  ticking = record { overdue = all.overdueAfter s r (x .sleep .overdue); wake = x .sleep .wake; asleep = x .sleep .asleep; self = x .sleep .self }
 
   abbrev x₁ : Held
   x₁ = timed (r + s .tRFC) ticking x
@@ -195,8 +195,8 @@ module _ (s : Settings) (g : Ranged s) (x : Held) (q : ℕ) (lb : cellBank s (fi
   fair₁ : Fair s (laid x₁) (r + 1)
   fair₁ =
       record {
-        rests = λ i l. omega (arith, r-is, later-second f (plan.refreshSoonest D), refresh-behind x .0 i l, stands x₁ i l .rest);
-        bus = omega (arith, r-is, later-second f (plan.refreshSoonest D), refresh-behind x .1);
+        rests = λ i l. omega (arith, fair .rests i l, stands x i l .rest, stands x₁ i l .rest, put-off s r (x .sleep .overdue));
+        bus = omega (arith, fair .bus, put-off s r (x .sleep .overdue));
         others = λ i l. omega (arith, fair .others i l, stands x i l .other, stands x₁ i l .other, f-first);
         reads = omega (arith, fair .reads, f-first);
         writes = omega (arith, fair .writes, f-first);
@@ -214,7 +214,7 @@ module _ (s : Settings) (g : Ranged s) (x : Held) (q : ℕ) (lb : cellBank s (fi
 
   refreshed-by : by.refreshed s K f q ≡ betweenOf (laid x₁)
   unfolding by.refreshed betweenOf
-  refreshed-by = ap (λ (z : ℕ). set (betweenOf D) by.OVERDUE (all.overdueFrom s z)) refresh-by
+  refreshed-by = ap (λ (z : ℕ). set (betweenOf D) by.OVERDUE (all.overdueAfter s z (x .sleep .overdue))) refresh-by
 
   -- its cycles, alone and behind it
   abbrev W : Bool

@@ -6,7 +6,7 @@ use mathlib.Core.Path.{_≡_, sym, ap, _∙_}
 use lib.ListN.{set}
 use Rattle.reading.specs.Settings.{Settings}
 use Rattle.reading.specs.Schedule.{asksWrite, firstCell, cellBank}
-use Rattle.deadlines.specs.Deadlines.{paceOf, overdueFrom}
+use Rattle.deadlines.specs.Deadlines.{paceOf, overdueAfter, at as at-place}
 use Rattle.turns.specs.declared.Tried.{Tried}
 use Rattle.turns.specs.declared.Placed.the-variants.{Alone, Behind, Late}
 use Rattle.turns.specs.Turns.{Turn, told}
@@ -32,7 +32,7 @@ module _ (s : Settings) (k : List ℕ) (free q : ℕ) {m : List ℕ} (mm : m ≡
 
   -- with an AUTO REFRESH before it
   module _ (e : r .kept ≡ false) {refresh : ℕ} (at : refresh ≡ cycleFor free (refreshSoonest k))
-      {overdue : ℕ} (next : overdue ≡ overdueFrom s refresh)
+      {overdue : ℕ} (next : overdue ≡ overdueAfter s refresh (at-place k OVERDUE))
       {from : ℕ} (on : from ≡ refresh + s .tRFC) {r₂ : Tried} (tried₂ : r₂ ≡ trying s m (set k OVERDUE overdue) from w b) where
     at-is : refresh ≡ refreshAt s k free q
     unfolding refreshAt
@@ -40,7 +40,7 @@ module _ (s : Settings) (k : List ℕ) (free q : ℕ) {m : List ℕ} (mm : m ≡
 
     k-is : set k OVERDUE overdue ≡ refreshed s k free q
     unfolding refreshed
-    k-is = ap (set k OVERDUE) (next ∙ ap (overdueFrom s) at-is)
+    k-is = ap (set k OVERDUE) (next ∙ ap (λ (t : ℕ). overdueAfter s t (at-place k OVERDUE)) at-is)
 
     r₂-is : r₂ ≡ behind s k free q
     r₂-is = tried₂ ∙ (λ i. trying s (mm i) (k-is i) ((on ∙ ap (λ (t : ℕ). t + s .tRFC) at-is) i) (ww i) (bb i))

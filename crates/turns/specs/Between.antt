@@ -9,7 +9,7 @@ use Rattle.reading.specs.Search.{later}
 use Rattle.reading.specs.Settings.{Settings}
 use Rattle.reading.specs.Schedule.{asksWrite, firstCell, cellBank}
 use Rattle.deadlines.specs.Deadlines as all
-use Rattle.deadlines.specs.Deadlines.{PAIRS, LATENCY, at, otherBank, paceOf, overdueFrom}
+use Rattle.deadlines.specs.Deadlines.{PAIRS, LATENCY, at, otherBank, paceOf, overdueFrom, overdueAfter}
 use Rattle.turns.specs.declared.Tried.{Tried}
 use Rattle.turns.specs.Turns.{Turn}
 use Rattle.turns.specs.Turning.{cycleFor}
@@ -109,7 +109,7 @@ module _ (s : Settings) (k : List ℕ) (free q : ℕ) where
   refreshAt = cycleFor free (refreshSoonest k)
 
   unfoldable pub refreshed : List ℕ
-  refreshed = set k OVERDUE (overdueFrom s refreshAt)
+  refreshed = set k OVERDUE (overdueAfter s refreshAt (at k OVERDUE))
 
   abbrev pub alone : Tried
   alone = trying s (paceOf (s .mode)) k free (asksWrite q) (cellBank s (firstCell q))

@@ -15,7 +15,7 @@ use Rattle.turns.specs.Turns.{Turn}
 unfoldable pub cycleFor : ℕ → ℕ → ℕ
 cycleFor free soonest = later free soonest % 2 ^ 32
 
--- an AUTO REFRESH placed next comes at most GAP after the last one
+-- an AUTO REFRESH placed next comes while at most eight are owed
 unfoldable pub inTime : List ℕ → ℕ → Bool
 inTime d free = ltb (later free (refreshSoonest d)) (at d OVERDUE)
 

@@ -203,7 +203,7 @@ pub fn serve(s: &Settings, k: &mut Between, pace: &Pace, free: u64, q: u32) -> P
         };
     }
     let refresh = cycle_for(free, refresh_soonest(&*k));
-    k[OVERDUE] = clock::overdue_from(s, refresh);
+    k[OVERDUE] = clock::overdue_after(s, refresh, k[OVERDUE]);
     let behind = request(s, &*k, pace, after(refresh, s[T_RFC]), write, b);
     take(s, k, pace, write, b, behind);
     if !behind.kept {

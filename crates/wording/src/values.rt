@@ -45,7 +45,7 @@ fn say_name(out: &mut Out, i: u32) {
         10 => say(out, b"tWTR"),
         11 => say(out, b"tRFC"),
         12 => say(out, b"tMRD"),
-        13 => say(out, b"GAP"),
+        13 => say(out, b"tREFI"),
         14 => say(out, b"tXP"),
         _ => say(out, b"tXSR"),
     }

@@ -12,15 +12,18 @@ after-requires c κs = search needs
 element-write-d : tie.Need-element-write-d
 element-write-d c = search needs
 
-overdue-from-requires : tie.Need-overdue-from-requires
-overdue-from-requires c κs = search needs
+element-copy-out-overdue-after : tie.Need-element-copy-out-overdue-after
+element-copy-out-overdue-after c = search needs
+
+overdue-after-requires : tie.Need-overdue-after-requires
+overdue-after-requires c κs = search needs
 
 element-write-d-2 : tie.Need-element-write-d-2
 element-write-d-2 c = search needs
 
 returns : tie.Need-returns
 unfolding refreshAfter
-returns c = rw (c .overdue-from .ensures, c .before .after .ensures)
+returns c = rw (c .overdue-after .ensures, c .before .before .after .ensures)
 
 pub refresh-after-spec : {M : Type 1} → statement M
 refresh-after-spec =
@@ -29,6 +32,7 @@ refresh-after-spec =
     element-copy-out-after
     after-requires
     element-write-d
-    overdue-from-requires
+    element-copy-out-overdue-after
+    overdue-after-requires
     element-write-d-2
     returns)

@@ -19,7 +19,7 @@ words-written : bytesOf (0x01020304 ∷ 0xa0b0c0d0 ∷ []) ≡ 0x04 ∷ 0x03 ∷
 unfolding bytesOf wordBytes
 words-written = refl
 
--- fourteen words: the usual settings with GAP 1,000,000
+-- fourteen words: the usual settings with tREFI 1,000,000
 abbrev settingBytes : List ℕ
 settingBytes =
     0x01 ∷ 0 ∷ 0 ∷ 0 ∷ 0x0d ∷ 0 ∷ 0 ∷ 0 ∷ 0x0a ∷ 0 ∷ 0 ∷ 0 ∷ 0x32 ∷ 0 ∷ 0 ∷ 0

@@ -18,7 +18,7 @@ one = 8388608
 abbrev three : ℕ
 three = 25165824
 
--- no two times alike: tRCD 4, tRP 5, tRAS 11, tRC 16, tRRD 3, tWR 6, tWTR 2, tRFC 13, tMRD 7, GAP 900
+-- no two times alike: tRCD 4, tRP 5, tRAS 11, tRC 16, tRRD 3, tWR 6, tWTR 2, tRFC 13, tMRD 7, tREFI 900
 abbrev unlike : List ℕ
 unlike = 1 ∷ 13 ∷ 10 ∷ 0x32 ∷ 4 ∷ 5 ∷ 11 ∷ 16 ∷ 3 ∷ 6 ∷ 2 ∷ 13 ∷ 7 ∷ 900 ∷ []
 
@@ -159,7 +159,7 @@ rule6 =
     ∷ lineUnder (set unlike 7 17) (at 0 ACTIVE ∷ at 11 PRECHARGE ∷ at 16 ACTIVE ∷ []) (breaks 2 6 2 16)
     ∷ lineUnder (set unlike 7 17) (at 0 ACTIVE ∷ at 11 PRECHARGE ∷ at 17 ACTIVE ∷ []) (touches 3 [])
     -- rules 14 and 15 are asked behind it
-    ∷ line (at 1001 NOP ∷ []) (breaks 0 14 0 1001)
+    ∷ line (at 9000 NOP ∷ []) (breaks 0 14 0 9000)
     ∷ lineUnder sleeping (at 0 (NOP + LOW) ∷ at 5 ACTIVE ∷ []) (breaks 1 15 1 5)
     ∷ []
 
@@ -317,27 +317,50 @@ rule-13 : HoldLines rule13
 unfolding rule13 saidOf
 rule-13 = refl
 
+-- tREFI 100
+abbrev quick : List ℕ
+quick = set usual 13 100
+
 rule14 : List Line
 rule14 =
-    -- after the last AUTO REFRESH: 1000 + 1000, 1500 + 1000
-    line (at 1000 REFRESH ∷ at 2001 NOP ∷ []) (breaks 1 14 1 2001)
-    ∷ line (at 500 REFRESH ∷ at 1500 REFRESH ∷ at 2500 NOP ∷ []) (touches 3 [])
-    ∷ line (at 500 REFRESH ∷ at 1500 REFRESH ∷ at 2501 NOP ∷ []) (breaks 2 14 2 2501)
+    -- nine are owed at 9 x 1000
+    line (at 8999 NOP ∷ []) (touches 1 [])
+    ∷ line (at 9000 NOP ∷ []) (breaks 0 14 0 9000)
+    -- tREFI 100: asked before it is paid; at 899 the ninth is still to come
+    ∷ lineUnder quick (at 899 NOP ∷ []) (touches 1 [])
+    ∷ lineUnder quick (at 900 NOP ∷ []) (breaks 0 14 0 900)
+    ∷ lineUnder quick (at 899 REFRESH ∷ []) (touches 1 [])
+    ∷ lineUnder quick (at 900 REFRESH ∷ []) (breaks 0 14 0 900)
+    -- no credit: nothing is owed at 50, nor at 0
+    ∷ lineUnder quick (at 50 REFRESH ∷ at 899 NOP ∷ []) (touches 2 [])
+    ∷ lineUnder quick (at 50 REFRESH ∷ at 900 NOP ∷ []) (breaks 1 14 1 900)
+    ∷ lineUnder quick (at 0 REFRESH ∷ at 900 NOP ∷ []) (breaks 1 14 1 900)
+    -- at 100 it rises before it is paid; eight are owed at 899, and one is paid
+    ∷ lineUnder quick (at 99 REFRESH ∷ at 900 NOP ∷ []) (breaks 1 14 1 900)
+    ∷ lineUnder quick (at 100 REFRESH ∷ at 999 NOP ∷ []) (touches 2 [])
+    ∷ lineUnder quick (at 100 REFRESH ∷ at 1000 NOP ∷ []) (breaks 1 14 1 1000)
+    ∷ lineUnder quick (at 899 REFRESH ∷ at 999 NOP ∷ []) (touches 2 [])
+    ∷ lineUnder quick (at 899 REFRESH ∷ at 1000 NOP ∷ []) (breaks 1 14 1 1000)
+    -- two are owed at 250: two are paid, and the third AUTO REFRESH pays none
+    ∷ lineUnder quick (at 250 REFRESH ∷ at 270 REFRESH ∷ at 290 REFRESH ∷ at 1099 NOP ∷ []) (touches 4 [])
+    ∷ lineUnder quick (at 250 REFRESH ∷ at 270 REFRESH ∷ at 290 REFRESH ∷ at 1100 NOP ∷ []) (breaks 3 14 3 1100)
+    -- a board that refreshes one time in eight: of eight one is paid at 800, and nine are owed at 1000
+    ∷ lineUnder quick (at 800 REFRESH ∷ at 1000 NOP ∷ []) (breaks 1 14 1 1000)
     -- every event
-    ∷ line (at 1001 DESELECT ∷ []) (breaks 0 14 0 1001)
-    ∷ line (at 1001 ACTIVE ∷ []) (breaks 0 14 0 1001)
-    ∷ line (at 1001 (MODE + 0x32) ∷ []) (breaks 0 14 0 1001)
-    ∷ line (at 0 ACTIVE ∷ at 1001 READ ∷ []) (breaks 1 14 1 1001)
-    ∷ line (at 0 ACTIVE ∷ at 1001 WRITE ∷ []) (breaks 1 14 1 1001)
-    -- after no other command: there is no AUTO REFRESH, so 0 + 1000
-    ∷ line (at 500 NOP ∷ at 1001 NOP ∷ []) (breaks 1 14 1 1001)
-    ∷ line (at 500 DESELECT ∷ at 1001 NOP ∷ []) (breaks 1 14 1 1001)
-    ∷ line (at 500 ACTIVE ∷ at 1001 NOP ∷ []) (breaks 1 14 1 1001)
-    ∷ line (at 0 ACTIVE ∷ at 500 READ ∷ at 1001 NOP ∷ []) (breaks 2 14 2 1001)
-    ∷ line (at 0 ACTIVE ∷ at 500 WRITE ∷ at 1001 NOP ∷ []) (breaks 2 14 2 1001)
-    ∷ line (at 500 TERMINATE ∷ at 1001 NOP ∷ []) (breaks 1 14 1 1001)
-    ∷ line (at 500 PRECHARGE ∷ at 1001 NOP ∷ []) (breaks 1 14 1 1001)
-    ∷ line (at 500 (MODE + 0x32) ∷ at 1001 NOP ∷ []) (breaks 1 14 1 1001)
+    ∷ line (at 9000 DESELECT ∷ []) (breaks 0 14 0 9000)
+    ∷ line (at 9000 ACTIVE ∷ []) (breaks 0 14 0 9000)
+    ∷ line (at 9000 (MODE + 0x32) ∷ []) (breaks 0 14 0 9000)
+    ∷ line (at 0 ACTIVE ∷ at 9000 READ ∷ []) (breaks 1 14 1 9000)
+    ∷ line (at 0 ACTIVE ∷ at 9000 WRITE ∷ []) (breaks 1 14 1 9000)
+    -- no other command pays
+    ∷ line (at 500 NOP ∷ at 9000 NOP ∷ []) (breaks 1 14 1 9000)
+    ∷ line (at 500 DESELECT ∷ at 9000 NOP ∷ []) (breaks 1 14 1 9000)
+    ∷ line (at 500 ACTIVE ∷ at 9000 NOP ∷ []) (breaks 1 14 1 9000)
+    ∷ line (at 0 ACTIVE ∷ at 500 READ ∷ at 9000 NOP ∷ []) (breaks 2 14 2 9000)
+    ∷ line (at 0 ACTIVE ∷ at 500 WRITE ∷ at 9000 NOP ∷ []) (breaks 2 14 2 9000)
+    ∷ line (at 500 TERMINATE ∷ at 9000 NOP ∷ []) (breaks 1 14 1 9000)
+    ∷ line (at 500 PRECHARGE ∷ at 9000 NOP ∷ []) (breaks 1 14 1 9000)
+    ∷ line (at 500 (MODE + 0x32) ∷ at 9000 NOP ∷ []) (breaks 1 14 1 9000)
     ∷ []
 
 rule-14 : HoldLines rule14
@@ -376,9 +399,9 @@ ownSettings =
     ∷ lineUnder unlike (at 0 ACTIVE ∷ at 10 (READ + A10) ∷ at 17 ACTIVE ∷ []) (touches 3 (four 0))
     ∷ lineUnder unlike (at 0 ACTIVE ∷ at 4 (READ + A10) ∷ at 15 REFRESH ∷ []) (breaks 2 5 2 15)
     ∷ lineUnder unlike (at 0 ACTIVE ∷ at 4 (READ + A10) ∷ at 16 REFRESH ∷ []) (touches 3 (four 0))
-    -- GAP
-    ∷ lineUnder unlike (at 900 NOP ∷ []) (touches 1 [])
-    ∷ lineUnder unlike (at 901 NOP ∷ []) (breaks 0 14 0 901)
+    -- tREFI, nine times
+    ∷ lineUnder unlike (at 8099 NOP ∷ []) (touches 1 [])
+    ∷ lineUnder unlike (at 8100 NOP ∷ []) (breaks 0 14 0 8100)
     ∷ []
 
 own-settings : HoldLines ownSettings
@@ -403,10 +426,10 @@ byLists =
     ∷ by (9 ∷ 14 ∷ []) (at 0 ACTIVE ∷ at 2 READ ∷ at 6 PRECHARGE ∷ []) (broken 9 2 6)
     ∷ by (8 ∷ 14 ∷ []) (at 0 ACTIVE ∷ at 6 PRECHARGE ∷ at 7 NOP ∷ []) clean
     ∷ by [] (at 0 READ ∷ at 2001 READ ∷ []) clean
-    ∷ by (14 ∷ []) (at 0 READ ∷ at 1001 READ ∷ []) (broken 14 1 1001)
+    ∷ by (14 ∷ []) (at 0 READ ∷ at 9000 READ ∷ []) (broken 14 1 9000)
     -- placing asks no rule above 13
-    ∷ by placing (at 1001 NOP ∷ []) clean
-    ∷ by rules (at 1001 NOP ∷ []) (broken 14 0 1001)
+    ∷ by placing (at 9000 NOP ∷ []) clean
+    ∷ by rules (at 9000 NOP ∷ []) (broken 14 0 9000)
     ∷ []
 
 by-lists : map (λ x. verdictBy (x .asked) (settingsOf usual) (x .events)) byLists ≡ map (λ x. x .found) byLists
@@ -414,9 +437,9 @@ unfolding byLists verdictBy judgeBy
 by-lists = refl
 
 -- what is asked by all rules of one event, and of events from some event on
-by-all-rules : brokenBy (settingsOf usual) (start (settingsOf usual)) (at 1001 NOP) ≡ some 14
+by-all-rules : brokenBy (settingsOf usual) (start (settingsOf usual)) (at 9000 NOP) ≡ some 14
 by-all-rules = refl
 
-from-some-event : judgeFrom (settingsOf usual) (start (settingsOf usual)) 5 (at 1001 NOP ∷ []) ≡ broken 14 5 1001
+from-some-event : judgeFrom (settingsOf usual) (start (settingsOf usual)) 5 (at 9000 NOP ∷ []) ≡ broken 14 5 9000
 unfolding judgeBy
 from-some-event = refl

@@ -37,8 +37,8 @@ cases =
     ∷ case (at 1 REFRESH ∷ at 13 ACTIVE ∷ []) (touches 2 [])
     ∷ case (at 1 REFRESH ∷ at 12 ACTIVE ∷ []) (breaks 1 4 1 12)
     -- j
-    ∷ case (at 1000 NOP ∷ []) (touches 1 [])
-    ∷ case (at 1001 NOP ∷ []) (breaks 0 14 0 1001)
+    ∷ case (at 8999 NOP ∷ []) (touches 1 [])
+    ∷ case (at 9000 NOP ∷ []) (breaks 0 14 0 9000)
     -- k
     ∷ case (at 0 ACTIVE ∷ at 3 (READ + 5) ∷ []) (touches 2 (5 ∷ 6 ∷ 7 ∷ 4 ∷ []))
     ∷ under (set usual 3 0x3a) (at 0 ACTIVE ∷ at 3 (READ + 5) ∷ []) (touches 2 (5 ∷ 4 ∷ 7 ∷ 6 ∷ []))

@@ -79,13 +79,13 @@ readings =
     ∷ case (at 1 REFRESH ∷ at 12 TERMINATE ∷ []) (breaks 1 4 1 12)
     ∷ case (at 1 REFRESH ∷ at 12 PRECHARGE ∷ []) (breaks 1 4 1 12)
     ∷ case (at 1 REFRESH ∷ at 2 NOP ∷ at 3 DESELECT ∷ []) (touches 3 [])
-    ∷ case (at 1001 TERMINATE ∷ []) (breaks 0 14 0 1001)
-    ∷ case (at 1001 (PRECHARGE + A10) ∷ []) (breaks 0 14 0 1001)
+    ∷ case (at 9000 TERMINATE ∷ []) (breaks 0 14 0 9000)
+    ∷ case (at 9000 (PRECHARGE + A10) ∷ []) (breaks 0 14 0 9000)
     -- a PRECHARGE during a burst with auto precharge meets an idle bank
     ∷ case (at 0 ACTIVE ∷ at 3 (READ + A10) ∷ at 4 (PRECHARGE + A10) ∷ at 10 ACTIVE ∷ []) (touches 4 (0 ∷ 1 ∷ 2 ∷ 3 ∷ []))
     -- an AUTO REFRESH is held to rule 14 itself
-    ∷ case (at 1000 REFRESH ∷ at 2000 NOP ∷ []) (touches 2 [])
-    ∷ case (at 1001 REFRESH ∷ []) (breaks 0 14 0 1001)
+    ∷ case (at 8999 REFRESH ∷ at 9999 NOP ∷ []) (touches 2 [])
+    ∷ case (at 9000 REFRESH ∷ []) (breaks 0 14 0 9000)
     -- a burst goes to its own bank's row, whatever rows the others are open on: (1 x 8192 + 3) x 1024 + 5
     ∷ case (at 0 (ACTIVE + 7) ∷ at 2 (ACTIVE + bank 1 + 3) ∷ at 5 (READ + bank 1 + 5) ∷ []) (touches 3 (8391685 ∷ 8391686 ∷ 8391687 ∷ 8391684 ∷ []))
     -- a row or a pin beyond the part

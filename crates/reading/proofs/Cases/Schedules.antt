@@ -41,11 +41,14 @@ requestsM = 5 ∷ (0x80000000 + 8388608) ∷ 5 ∷ 8388608 ∷ []
 
 cases : List Case
 cases =
-    -- m, with GAP 24 and 16
-    writing (set usual 13 24) requestsM 152 3
+    -- m: with tREFI 4 nine are owed at 36, behind all of it; with 2 at 18
+    writing (set usual 13 4) requestsM 144 3
     (at 0 ACTIVE ∷ at 3 (READ + A10 + 5) ∷ at 4 (ACTIVE + bank 1) ∷ at 8 (WRITE + A10 + bank 1) ∷ at 10 ACTIVE
-    ∷ at 13 (READ + A10 + 5) ∷ at 20 REFRESH ∷ at 32 (ACTIVE + bank 1) ∷ at 35 (READ + A10 + bank 1) ∷ [])
-    ∷ refusing (set usual 13 16) requestsM [] 6 1
+    ∷ at 13 (READ + A10 + 5) ∷ at 17 (ACTIVE + bank 1) ∷ at 20 (READ + A10 + bank 1) ∷ [])
+    ∷ writing usual requestsM 144 0
+    (at 0 ACTIVE ∷ at 3 (READ + A10 + 5) ∷ at 4 (ACTIVE + bank 1) ∷ at 8 (WRITE + A10 + bank 1) ∷ at 10 ACTIVE
+    ∷ at 13 (READ + A10 + 5) ∷ at 17 (ACTIVE + bank 1) ∷ at 20 (READ + A10 + bank 1) ∷ [])
+    ∷ refusing (set usual 13 2) requestsM [] 6 2
     -- no requests: a capture without events
     ∷ writing usual [] 80 1 []
     -- column bit 10 goes to A11, the row to A0-A13
@@ -59,18 +62,19 @@ cases =
     -- bursts of sixteen wait for their like: 3 + 8
     ∷ writing (set usual 3 0x34) (0 ∷ 8388608 ∷ []) 112 0
     (at 0 ACTIVE ∷ at 3 (READ + A10) ∷ at 4 (ACTIVE + bank 1) ∷ at 11 (READ + A10 + bank 1) ∷ [])
-    -- an AUTO REFRESH after the read could come at 0 + 7 + 3, after the write at 3 + 1 + 2 + 3 + 3: GAP just so, and one less
-    ∷ writing (set usual 13 10) (5 ∷ []) 96 0 (at 0 ACTIVE ∷ at 3 (READ + A10 + 5) ∷ [])
-    ∷ refusing (set usual 13 9) (5 ∷ []) [] 6 0
-    ∷ writing (set usual 13 12) (0x80000000 ∷ []) 96 0 (at 0 ACTIVE ∷ at 3 (WRITE + A10) ∷ [])
-    ∷ refusing (set usual 13 11) (0x80000000 ∷ []) [] 6 0
-    -- tRFC 5: after a second read at 10 + 7 + 3, and with an AUTO REFRESH at 10 before it at 15 + 7 + 3
-    ∷ writing (set (set usual 11 5) 13 20) (5 ∷ 5 ∷ []) 112 0 (at 0 ACTIVE ∷ at 3 (READ + A10 + 5) ∷ at 10 ACTIVE ∷ at 13 (READ + A10 + 5) ∷ [])
-    ∷ writing (set (set usual 11 5) 13 19) (5 ∷ 5 ∷ []) 120 0
-    (at 0 ACTIVE ∷ at 3 (READ + A10 + 5) ∷ at 10 REFRESH ∷ at 15 ACTIVE ∷ at 18 (READ + A10 + 5) ∷ [])
-    ∷ writing (set (set usual 11 5) 13 15) (5 ∷ 5 ∷ []) 120 0
-    (at 0 ACTIVE ∷ at 3 (READ + A10 + 5) ∷ at 10 REFRESH ∷ at 15 ACTIVE ∷ at 18 (READ + A10 + 5) ∷ [])
-    ∷ refusing (set (set usual 11 5) 13 14) (5 ∷ 5 ∷ []) [] 6 1
+    -- tREFI 2, nine are owed at 18: an AUTO REFRESH after the read could come at 0 + 7 + tRP, just in time and one too late;
+    -- after the write at 3 + 1 + 2 + 3 + tRP; one at 0 before them pays nothing
+    ∷ writing (set (set usual 5 10) 13 2) (5 ∷ []) 96 0 (at 0 ACTIVE ∷ at 3 (READ + A10 + 5) ∷ [])
+    ∷ refusing (set (set usual 5 11) 13 2) (5 ∷ []) [] 6 0
+    ∷ writing (set (set usual 5 8) 13 2) (0x80000000 ∷ []) 96 0 (at 0 ACTIVE ∷ at 3 (WRITE + A10) ∷ [])
+    ∷ refusing (set (set usual 5 9) 13 2) (0x80000000 ∷ []) [] 6 0
+    -- tWR 200, tREFI 24: after the write at 6 + 200 + 3 eight are owed; after a read behind it, at 219, nine; with one paid at
+    -- 209 nine are owed at 240, and after the read at 209 + tRFC + 7 + 3
+    ∷ writing (set (set usual 9 200) 13 24) (0x80000000 ∷ 0 ∷ []) 120 0
+    (at 0 ACTIVE ∷ at 3 (WRITE + A10) ∷ at 209 REFRESH ∷ at 221 ACTIVE ∷ at 224 (READ + A10) ∷ [])
+    ∷ writing (set (set (set usual 9 200) 11 20) 13 24) (0x80000000 ∷ 0 ∷ []) 120 0
+    (at 0 ACTIVE ∷ at 3 (WRITE + A10) ∷ at 209 REFRESH ∷ at 229 ACTIVE ∷ at 232 (READ + A10) ∷ [])
+    ∷ refusing (set (set (set usual 9 200) 11 21) 13 24) (0x80000000 ∷ 0 ∷ []) [] 6 1
     -- 2, 3, 5: settings, then requests, all of them before any is placed
     ∷ refusing [] [] [] 2 0
     ∷ refusing (take 13 usual) [] [] 2 0

@@ -14,6 +14,10 @@ quietly n es = under sleeping es (touches n [])
 abbrev breaking : List Event → ℕ → ℕ → ℕ → Case
 breaking es n r t = under sleeping es (breaks n r n t)
 
+-- tREFI 100
+abbrev owing : List ℕ
+owing = set sleeping 13 100
+
 lines : List Case
 lines =
     -- tXP
@@ -32,13 +36,17 @@ lines =
     ∷ quietly 3 (at 5 (REFRESH + LOW) ∷ at 5000 NOP ∷ at 5020 ACTIVE ∷ [])
     ∷ breaking (at 5 (REFRESH + LOW) ∷ at 5000 NOP ∷ at 5019 ACTIVE ∷ []) 2 15 5019
     -- rule 14 anew
-    ∷ quietly 4 (at 5 (REFRESH + LOW) ∷ at 2500 (NOP + LOW) ∷ at 5000 NOP ∷ at 6000 NOP ∷ [])
-    ∷ breaking (at 5 (REFRESH + LOW) ∷ at 2500 (NOP + LOW) ∷ at 5000 NOP ∷ at 6001 NOP ∷ []) 3 14 6001
+    ∷ quietly 4 (at 5 (REFRESH + LOW) ∷ at 2500 (NOP + LOW) ∷ at 5000 NOP ∷ at 13999 NOP ∷ [])
+    ∷ breaking (at 5 (REFRESH + LOW) ∷ at 2500 (NOP + LOW) ∷ at 5000 NOP ∷ at 14000 NOP ∷ []) 3 14 14000
+    ∷ under owing (at 800 (REFRESH + LOW) ∷ at 5050 NOP ∷ at 5949 NOP ∷ []) (touches 3 [])
+    ∷ under owing (at 800 (REFRESH + LOW) ∷ at 5050 NOP ∷ at 5950 NOP ∷ []) (breaks 2 14 2 5950)
     -- rule 14 in power-down
-    ∷ quietly 2 (at 0 (NOP + LOW) ∷ at 1000 NOP ∷ [])
-    ∷ breaking (at 0 (NOP + LOW) ∷ at 1001 NOP ∷ []) 1 14 1001
-    ∷ breaking (at 0 (NOP + LOW) ∷ at 500 NOP ∷ at 1001 NOP ∷ []) 2 14 1001
-    ∷ breaking (at 0 (NOP + LOW) ∷ at 1001 ACTIVE ∷ []) 1 14 1001
+    ∷ quietly 2 (at 0 (NOP + LOW) ∷ at 8999 NOP ∷ [])
+    ∷ under owing (at 800 (NOP + LOW) ∷ at 899 NOP ∷ []) (touches 2 [])
+    ∷ under owing (at 800 (NOP + LOW) ∷ at 900 NOP ∷ []) (breaks 1 14 1 900)
+    ∷ breaking (at 0 (NOP + LOW) ∷ at 9000 NOP ∷ []) 1 14 9000
+    ∷ breaking (at 0 (NOP + LOW) ∷ at 500 NOP ∷ at 9000 NOP ∷ []) 2 14 9000
+    ∷ breaking (at 0 (NOP + LOW) ∷ at 9000 ACTIVE ∷ []) 1 14 9000
     -- read end, whole and cut, and data end
     ∷ under sleeping (at 0 ACTIVE ∷ at 3 READ ∷ at 8 (NOP + LOW) ∷ []) (touches 3 (0 ∷ 1 ∷ 2 ∷ 3 ∷ []))
     ∷ breaking (at 0 ACTIVE ∷ at 3 READ ∷ at 7 (NOP + LOW) ∷ []) 2 15 7
@@ -62,7 +70,8 @@ lines =
     ∷ breaking (at 0 (TERMINATE + LOW) ∷ []) 0 15 0
     ∷ breaking (at 0 (READ + LOW) ∷ []) 0 3 0
     ∷ breaking (at 0 ACTIVE ∷ at 20 (REFRESH + LOW) ∷ []) 1 3 20
-    ∷ breaking (at 1001 (REFRESH + LOW) ∷ []) 0 14 1001
+    ∷ quietly 1 (at 8999 (REFRESH + LOW) ∷ [])
+    ∷ breaking (at 9000 (REFRESH + LOW) ∷ []) 0 14 9000
     -- while low
     ∷ breaking (at 0 (NOP + LOW) ∷ at 5 (READ + LOW) ∷ []) 1 3 5
     ∷ breaking (at 0 (NOP + LOW) ∷ at 5 (ACTIVE + LOW + 0x2000) ∷ []) 1 1 5
@@ -98,9 +107,9 @@ clauses =
     ∷ breaking (at 0 (NOP + LOW) ∷ at 5 (REFRESH + LOW) ∷ []) 1 15 5
     ∷ breaking (at 0 (NOP + LOW) ∷ at 1 NOP ∷ at 2 REFRESH ∷ []) 2 15 2
     -- in power-down rule 14 is asked of what stays, and before rule 15
-    ∷ breaking (at 0 (NOP + LOW) ∷ at 1001 (NOP + LOW) ∷ []) 1 14 1001
-    ∷ breaking (at 0 (NOP + LOW) ∷ at 1001 (TERMINATE + LOW) ∷ []) 1 14 1001
-    ∷ breaking (at 0 (NOP + LOW) ∷ at 999 NOP ∷ at 1001 (NOP + LOW) ∷ []) 2 14 1001
+    ∷ breaking (at 0 (NOP + LOW) ∷ at 9000 (NOP + LOW) ∷ []) 1 14 9000
+    ∷ breaking (at 0 (NOP + LOW) ∷ at 9000 (TERMINATE + LOW) ∷ []) 1 14 9000
+    ∷ breaking (at 0 (NOP + LOW) ∷ at 8998 NOP ∷ at 9000 (NOP + LOW) ∷ []) 2 14 9000
     -- not asked of a command in self refresh, nor of a wrong exit; a wrong entry names lower rules first
     ∷ breaking (at 0 (REFRESH + LOW) ∷ at 5000 (TERMINATE + LOW) ∷ []) 1 15 5000
     ∷ breaking (at 0 REFRESH ∷ at 5 (TERMINATE + LOW) ∷ []) 1 4 5
@@ -109,8 +118,14 @@ clauses =
     (touches 3 (0 ∷ 1 ∷ 2 ∷ 3 ∷ []))
     -- a capture may end asleep, and wakes to rule 14's end
     ∷ quietly 1 (at 7 (REFRESH + LOW) ∷ [])
-    ∷ quietly 3 (at 5 (REFRESH + LOW) ∷ at 5000 NOP ∷ at 6000 (NOP + LOW) ∷ [])
-    ∷ breaking (at 5 (REFRESH + LOW) ∷ at 5000 NOP ∷ at 6001 (NOP + LOW) ∷ []) 2 14 6001
+    ∷ quietly 3 (at 5 (REFRESH + LOW) ∷ at 5000 NOP ∷ at 13999 (NOP + LOW) ∷ [])
+    ∷ breaking (at 5 (REFRESH + LOW) ∷ at 5000 NOP ∷ at 14000 (NOP + LOW) ∷ []) 2 14 14000
+    -- what was paid before self refresh is not kept, and entering it pays nothing
+    ∷ under owing (at 500 REFRESH ∷ at 520 REFRESH ∷ at 600 (REFRESH + LOW) ∷ at 601 NOP ∷ at 1500 NOP ∷ []) (touches 5 [])
+    ∷ under owing (at 500 REFRESH ∷ at 520 REFRESH ∷ at 600 (REFRESH + LOW) ∷ at 601 NOP ∷ at 1501 NOP ∷ []) (breaks 4 14 4 1501)
+    -- and after it an AUTO REFRESH pays what is owed since
+    ∷ under owing (at 0 (REFRESH + LOW) ∷ at 50 NOP ∷ at 150 REFRESH ∷ at 1049 NOP ∷ []) (touches 4 [])
+    ∷ under owing (at 0 (REFRESH + LOW) ∷ at 50 NOP ∷ at 149 REFRESH ∷ at 950 NOP ∷ []) (breaks 3 14 3 950)
     ∷ []
 
 each-clause : Hold clauses

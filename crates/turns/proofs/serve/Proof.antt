@@ -42,8 +42,11 @@ refresh-soonest-requires c κs = search needs
 cycle-for-requires : tie.Need-cycle-for-requires
 cycle-for-requires c κs = search needs
 
-overdue-from-requires : tie.Need-overdue-from-requires
-overdue-from-requires c κs = search needs
+element-copy-out-overdue-after : tie.Need-element-copy-out-overdue-after
+element-copy-out-overdue-after c = search needs
+
+overdue-after-requires : tie.Need-overdue-after-requires
+overdue-after-requires c κs = search needs
 
 element-write-k : tie.Need-element-write-k
 element-write-k c = search needs
@@ -56,38 +59,38 @@ after-requires c κs = search needs
 
 request-requires-2 : tie.Need-request-requires-2
 request-requires-2 c κs =
-    let chosen = c .before .before .before .before .before .before .before in
+    let chosen = c .before .before .before .before .before .before .before .before in
     low (chosen .before .before .before .before)
 
 take-requires-2 : tie.Need-take-requires-2
 take-requires-2 c κs =
-    let chosen = c .before .before .before .before .before .before .before .before .before in
+    let chosen = c .before .before .before .before .before .before .before .before .before .before in
     low (chosen .before .before .before .before)
 
 returns-2 : tie.Need-returns-2
 returns-2 c =
     let taken = c .before .before in
-    let refreshed = taken .before .before .before .before .before .before .before in
+    let refreshed = taken .before .before .before .before .before .before .before .before in
     let chosen = refreshed .before .before .before in
     let banked = chosen .before .before .before .before in
     let start = banked .before in
     served-late (settingsOf (start .args .s .now)) (start .args .k .now) (start .args .free) (start .args .q) (start .pre .1)
     (chosen .before .before .before .asks-write .ensures) (banked .bank .ensures) (chosen .before .request .ensures) (chosen .if1 .left)
     (refreshed .cycle-for .ensures ∙ ap (cycleFor (start .args .free)) (refreshed .before .refresh-soonest .ensures))
-    (taken .before .before .before .before .before .before .overdue-from .ensures) (taken .before .before .before .after .ensures)
+    (taken .before .before .before .before .before .before .overdue-after .ensures) (taken .before .before .before .after .ensures)
     (taken .before .before .request2 .ensures) (taken .take2 .ensures) (not-true _ (c .if2 .taken))
 
 returns-3 : tie.Need-returns-3
 returns-3 c =
     let taken = c .before .before in
-    let refreshed = taken .before .before .before .before .before .before .before in
+    let refreshed = taken .before .before .before .before .before .before .before .before in
     let chosen = refreshed .before .before .before in
     let banked = chosen .before .before .before .before in
     let start = banked .before in
     served-behind (settingsOf (start .args .s .now)) (start .args .k .now) (start .args .free) (start .args .q) (start .pre .1)
     (chosen .before .before .before .asks-write .ensures) (banked .bank .ensures) (chosen .before .request .ensures) (chosen .if1 .left)
     (refreshed .cycle-for .ensures ∙ ap (cycleFor (start .args .free)) (refreshed .before .refresh-soonest .ensures))
-    (taken .before .before .before .before .before .before .overdue-from .ensures) (taken .before .before .before .after .ensures)
+    (taken .before .before .before .before .before .before .overdue-after .ensures) (taken .before .before .before .after .ensures)
     (taken .before .before .request2 .ensures) (taken .take2 .ensures) (not-false _ (c .if2 .left))
 
 pub serve-spec : {M : Type 1} → statement M
@@ -102,7 +105,8 @@ serve-spec =
     returns
     refresh-soonest-requires
     cycle-for-requires
-    overdue-from-requires
+    element-copy-out-overdue-after
+    overdue-after-requires
     element-write-k
     element-copy-out-after
     after-requires
