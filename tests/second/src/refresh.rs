@@ -42,6 +42,11 @@ impl Owed {
         self.from + (self.multiples(self.counted) + more) * self.t_refi
     }
 
+    /// The first multiple after a cycle.
+    pub fn next_multiple(&self, cycle: u64) -> u64 {
+        self.from + (self.multiples(cycle) + 1) * self.t_refi
+    }
+
     /// The positive multiples up to a cycle.
     fn multiples(&self, cycle: u64) -> u64 {
         (cycle - self.from) / self.t_refi

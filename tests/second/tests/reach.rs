@@ -40,6 +40,8 @@ enum Clause {
     PaidBack,
     /// An AUTO REFRESH at a multiple, which it pays back at once.
     RefreshAtMultiple,
+    /// The same a cycle earlier, with none owed.
+    RefreshBeforeMultiple,
     Rule14OfRefresh,
     Rule14OfNop,
 }
@@ -63,6 +65,7 @@ fn all_clauses() -> Vec<Clause> {
         Rule14AfterSelfRefresh,
         PaidBack,
         RefreshAtMultiple,
+        RefreshBeforeMultiple,
         Rule14OfRefresh,
         Rule14OfNop,
     ];
@@ -114,10 +117,12 @@ fn refreshed(part: &Part, cycle: u64) -> Vec<Clause> {
         |last: u64| last > from && (last - from) / t_refi == (cycle - from) / t_refi;
     let paid_back = owed > 0 && part.refresh.is_some_and(same_multiple);
     let at_multiple = cycle > from && (cycle - from) % t_refi == 0;
+    let before_multiple = owed == 0 && cycle + 1 == part.owed.next_multiple(cycle);
     let clauses = [
         Some(RefreshWithOwed(owed)),
         paid_back.then_some(PaidBack),
         at_multiple.then_some(RefreshAtMultiple),
+        before_multiple.then_some(RefreshBeforeMultiple),
     ];
     clauses.into_iter().flatten().collect()
 }

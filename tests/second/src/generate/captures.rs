@@ -301,14 +301,21 @@ impl<'a> Builder<'a> {
         let slack = if refreshing { 0 } else { self.slack() };
         let mut cycle = soonest + slack;
         let refreshes = asked.command == Command::AutoRefresh;
-        if refreshes && soonest <= self.due() && self.dice.percent(20) {
-            cycle = self.due();
+        if refreshes && soonest <= self.due() && self.dice.percent(40) {
+            cycle = self.telling_cycle(soonest);
         }
         if cycle > self.due() || cycle > u64::from(LAST_CYCLE) {
             return false;
         }
         self.push_applied(cycle, asked);
         true
+    }
+
+    /// Where a refresh tells most: when it is due, at a multiple of tREFI, or just before.
+    fn telling_cycle(&mut self, soonest: u64) -> u64 {
+        let multiple = self.part.owed.next_multiple(soonest);
+        let cycles = [self.due(), self.due(), multiple, multiple - 1];
+        self.dice.pick(&cycles).min(self.due())
     }
 
     /// Adds an event soon after the one before. False where the capture must end.
