@@ -64,8 +64,8 @@ FAULTS_ASLEEP = [
     (15, [(0, ACTIVE), (3, WRITE), (5, NOP | LOW)]),
     (15, [(0, BURST_TERMINATE | LOW)]),
     (15, [(0, NOP | LOW), (5, PRECHARGE | LOW)]),
-    (15, [(0, AUTO_REFRESH | LOW), (5000, ACTIVE)]),
-    (15, [(0, AUTO_REFRESH | LOW), (5000, MODE_REGISTER_SET | LOW | 0x32)]),
+    (15, [(0, AUTO_REFRESH | LOW), (10_000, ACTIVE)]),
+    (15, [(0, AUTO_REFRESH | LOW), (10_000, MODE_REGISTER_SET | LOW | 0x32)]),
 ]
 
 

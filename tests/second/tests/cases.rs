@@ -134,7 +134,7 @@ fn case_m_a_schedule_without_a_refresh() {
         (17, active(1)),
         (20, read_auto(1)),
     ];
-    for t_refi in [4, 5, 16, 24, 1000] {
+    for t_refi in 4..=1000 {
         let settings = with_t_refi(t_refi);
         assert_eq!(
             schedule_of(&settings, &requests_of_m()),

@@ -169,8 +169,8 @@ fn while_low() {
     breaks(1, &SLEEPY, &[(0, NOP_LOW), (5, low(high_row))]);
     breaks(3, &SLEEPY, &[(0, NOP_LOW), (5, high(read(0)))]);
     breaks(15, &SLEEPY, &[(0, NOP_LOW), (5, low(precharge(0)))]);
-    breaks(15, &SLEEPY, &[(0, REFRESH_LOW), (5000, high(active(0)))]);
-    breaks(15, &SLEEPY, &[(0, REFRESH_LOW), (5000, low(active(0)))]);
+    breaks(15, &SLEEPY, &[(0, REFRESH_LOW), (10_000, high(active(0)))]);
+    breaks(15, &SLEEPY, &[(0, REFRESH_LOW), (10_000, low(active(0)))]);
 }
 
 #[test]
