@@ -31,13 +31,13 @@ static const char *const RULES[] = {
     "", "a row that the part does not have", "a register that may not be set so",
     "a bank that is open or idle when it must not be", "tRFC or tMRD is not over", "tRP is not over", "",
     "tRRD is not over", "tRCD is not over", "tRAS is not over", "tWR is not over", "tWTR is not over",
-    "the data of a READ are still on the bus", "a burst is cut that may not be cut", "refresh comes too late",
+    "the data of a READ are still on the bus", "a burst is cut that may not be cut", "more than eight refreshes are owed",
     "sleep is entered or left wrongly, or tXP or tXSR is not over",
 };
 
 static const char *const SETTINGS[] = {
     "lane code", "row bits", "column bits", "mode word", "tRCD", "tRP", "tRAS", "tRC",
-    "tRRD", "tWR", "tWTR", "tRFC", "tMRD", "GAP", "tXP", "tXSR",
+    "tRRD", "tWR", "tWTR", "tRFC", "tMRD", "tREFI", "tXP", "tXSR",
 };
 
 enum { T_RC = 7 };

@@ -37,9 +37,9 @@
  * event, cycle and pins: A0-A13 in bits 0-13, BA0 and BA1 in 14 and 15, CS#, RAS#, CAS# and WE# in 16-19 and, with
  * 16 settings, CKE low in 20. So event i stands at byte 80 + 8 * i with 14 settings, at byte 88 + 8 * i with 16.
  *
- *     setting  name and range                        setting  name and range, all 1 to 10,000 cycles but GAP
+ *     setting  name and range                        setting  name and range, all 1 to 10,000 cycles but tREFI
  *        0     lane code, 1 or 2: 2 or 4 bytes wide     4-12  tRCD, tRP, tRAS, tRC, tRRD, tWR, tWTR, tRFC, tMRD
- *        1     row bits, 12 to 14                         13  GAP, 1 to 1,000,000: the longest time without refresh
+ *        1     row bits, 12 to 14                         13  tREFI, 1 to 1,000,000: one refresh is owed for each
  *        2     column bits, 8 to 11                       14  tXP, from the end of power-down  (with 16 settings)
  *        3     mode word at cycle 0                       15  tXSR, from the end of self refresh  (with 16 settings)
  *
@@ -56,7 +56,8 @@
  *      11   READ waits tWTR from the last write data
  *      12   WRITE, AUTO REFRESH and MODE REGISTER SET wait until the data of the last READ have left the bus
  *      13   READ does not cut a read with auto precharge, WRITE no such write, BURST TERMINATE neither, nor any write
- *      14   at most GAP since the last AUTO REFRESH, the end of self refresh or cycle 0; not asked in self refresh
+ *      14   at most eight refreshes are owed: one more at each multiple of tREFI since cycle 0 or the end of self refresh,
+ *           one less at each AUTO REFRESH with CKE high if one is owed; not asked in self refresh
  *      15   CKE falls with NOP, DESELECT or AUTO REFRESH and after the data, rises with NOP or DESELECT, and nothing else
  *           comes asleep; what follows waits tXP from the end of power-down, tXSR from that of self refresh
  *           (only with 16 settings)

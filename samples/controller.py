@@ -12,7 +12,7 @@ BANKS = range(4)
 
 
 class Controller:
-    def __init__(self, part, seed):
+    def __init__(self, part, seed, refreshes_every=None):
         self.part = part
         self.random = random.Random(seed)
         self.events = []
@@ -30,8 +30,8 @@ class Controller:
         self.close_ready = [0] * 4  # tRAS, tWR and the bank's bursts are over
         self.open_ready = [0] * 4  # tRP and tRC are over
         self.refreshing = True
-        self.refreshed = 0
-        self.refresh_due = part["tREFI"]
+        self.refreshes_every = refreshes_every or part["tREFI"]
+        self.refresh_due = self.refreshes_every
 
     def below(self, n):
         """A number from 0 to n - 1. Only random() is promised to give the same numbers in every version of Python."""
@@ -111,11 +111,9 @@ class Controller:
         self.close_rows()
         t = self.send([self.reads_done, *self.open_ready], AUTO_REFRESH)
         self.ready = t + self.part["tRFC"]
-        self.refreshed_at(t)
+        if self.refresh_due <= t:  # one that is early is no credit
+            self.refresh_due += self.refreshes_every
         return t
-
-    def refreshed_at(self, cycle):
-        self.refreshed, self.refresh_due = cycle, cycle + self.part["tREFI"]
 
     def mode_set(self, word):
         self.close_rows()
@@ -152,11 +150,11 @@ class Controller:
         return self.wake(self.part["tXP"])
 
     def hibernate(self):
-        """For longer than GAP now and then: the part refreshes itself."""
+        """For longer than nine tREFI now and then: the part refreshes itself."""
         self.self_refresh()
-        self.stay(5 + self.below(2 * self.part["GAP"]))
+        self.stay(5 + self.below(16 * self.part["tREFI"]))
         t = self.wake(self.part["tXSR"])
-        self.refreshed_at(t)
+        self.refresh_due = t + self.refreshes_every
         return t
 
     def quiet(self):
@@ -200,7 +198,7 @@ class Controller:
             self.put(self.next, self.quiet())
 
     def run(self, events):
-        """Traffic until there are so many events, with an AUTO REFRESH every tREFI."""
+        """Traffic until there are so many events, with an AUTO REFRESH as often as this controller gives one."""
         while len(self.events) < events:
             if self.refreshing and self.refresh_due <= self.next:
                 self.auto_refresh()

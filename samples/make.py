@@ -12,18 +12,19 @@ HERE = os.path.dirname(os.path.abspath(__file__))
 TESTS = os.path.join(HERE, "..", "tests")
 sys.path.insert(0, TESTS)
 from captures import (A10, ACTIVE, AUTO_REFRESH, LOW, NOP, PRECHARGE, READ, bank, broken_lines, capture, cas_latency,
-                      clean_lines, column, mode_word)
+                      clean_lines, column, mode_word, nine_owed)
 from controller import Controller
 
 # The columns that are settings, in the order of document 01's table.
-SETTINGS = ["lane", "rowbits", "colbits", "mode", "tRCD", "tRP", "tRAS", "tRC", "tRRD", "tWR", "tWTR", "tRFC", "tMRD", "GAP"]
+SETTINGS = ["lane", "rowbits", "colbits", "mode", "tRCD", "tRP", "tRAS", "tRC", "tRRD", "tWR", "tWTR", "tRFC", "tMRD",
+            "tREFI"]
 WAKE = ["tXP", "tXSR"]
 
 
 def parts():
     with open(os.path.join(TESTS, "data", "part-settings.csv"), newline="") as f:
         rows = list(csv.DictReader(f))
-    numbers = SETTINGS + WAKE + ["tREFI"]
+    numbers = SETTINGS + WAKE
     return {(r["part"], r["grade"]): dict({name: int(r[name]) for name in numbers}, width=16 * int(r["lane"])) for r in rows}
 
 
@@ -100,16 +101,27 @@ def mode_set_latency_4(part, seed):
 
 
 def late_refresh(part, seed):
-    """The controller stops refreshing; the first event after GAP is late."""
+    """The controller stops refreshing; the first event with nine owed is late."""
     c = Controller(part, seed)
     c.run(6000)
     c.refreshing = False
-    last = c.refreshed + part["GAP"]
-    while c.events[-1][0] <= last:
+    return until_late(c, nine_owed(c.events, part["tREFI"]))
+
+
+def one_refresh_in_eight(part, seed):
+    """Never more than eight tREFI without a refresh, which passed until request K3; the first pays for one of seven."""
+    c = Controller(part, seed, refreshes_every=8 * part["tREFI"] - part["tREFI"] // 2)
+    c.run(3000)
+    first = next(i for i, (_, pins) in enumerate(c.events) if pins == AUTO_REFRESH)
+    return until_late(c, nine_owed(c.events[:first + 1], part["tREFI"]))
+
+
+def until_late(c, late):
+    while c.events[-1][0] < late:
         c.run(len(c.events) + 1)
-    at = next(i for i, (cycle, _) in enumerate(c.events) if last < cycle)
+    at = next(i for i, (cycle, _) in enumerate(c.events) if late <= cycle)
     c.run(at + 40)
-    return capture(c.events, settings_of(part)), broken_lines(c.events, 14, at)
+    return capture(c.events, settings_of(c.part)), broken_lines(c.events, 14, at)
 
 
 def unknown_latency(part, seed):
@@ -213,18 +225,19 @@ def precharge_while_low(part, seed):
 def active_at_exit(part, seed):
     def fault(c):
         c.self_refresh()
-        c.stay(2 * part["GAP"])
+        c.stay(16 * part["tREFI"])
         c.put(c.next, ACTIVE | bank(2) | 9)
     return frames_with_fault(part, seed, fault, 15)
 
 
 def late_refresh_asleep(part, seed):
-    """Power-down does not refresh; the first event after GAP is late."""
+    """Power-down does not refresh; the first event with nine owed is late."""
     def fault(c):
         c.auto_refresh()
         c.power_down()
-        c.put(c.refreshed + part["GAP"], NOP | LOW)
-        c.put(c.refreshed + part["GAP"] + 1, NOP)
+        late = nine_owed(c.events, part["tREFI"])
+        c.put(late - 1, NOP | LOW)
+        c.put(late, NOP)
     return frames_with_fault(part, seed, fault, 14)
 
 
@@ -253,13 +266,13 @@ SAMPLES = [
     ("refresh-with-open-row", ("MT46H32M32LF", "-75 CL3"), refresh_with_open_row,
      "AUTO REFRESH while the row of bank 2 is open"),
     ("mode-set-latency-4", ("MT46H64M32LF", "-48 CL3"), mode_set_latency_4, "MODE REGISTER SET with a CAS latency of 4"),
-    ("late-refresh", ("MT46H128M16LF", "-48 CL3"), late_refresh, "a large capture; refreshing stops, and GAP passes"),
+    ("late-refresh", ("MT46H128M16LF", "-48 CL3"), late_refresh, "a large capture; refreshing stops, until nine are owed"),
     ("setting-latency-4", ("W948D6KBHX", "-5 CL3"), unknown_latency, "a mode word among the settings with CAS latency 4"),
     ("cut-short", ("MT46H64M16LF", "-6 CL3"), cut_short, "the first 3,000 bytes of a longer capture"),
     ("cycles-of-16-bits", ("IS43LR32400G", "-6 CL3"), stamps_of_16_bits, "a recorder whose cycles start again at 65,536"),
     ("clean-power-down", ("MT46H64M16LF", "-5 CL3"), clean_power_down,
      "16 settings: frames of traffic, power-down between them"),
-    ("clean-self-refresh", ("IS43LR32400G", "-6 CL3"), clean_self_refresh, "the same with self refresh, often longer than GAP"),
+    ("clean-self-refresh", ("IS43LR32400G", "-6 CL3"), clean_self_refresh, "the same with self refresh, often longer than nine tREFI"),
     ("tXP", ("MT46H128M16LF", "-48 CL3"), active_before_txp, "ACTIVE a cycle before tXP is over"),
     ("tXSR", ("W948D6KBHX", "-6 CL2"), active_before_txsr, "ACTIVE a cycle before tXSR is over"),
     ("power-down-in-read", ("MT46H32M32LF", "-75 CL3"), power_down_in_read,
@@ -267,10 +280,12 @@ SAMPLES = [
     ("power-down-in-write", ("MT46H64M16LF", "-54 CL3"), power_down_in_write, "CKE falls a cycle before write data is in"),
     ("precharge-while-low", ("IS43LR32400G", "-6 CL3"), precharge_while_low, "PRECHARGE in power-down"),
     ("active-at-exit", ("MT46H64M32LF", "-48 CL3"), active_at_exit, "CKE rises with ACTIVE where it may with NOP and DESELECT"),
-    ("late-refresh-asleep", ("W948D6KBHX", "-5 CL3"), late_refresh_asleep, "GAP passes in power-down"),
+    ("late-refresh-asleep", ("W948D6KBHX", "-5 CL3"), late_refresh_asleep, "in power-down the ninth refresh comes to be owed"),
     ("power-down-before-tRFC", ("MT46H128M16LF", "-48 CL3"), power_down_before_trfc,
      "CKE falls with NOP a cycle before tRFC is over"),
     ("setting-tRC-100", ("W948D6KBHX", "-6 CL3"), mistyped_trc, "clean traffic, and a tRC of 100 typed where the sheet has 10"),
+    ("one-refresh-in-eight", ("MT46H64M16LF", "-75 CL3"), one_refresh_in_eight,
+     "one AUTO REFRESH for nearly eight tREFI, over and over"),
 ]
 
 

@@ -105,5 +105,22 @@ def broken_lines(events, rule, at):
 
 
 def quiet(n, settings=USUAL):
-    """n NOPs, one a cycle, under a GAP that allows them."""
+    """n NOPs, one a cycle, under a tREFI that allows them."""
     return capture([(i, NOP) for i in range(n)], setting(13, 1_000_000, settings))
+
+
+def nine_owed(events, trefi):
+    """The first cycle at which more than eight refreshes are owed once these events, which keep the rules, have gone by."""
+    since = counted = owed = 0
+    refreshes_itself = False
+    for cycle, pins in events:
+        refresh, low = pins & 0xF0000 == AUTO_REFRESH, pins & LOW
+        if refreshes_itself:
+            if not low:
+                refreshes_itself, since, counted, owed = False, cycle, cycle, 0
+        elif refresh and low:
+            refreshes_itself = True
+        elif refresh:
+            owed = max(0, owed + (cycle - since) // trefi - (counted - since) // trefi - 1)
+            counted = cycle
+    return since + ((counted - since) // trefi + 9 - owed) * trefi

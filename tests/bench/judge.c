@@ -34,11 +34,11 @@ enum {
 
 enum { A10 = 1 << 10, LOW = 1 << 20 };
 
-/* The settings in the order of the list; every value fits, and so does any sum of a cycle
- * and all of them. */
+/* The settings in the order of the list; every value fits, and so does any sum of a cycle,
+ * all of them and tREFI eight times more. */
 struct settings {
     uint32_t lane, row_bits, column_bits, mode;
-    int32_t rcd, rp, ras, rc, rrd, wr, wtr, rfc, mrd, gap;
+    int32_t rcd, rp, ras, rc, rrd, wr, wtr, rfc, mrd, refi;
     int32_t xp, xsr; /* of 16 settings alone */
 };
 
@@ -210,6 +210,15 @@ static const int32_t NEVER = -20000;
 
 static const int32_t UNASKED = INT32_MAX;
 
+/* Rule 14: the last cycle before nine refreshes are owed. It is 9 tREFI - 1 from where none
+ * is, and an AUTO REFRESH moves it by tREFI if one is owed by then. */
+static inline int32_t due_from(const struct settings *s, int32_t t) { return t + 9 * s->refi - 1; }
+
+static inline int32_t due_after_refresh(const struct settings *s, int32_t due, int32_t t)
+{
+    return due + (due < t + 8 * s->refi ? s->refi : 0);
+}
+
 static inline int is_good_mode_set(uint32_t pins)
 {
     uint32_t address = pins & 0x3fff;
@@ -330,7 +339,7 @@ static uint64_t walk(const struct settings *settings, const uint8_t *events, uin
         .settle = {1 + s.wr, 0},
     };
     struct now now = {
-        .due = s.gap,
+        .due = due_from(&s, 0),
         .last = READ_SLOT,
         .pairs = pairs_of(s.mode),
         .latency = latency_of(s.mode),
@@ -436,7 +445,7 @@ refresh:
         || now.open != 0)
         goto breaks;
     now.busy = t + s.rfc;
-    now.due = t + s.gap;
+    now.due = due_after_refresh(&s, now.due, t);
     NEXT;
 
 mode_set:
@@ -483,7 +492,7 @@ leave:
     now.ready = t + now.wake;
     now.wake = 0;
     if (now.due == UNASKED)
-        now.due = t + s.gap;
+        now.due = due_from(&s, t);
     NEXT_IN(waking);
 
 rest:
@@ -682,7 +691,7 @@ static inline uint8_t *put_event(uint8_t *at, int32_t cycle, uint32_t pins)
 static uint64_t plan_events(const struct settings *s, const uint32_t *requests, uint32_t count,
                             uint8_t *events)
 {
-    struct plan plan = {.due = s->gap};
+    struct plan plan = {.due = due_from(s, 0)};
     uint8_t *at = events;
     for (uint32_t i = 0; i < count; i++) {
         uint32_t request = requests[i];
@@ -696,7 +705,7 @@ static uint64_t plan_events(const struct settings *s, const uint32_t *requests, 
             int32_t refresh = later(later(plan.next, plan.busy),
                                     later(plan.all_idle, plan.from[0]));
             plan.busy = refresh + s->rfc;
-            plan.due = refresh + s->gap;
+            plan.due = due_after_refresh(s, plan.due, refresh);
             plan.next = refresh + 1;
             at = put_event(at, refresh, (uint32_t)REFRESH << 16);
             placing = place(s, &plan, read, bank);

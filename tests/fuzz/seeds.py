@@ -29,7 +29,8 @@ EVENTS = {
     "rule 11": [(0, ACTIVE), (3, WRITE), (6, READ)],
     "rule 12": [(0, ACTIVE), (3, READ), (4, BURST_TERMINATE), (6, WRITE)],
     "rule 13": [(0, ACTIVE), (3, WRITE), (4, BURST_TERMINATE)],
-    "rule 14": [(1001, NOP)],
+    "rule 14": [(9000, NOP)],
+    "refreshes paid back": [(8000, AUTO_REFRESH), (8012, AUTO_REFRESH), (10_999, NOP), (11_000, NOP)],
 }
 
 ASLEEP = {
@@ -45,8 +46,8 @@ ASLEEP = {
     "command while low": [(0, NOP | LOW), (5, PRECHARGE | LOW)],
     "exit by a command": [(0, AUTO_REFRESH | LOW), (5, ACTIVE)],
     "rule 3 while low": [(0, NOP | LOW), (5, READ | LOW)],
-    "rule 14 in power-down": [(0, NOP | LOW), (1001, NOP)],
-    "rule 14 after self refresh": [(5, AUTO_REFRESH | LOW), (5000, NOP), (6001, NOP)],
+    "rule 14 in power-down": [(0, NOP | LOW), (9000, NOP)],
+    "rule 14 after self refresh": [(5, AUTO_REFRESH | LOW), (5000, NOP), (14_000, NOP)],
 }
 
 REFUSED = {
@@ -66,12 +67,12 @@ REFUSED = {
 # Case m, and each refusal of a schedule.
 FOUR = [5, 1 << 31 | 8388608, 5, 8388608]
 LISTS = {
-    "case m": setting(13, 24) + FOUR,
+    "case m": setting(13, 24) + 10 * FOUR,
     "no request": USUAL,
     "refusal 3 of a schedule": setting(1, 15) + FOUR,
     "contradiction of a schedule": setting(7, 11) + FOUR,
     "refusal 5": USUAL + [5, 1 << 27],
-    "refusal 6": setting(13, 16) + FOUR,
+    "refusal 6": setting(13, 16) + 10 * FOUR,
 }
 
 
@@ -79,9 +80,9 @@ def spelled_settings(settings):
     """As src/spelled.rs reads them."""
     lane, rows, columns, mode = settings[:4]
     order = (mode & 7) - 1 | (mode >> 3 & 1) << 2 | (mode >> 4 & 1) << 3
-    gap, times = settings[13] - 1, [t - 1 for t in settings[4:13]]
+    trefi, times = settings[13] - 1, [t - 1 for t in settings[4:13]]
     wake = [t - 1 for t in settings[14:]]
-    return bytes([lane - 1, rows - 12, columns - 8, order] + times + [gap % 256, gap // 256] + wake)
+    return bytes([lane - 1, rows - 12, columns - 8, order] + times + [trefi % 256, trefi // 256] + wake)
 
 
 def spelled(events, settings=USUAL):
@@ -101,7 +102,7 @@ def seeds():
         yield name, CAPTURE, capture(events, SLEEPY)
         if all(cycle < 256 for cycle, _ in events):
             yield "spelled " + name, SPELLED_ASLEEP, spelled(events, SLEEPY)
-    yield "spelled rule 14", SPELLED, spelled([(100, NOP)], setting(13, 99))
+    yield "spelled rule 14", SPELLED, spelled([(99, NOP)], setting(13, 11))
     yield "too short a buffer", SPELLED | 2 << 2, spelled(EVENTS["read"])
     for name, data in REFUSED.items():
         yield name, CAPTURE, data
@@ -109,7 +110,7 @@ def seeds():
         yield name, LIST, words(list_)
     yield "too short a buffer for a schedule", LIST | 2 << 2, words(LISTS["case m"])
     yield "refusal 2 of a schedule", LIST | 13 << 4, words(LISTS["case m"])
-    yield "spelled case m", SPELLED_LIST, spelled_settings(setting(13, 24)) + words(FOUR)
+    yield "spelled case m", SPELLED_LIST, spelled_settings(setting(13, 24)) + words(10 * FOUR)
 
 
 os.makedirs(sys.argv[1], exist_ok=True)

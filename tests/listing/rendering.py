@@ -9,7 +9,7 @@ from captures import (LOW, SLEEPY, broken_lines, burst_length, cas_latency, clea
 ROOT = os.path.join(os.path.dirname(os.path.abspath(__file__)), "..", "..")
 
 NAMES = ["lane code", "row bits", "column bits", "mode word", "tRCD", "tRP", "tRAS", "tRC", "tRRD", "tWR", "tWTR", "tRFC",
-         "tMRD", "GAP", "tXP", "tXSR"]
+         "tMRD", "tREFI", "tXP", "tXSR"]
 
 # By RAS#, CAS#, WE# with CS# low.
 COMMANDS = {getattr(captures, name.replace(" ", "_")): name for name in
@@ -34,7 +34,7 @@ def with_settings(sentence, settings):
         i = NAMES.index(match.group(1))
         assert int(match.group(2)) == SLEEPY[i], match.group(0)
         return f"{NAMES[i]} ({settings[i]})"
-    return re.sub(r"(row bits|t[A-Z]+|GAP) \((\d+)\)", number, sentence)
+    return re.sub(r"(row bits|t[A-Z]+) \((\d+)\)", number, sentence)
 
 
 def setting_line(i, word):

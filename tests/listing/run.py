@@ -9,7 +9,7 @@ HERE = os.path.dirname(os.path.abspath(__file__))
 sys.path.insert(0, os.path.join(HERE, ".."))
 import rendering
 from captures import (A10, ACTIVE, AUTO_REFRESH, BURST_TERMINATE, DESELECT, LOW, MODE_REGISTER_SET, NOP, PRECHARGE, READ,
-                      SLEEPY, USUAL, WRITE, bank, capture, column, mode_word, quiet, setting)
+                      SLEEPY, USUAL, WRITE, bank, capture, column, mode_word, nine_owed, quiet, setting)
 from running import from_file, from_pipe, unreadable
 
 CRATE = os.path.join(HERE, "..", "..", "crates", "listing")
@@ -54,8 +54,8 @@ FAULTS_ASLEEP = [
     (4, [(0, AUTO_REFRESH), (11, NOP | LOW)]),
     (4, [(0, MODE_REGISTER_SET | bank(2)), (1, DESELECT | LOW)]),
     (5, [(0, ACTIVE), (3, READ | A10), (9, AUTO_REFRESH | LOW)]),
-    (14, [(0, AUTO_REFRESH | LOW), (5000, NOP), (6001, NOP)]),
-    (14, [(0, AUTO_REFRESH), (20, NOP | LOW), (500, NOP | LOW), (1001, NOP)]),
+    (14, [(0, AUTO_REFRESH | LOW), (5000, NOP), (14_000, NOP)]),
+    (14, [(0, AUTO_REFRESH), (20, NOP | LOW), (500, NOP | LOW), (9000, NOP)]),
     (15, [(0, NOP | LOW), (5, NOP), (6, ACTIVE)]),
     (15, [(0, NOP | LOW), (1, DESELECT), (2, NOP | LOW)]),
     (15, [(0, DESELECT | LOW), (1, NOP), (2, PRECHARGE | A10)]),
@@ -64,8 +64,8 @@ FAULTS_ASLEEP = [
     (15, [(0, ACTIVE), (3, WRITE), (5, NOP | LOW)]),
     (15, [(0, BURST_TERMINATE | LOW)]),
     (15, [(0, NOP | LOW), (5, PRECHARGE | LOW)]),
-    (15, [(0, AUTO_REFRESH | LOW), (5000, ACTIVE)]),
-    (15, [(0, AUTO_REFRESH | LOW), (5000, MODE_REGISTER_SET | LOW | 0x32)]),
+    (15, [(0, AUTO_REFRESH | LOW), (10_000, ACTIVE)]),
+    (15, [(0, AUTO_REFRESH | LOW), (10_000, MODE_REGISTER_SET | LOW | 0x32)]),
 ]
 
 
@@ -120,12 +120,12 @@ def fault_cases_asleep(chance):
 
 
 def late_cases(chance):
-    """Rule 14, GAP behind the last AUTO REFRESH, or behind cycle 0."""
+    """Rule 14, at the first cycle at which nine refreshes are owed."""
     for before in (0, 3, 4, 5, 7, 8, 9, 40):
         start = traffic(before)
-        refreshed = max([cycle for cycle, pins in start if pins == AUTO_REFRESH], default=0)
+        late = nine_owed(start, USUAL[13])
         for pins in (NOP, DESELECT, AUTO_REFRESH, PRECHARGE | A10):
-            events = start + [(refreshed + 1001, pins)] + anything(chance, before % 7, refreshed + 1001)
+            events = start + [(late, pins)] + anything(chance, before % 7, late)
             yield capture(events), rendering.broken(events, USUAL, 14, before)
 
 

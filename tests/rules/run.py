@@ -14,7 +14,7 @@ import captures
 from captures import A10, LOW, SLEEPY, USUAL, bank, broken_lines, capture, clean_lines, column
 from running import from_file
 
-NAMES = ["tRCD", "tRP", "tRAS", "tRC", "tRRD", "tWR", "tWTR", "tRFC", "tMRD", "GAP", "tXP", "tXSR"]
+NAMES = ["tRCD", "tRP", "tRAS", "tRC", "tRRD", "tWR", "tWTR", "tRFC", "tMRD", "tREFI", "tXP", "tXSR"]
 
 EXAMPLE = re.compile(r"`([^`]*@\d+)` (?:is (clean)|breaks rule (\d+)|is refusal (\d+), place (\d+))")
 

@@ -41,7 +41,7 @@ pub fn words(bytes: &[u8]) -> impl Iterator<Item = u32> + '_ {
         .map(|word| u32::from_le_bytes(word.try_into().expect("four bytes")))
 }
 
-/// A byte spells each setting, and one more GAP.
+/// A byte spells each setting, and one more tREFI.
 fn settings(bytes: &[u8], count: usize) -> (Vec<u32>, &[u8]) {
     let (spelled, rest) = bytes.split_at(bytes.len().min(count + 1));
     let byte = |place: usize| spelled.get(place).map_or(0, |&byte| u32::from(byte));

@@ -16,8 +16,8 @@ pub const MODE_SETTING: usize = 3;
 pub const T_RP_SETTING: usize = 5;
 pub const T_RAS_SETTING: usize = 6;
 pub const T_RC_SETTING: usize = 7;
-/// The setting that holds GAP.
-pub const GAP_SETTING: usize = 13;
+/// The setting that holds tREFI.
+pub const T_REFI_SETTING: usize = 13;
 
 /// Least and most of each setting, in order.
 pub const LIMITS: [(u32, u32); SLEEP_SETTINGS] = [
@@ -122,7 +122,7 @@ pub struct Settings {
     pub t_wtr: u64,
     pub t_rfc: u64,
     pub t_mrd: u64,
-    pub gap: u64,
+    pub t_refi: u64,
     /// None with 14 settings.
     pub wake: Option<Wake>,
 }
@@ -171,7 +171,7 @@ impl Settings {
             t_wtr: time(10),
             t_rfc: time(11),
             t_mrd: time(12),
-            gap: time(GAP_SETTING),
+            t_refi: time(T_REFI_SETTING),
             wake: (list.len() == SLEEP_SETTINGS).then(|| Wake {
                 t_xp: time(14),
                 t_xsr: time(15),

@@ -10,6 +10,7 @@ pub mod generate;
 pub mod memory;
 pub mod packed;
 pub mod part;
+pub mod refresh;
 pub mod rules;
 pub mod schedule;
 pub mod sleep;

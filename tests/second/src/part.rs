@@ -2,6 +2,7 @@
 
 use crate::capture::{Mode, Settings};
 use crate::command::{column_of, Asked, Command, Named, BANKS, MODE_REGISTER};
+use crate::refresh::Owed;
 use crate::sleep::{Sleep, State};
 
 #[derive(Clone, Copy, Debug, PartialEq, Eq)]
@@ -107,8 +108,8 @@ pub struct Part {
     pub banks: [Bank; BANKS],
     /// The last AUTO REFRESH, for rule 4.
     pub refresh: Option<u64>,
-    /// Where rule 14 counts GAP from.
-    pub gap_from: u64,
+    /// The refreshes that rule 14 asks about.
+    pub owed: Owed,
     pub mode_set: Option<u64>,
     pub sleep: State,
     /// In the order they were given.
@@ -123,7 +124,7 @@ impl Part {
             mode: settings.mode,
             banks: [Bank::default(); BANKS],
             refresh: None,
-            gap_from: 0,
+            owed: Owed::none_at(0, settings.t_refi),
             mode_set: None,
             sleep: State::Awake { left: None },
             bursts: Vec::new(),
@@ -169,7 +170,7 @@ impl Part {
     /// What an event does, once the rules have passed it.
     pub fn apply(&mut self, cycle: u64, asked: Asked) {
         if self.sleep == State::Asleep(Sleep::SelfRefresh) && !asked.low {
-            self.gap_from = cycle;
+            self.owed = Owed::none_at(cycle, self.settings.t_refi);
         }
         // What puts the part to sleep or wakes it, or comes in between, does nothing else.
         if self.sleep.is_awake() && !asked.low {
@@ -203,7 +204,7 @@ impl Part {
             Command::Precharge { banks } => self.precharge(cycle, banks),
             Command::AutoRefresh => {
                 self.refresh = Some(cycle);
-                self.gap_from = cycle;
+                self.owed.refresh(cycle);
             }
             Command::ModeRegisterSet { register, address } => {
                 self.mode_set = Some(cycle);

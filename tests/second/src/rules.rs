@@ -4,6 +4,7 @@
 use crate::capture::Mode;
 use crate::command::{Asked, Command, BANKS, EXTENDED_REGISTER, MODE_REGISTER};
 use crate::part::{Bank, Burst, Direction, Part};
+use crate::refresh::MOST_OWED;
 use crate::sleep::{self, Sleep, State};
 
 type Rule = fn(&Part, u64, Asked) -> bool;
@@ -32,7 +33,7 @@ pub fn lowest_broken(part: &Part, cycle: u64, asked: Asked) -> Option<u32> {
     RULES.iter().find(breaks).map(|&(rule, _)| rule)
 }
 
-/// Whether all rules but the refresh gap pass an event, which is what schedules ask: they
+/// Whether all rules but 14 pass an event, which is what schedules ask: they
 /// never sleep, so rule 15 passes all of theirs.
 pub fn pass_but_refresh(part: &Part, cycle: u64, asked: Asked) -> bool {
     RULES
@@ -191,10 +192,10 @@ fn disturbs(command: Command, cycle: u64, burst: &Burst) -> bool {
     }
 }
 
-/// No event comes more than GAP after the last refresh, or cycle 0; in self refresh, and of
-/// the event that ends it, this is not asked.
+/// At most eight refreshes are owed; in self refresh, and of the event that ends it, this is
+/// not asked.
 fn rule_14(part: &Part, cycle: u64, _: Asked) -> bool {
-    part.sleep == State::Asleep(Sleep::SelfRefresh) || cycle <= part.gap_from + part.settings.gap
+    part.sleep == State::Asleep(Sleep::SelfRefresh) || part.owed.at(cycle) <= MOST_OWED
 }
 
 /// CKE falls, stays low and rises as it may, and what follows sleep waits.

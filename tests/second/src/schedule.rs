@@ -3,6 +3,7 @@
 use crate::capture::{bytes_of, refused, Event, Refusal, Settings};
 use crate::command::{address_of, Asked, Command};
 use crate::part::{LookBack, Part};
+use crate::refresh::MOST_OWED;
 use crate::rules::pass_but_refresh;
 
 pub const MOST_REQUESTS: usize = 2_000;
@@ -170,12 +171,12 @@ impl Plan {
     }
 
     fn refresh_comes_in_time(&self) -> bool {
-        let last = self.part.refresh.unwrap_or(0);
-        self.earliest(Command::AutoRefresh) - last <= self.part.settings.gap
+        let refresh = self.earliest(Command::AutoRefresh);
+        self.part.owed.at(refresh) <= MOST_OWED
     }
 }
 
-/// The earliest cycle from `from` on at which all rules but the refresh gap pass an event.
+/// The earliest cycle from `from` on at which all rules but 14 pass an event.
 /// There must be one: no amount of waiting keeps rules 1 to 3, or wakes a part.
 pub fn earliest(part: &Part, from: u64, asked: Asked) -> u64 {
     (from..)

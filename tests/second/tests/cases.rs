@@ -3,7 +3,7 @@
 mod common;
 
 use common::*;
-use second::capture::Mode;
+use second::capture::{Capture, Mode, SETTINGS};
 use second::command::Command::{self, AutoRefresh, BurstTerminate, Nop};
 use second::Refusal;
 
@@ -76,9 +76,9 @@ fn case_i_active_after_a_refresh() {
 }
 
 #[test]
-fn case_j_refresh_gap() {
-    clean(&CASE, &[(1000, Nop)]);
-    breaks(14, &CASE, &[(1001, Nop)]);
+fn case_j_refreshes_owed() {
+    clean(&CASE, &[(8999, Nop)]);
+    breaks(14, &CASE, &[(9000, Nop)]);
 }
 
 #[test]
@@ -102,11 +102,23 @@ fn case_l_no_burst_terminate_in_a_write() {
     );
 }
 
-#[test]
-fn case_m_a_schedule_with_a_refresh() {
+/// The four requests of case m: two of bank 0 and two of bank 1, one of them a write.
+fn requests_of_m() -> [u32; 4] {
     const WRITE: u32 = 1 << 31;
     const BANK_1: u32 = 8_388_608;
-    let requests = [5, WRITE | BANK_1, 5, BANK_1];
+    [5, WRITE | BANK_1, 5, BANK_1]
+}
+
+fn with_t_refi(cycles: u32) -> [u32; SETTINGS] {
+    with(CASE, &[(13, cycles)])
+}
+
+fn refusal_6(place: u32) -> Result<Vec<u8>, Refusal> {
+    Err(Refusal { number: 6, place })
+}
+
+#[test]
+fn case_m_a_schedule_without_a_refresh() {
     let read_5 = Command::Read {
         bank: 0,
         address: 5,
@@ -119,24 +131,32 @@ fn case_m_a_schedule_with_a_refresh() {
         (8, write_auto(1)),
         (10, active(0)),
         (13, read_5),
-        (20, AutoRefresh),
-        (32, active(1)),
-        (35, read_auto(1)),
+        (17, active(1)),
+        (20, read_auto(1)),
     ];
-    let settings = with(CASE, &[(13, 24)]);
-    assert_eq!(
-        schedule_of(&settings, &requests),
-        Ok(capture(&settings, &expected))
-    );
+    for t_refi in 4..=1000 {
+        let settings = with_t_refi(t_refi);
+        assert_eq!(
+            schedule_of(&settings, &requests_of_m()),
+            Ok(capture(&settings, &expected))
+        );
+    }
+    assert_eq!(schedule_of(&with_t_refi(2), &requests_of_m()), refusal_6(2));
+}
 
-    let tight = with(CASE, &[(13, 16)]);
-    assert_eq!(
-        schedule_of(&tight, &requests),
-        Err(Refusal {
-            number: 6,
-            place: 1
-        })
-    );
+#[test]
+fn case_m_ten_times_over() {
+    let requests = requests_of_m().repeat(10);
+    let settings = with_t_refi(24);
+    let schedule = schedule_of(&settings, &requests).expect("a schedule");
+    let events = Capture::read(&schedule).expect("a capture").events;
+    let first = events
+        .iter()
+        .position(|event| event.asked() == AutoRefresh.into())
+        .expect("a refresh");
+    // Two events for each request before it.
+    assert_eq!((first, events[first].cycle), (2 * 38, 215));
+    assert_eq!(schedule_of(&with_t_refi(16), &requests), refusal_6(25));
 }
 
 #[test]

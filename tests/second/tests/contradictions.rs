@@ -81,7 +81,7 @@ fn the_sheets() {
             .iter()
             .map(|field| field.parse().expect("a setting of a part is a decimal"))
             .collect();
-        match fields[21] {
+        match fields[20] {
             "ok" => clean::<Command>(&settings, &[]),
             "refused" => {
                 refuses(3, 7, &bytes_of(&settings, &[]));
@@ -123,7 +123,7 @@ fn burst_lists_and_schedules() {
 
 #[test]
 fn nothing_is_judged() {
-    let late = [(1001, Nop)];
+    let late = [(9000, Nop)];
     breaks(14, &CASE, &late);
     refuses(3, 7, &capture(&T_RC_11, &late));
 }

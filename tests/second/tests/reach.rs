@@ -1,5 +1,5 @@
-//! What the generator reaches of sleep: every clause of the customers' first request, in as
-//! many inputs as the other tests compare.
+//! What the generator reaches of sleep and of owed refreshes: every clause of the customers'
+//! first and third request, in as many inputs as the other tests compare.
 
 use std::collections::BTreeMap;
 
@@ -7,6 +7,7 @@ use second::capture::{Capture, Event};
 use second::command::{Asked, Command};
 use second::generate::{input, Dice, Input};
 use second::part::{LookBack, Part};
+use second::refresh::MOST_OWED;
 use second::rules::lowest_broken;
 use second::sleep::{wrong, Sleep, State, Wrong};
 
@@ -21,7 +22,7 @@ enum Clause {
     /// An entry after a sleep, when its wait is over.
     EntryAgain(Sleep),
     PowerDownWithOpenBank,
-    /// Later than GAP allows anything else.
+    /// Later than rule 14 allows anything else.
     LongSelfRefresh,
     Rule15(Wrong),
     Rule3OfSelfRefresh,
@@ -33,6 +34,16 @@ enum Clause {
     Rule14AfterSelfRefresh,
     LowerRuleWhileLow(Sleep),
     LowerRuleAtExit(Sleep),
+    /// An AUTO REFRESH with so many owed.
+    RefreshWithOwed(u64),
+    /// The second AUTO REFRESH of two for which nothing came to be owed in between.
+    PaidBack,
+    /// An AUTO REFRESH at a multiple, which it pays back at once.
+    RefreshAtMultiple,
+    /// The same a cycle earlier, with none owed.
+    RefreshBeforeMultiple,
+    Rule14OfRefresh,
+    Rule14OfNop,
 }
 
 use Clause::*;
@@ -52,7 +63,13 @@ fn all_clauses() -> Vec<Clause> {
         Rule14OfSelfRefresh,
         Rule14InPowerDown,
         Rule14AfterSelfRefresh,
+        PaidBack,
+        RefreshAtMultiple,
+        RefreshBeforeMultiple,
+        Rule14OfRefresh,
+        Rule14OfNop,
     ];
+    clauses.extend((0..=MOST_OWED).map(RefreshWithOwed));
     for sleep in [PowerDown, SelfRefresh] {
         clauses.extend([
             Entry(sleep),
@@ -72,7 +89,7 @@ fn all_clauses() -> Vec<Clause> {
 
 /// The clauses that an event shows which breaks no rule.
 fn kept(part: &Part, cycle: u64, asked: Asked) -> Vec<Clause> {
-    let late = cycle > part.gap_from + part.settings.gap;
+    let late = part.owed.at(cycle) > MOST_OWED;
     let open = part.banks.iter().any(|bank| bank.is_open());
     let refreshes = asked.command == Command::AutoRefresh;
     match (part.sleep, asked.low) {
@@ -83,6 +100,7 @@ fn kept(part: &Part, cycle: u64, asked: Asked) -> Vec<Clause> {
             let clauses = [Some(Entry(entered)), again, with_open_bank];
             clauses.into_iter().flatten().collect()
         }
+        (State::Awake { .. }, false) if refreshes => refreshed(part, cycle),
         (State::Awake { .. }, false) => vec![],
         (State::Asleep(sleep), low) => {
             let clause = if low { StaysLow(sleep) } else { Exit(sleep) };
@@ -90,6 +108,23 @@ fn kept(part: &Part, cycle: u64, asked: Asked) -> Vec<Clause> {
             [Some(clause), long].into_iter().flatten().collect()
         }
     }
+}
+
+/// The clauses that an AUTO REFRESH shows.
+fn refreshed(part: &Part, cycle: u64) -> Vec<Clause> {
+    let (owed, from, t_refi) = (part.owed.at(cycle), part.owed.from, part.settings.t_refi);
+    let same_multiple =
+        |last: u64| last > from && (last - from) / t_refi == (cycle - from) / t_refi;
+    let paid_back = owed > 0 && part.refresh.is_some_and(same_multiple);
+    let at_multiple = cycle > from && (cycle - from) % t_refi == 0;
+    let before_multiple = owed == 0 && cycle + 1 == part.owed.next_multiple(cycle);
+    let clauses = [
+        Some(RefreshWithOwed(owed)),
+        paid_back.then_some(PaidBack),
+        at_multiple.then_some(RefreshAtMultiple),
+        before_multiple.then_some(RefreshBeforeMultiple),
+    ];
+    clauses.into_iter().flatten().collect()
 }
 
 /// The clause that an event shows which breaks a rule.
@@ -102,11 +137,9 @@ fn broken(part: &Part, cycle: u64, asked: Asked, rule: u32) -> Option<Clause> {
         (State::Awake { .. }, true, 5) if refreshes => Some(Rule5OfSelfRefresh),
         (State::Awake { .. }, true, 12) if refreshes => Some(Rule12OfSelfRefresh),
         (State::Awake { .. }, true, 14) if refreshes => Some(Rule14OfSelfRefresh),
-        (State::Awake { left }, _, 14) => {
-            let (sleep, end) = left?;
-            let counts_from_there = sleep == SelfRefresh && end == part.gap_from;
-            counts_from_there.then_some(Rule14AfterSelfRefresh)
-        }
+        (State::Awake { .. }, _, 14) if part.owed.from > 0 => Some(Rule14AfterSelfRefresh),
+        (State::Awake { .. }, _, 14) if refreshes => Some(Rule14OfRefresh),
+        (State::Awake { .. }, _, 14) if asked.command == Command::Nop => Some(Rule14OfNop),
         (State::Asleep(PowerDown), _, 14) => Some(Rule14InPowerDown),
         (State::Asleep(sleep), true, _) => Some(LowerRuleWhileLow(sleep)),
         (State::Asleep(sleep), false, _) => Some(LowerRuleAtExit(sleep)),
@@ -130,7 +163,7 @@ fn clauses_of(capture: &Capture) -> Vec<Clause> {
 }
 
 #[test]
-fn every_clause_of_sleep_comes_up() {
+fn every_clause_comes_up() {
     let mut dice = Dice::new(SEED);
     let mut captures: BTreeMap<Clause, u32> = BTreeMap::new();
     for _ in 0..INPUTS {

@@ -177,7 +177,7 @@ fn idle_precharge_and_terminate_only_obey_rules_4_and_14() {
     clean(&CASE, &idle);
     for command in [BurstTerminate, precharge(0), PRECHARGE_ALL] {
         breaks(4, &CASE, &[(0, AutoRefresh), (11, command)]);
-        breaks(14, &CASE, &[(1001, command)]);
+        breaks(14, &CASE, &[(9000, command)]);
     }
 }
 
@@ -200,10 +200,10 @@ fn precharge_in_an_auto_precharge_burst_meets_an_idle_bank() {
 }
 
 #[test]
-fn refresh_is_held_to_the_gap_itself() {
-    clean(&CASE, &[(1000, AutoRefresh), (2000, Deselect)]);
-    breaks(14, &CASE, &[(1001, AutoRefresh)]);
-    breaks(14, &CASE, &[(1000, AutoRefresh), (2001, Nop)]);
+fn a_refresh_is_held_to_rule_14_itself() {
+    clean(&CASE, &[(8999, AutoRefresh), (9999, Deselect)]);
+    breaks(14, &CASE, &[(9000, AutoRefresh)]);
+    breaks(14, &CASE, &[(8999, AutoRefresh), (10_000, Nop)]);
 }
 
 #[test]
@@ -214,13 +214,13 @@ fn events_on_cycle_0_count() {
 
 #[test]
 fn a_faulty_event_names_its_lowest_rule() {
-    // An ACTIVE of an open bank, too soon, too high a row and long after the gap.
+    // An ACTIVE of an open bank, too soon, too high a row and with many refreshes owed.
     let high = Command::Active {
         bank: 0,
         row: 1 << 13,
     };
-    breaks(1, &CASE, &[(0, active(0)), (5000, high)]);
-    breaks(3, &CASE, &[(0, active(0)), (5000, active(0))]);
+    breaks(1, &CASE, &[(0, active(0)), (20_000, high)]);
+    breaks(3, &CASE, &[(0, active(0)), (20_000, active(0))]);
 }
 
 #[test]
@@ -352,8 +352,7 @@ fn the_longest_capture() {
             pins: Nop.pins(),
         })
         .collect();
-    let settings = with(CASE, &[(13, 8_000)]);
-    let bytes = bytes_of(&settings, &events);
+    let bytes = bytes_of(&CASE, &events);
     assert_eq!(bytes.len(), 64_080);
     assert_eq!(second::judge(&bytes), Answer::Clean { judged: 8_000 });
     let mut longer = events.clone();
@@ -361,7 +360,7 @@ fn the_longest_capture() {
         cycle: 8_000,
         pins: Nop.pins(),
     });
-    refuses(1, 0, &bytes_of(&settings, &longer));
+    refuses(1, 0, &bytes_of(&CASE, &longer));
 }
 
 #[test]

@@ -78,15 +78,15 @@ fn txsr() {
 #[test]
 fn rule_14_counts_anew_after_self_refresh() {
     let before = [(5, REFRESH_LOW), (2500, NOP_LOW), (5000, NOP)];
-    line(&before, (6000, NOP), &[(14, (6001, NOP))]);
+    line(&before, (13_999, NOP), &[(14, (14_000, NOP))]);
 }
 
 #[test]
 fn rule_14_in_power_down() {
-    let broken = [(14, (1001, NOP)), (14, (1001, high(active(0))))];
-    line(&[(0, NOP_LOW)], (1000, NOP), &broken);
-    breaks(14, &SLEEPY, &[(0, NOP_LOW), (1001, NOP_LOW)]);
-    breaks(14, &SLEEPY, &[(0, NOP_LOW), (500, NOP), (1001, NOP)]);
+    let broken = [(14, (9000, NOP)), (14, (9000, high(active(0))))];
+    line(&[(0, NOP_LOW)], (8999, NOP), &broken);
+    breaks(14, &SLEEPY, &[(0, NOP_LOW), (9000, NOP_LOW)]);
+    breaks(14, &SLEEPY, &[(0, NOP_LOW), (500, NOP), (9000, NOP)]);
 }
 
 #[test]
@@ -154,7 +154,8 @@ fn wrong_entries() {
     breaks(15, &SLEEPY, &[(0, low(BurstTerminate))]);
     breaks(3, &SLEEPY, &[(0, low(read(0)))]);
     breaks(3, &SLEEPY, &[(0, high(active(0))), (20, REFRESH_LOW)]);
-    breaks(14, &SLEEPY, &[(1001, REFRESH_LOW)]);
+    clean(&SLEEPY, &[(8999, REFRESH_LOW)]);
+    breaks(14, &SLEEPY, &[(9000, REFRESH_LOW)]);
     breaks(15, &SLEEPY, &[(0, low(active(0)))]);
 }
 
@@ -168,8 +169,8 @@ fn while_low() {
     breaks(1, &SLEEPY, &[(0, NOP_LOW), (5, low(high_row))]);
     breaks(3, &SLEEPY, &[(0, NOP_LOW), (5, high(read(0)))]);
     breaks(15, &SLEEPY, &[(0, NOP_LOW), (5, low(precharge(0)))]);
-    breaks(15, &SLEEPY, &[(0, REFRESH_LOW), (5000, high(active(0)))]);
-    breaks(15, &SLEEPY, &[(0, REFRESH_LOW), (5000, low(active(0)))]);
+    breaks(15, &SLEEPY, &[(0, REFRESH_LOW), (10_000, high(active(0)))]);
+    breaks(15, &SLEEPY, &[(0, REFRESH_LOW), (10_000, low(active(0)))]);
 }
 
 #[test]
@@ -183,7 +184,7 @@ fn self_refresh_inside_a_read_is_rule_12() {
 #[test]
 fn power_down_does_not_restart_rule_14() {
     let before = [(0, NOP_LOW), (900, NOP)];
-    line(&before, (1000, NOP), &[(14, (1001, NOP))]);
+    line(&before, (8999, NOP), &[(14, (9000, NOP))]);
 }
 
 #[test]
@@ -281,7 +282,6 @@ fn pins() {
 #[test]
 fn the_longest_capture() {
     let events: Vec<(u32, Asked)> = (0..8_000).map(|cycle| (cycle, NOP_LOW)).collect();
-    let settings = with(SLEEPY, &[(13, 8_000)]);
-    assert_eq!(capture(&settings, &events).len(), 64_088);
-    clean(&settings, &events);
+    assert_eq!(capture(&SLEEPY, &events).len(), 64_088);
+    clean(&SLEEPY, &events);
 }

@@ -16,7 +16,7 @@ use second::schedule::earliest;
 use second::{judge, schedule, Answer};
 
 /// A real part: 64M x 16 at 6 ns.
-const PART: [u32; SETTINGS] = [1, 14, 10, 0x32, 3, 3, 7, 10, 2, 3, 1, 12, 2, 10_400];
+const PART: [u32; SETTINGS] = [1, 14, 10, 0x32, 3, 3, 7, 10, 2, 3, 1, 12, 2, 1_300];
 const BL_16: u32 = 0x34;
 /// Its tXP and tXSR.
 const WAKE: [u32; 2] = [2, 20];

@@ -2,9 +2,10 @@
 
 use super::settings::{self, Kind};
 use super::{Dice, NO_RULE};
-use crate::capture::{bytes_of, Event, Settings, GAP_SETTING, LAST_CYCLE, MOST_EVENTS};
+use crate::capture::{bytes_of, Event, Settings, LAST_CYCLE, MOST_EVENTS, T_REFI_SETTING};
 use crate::command::{Asked, Command, Named, BANKS, EXTENDED_REGISTER, LOW, MODE_REGISTER};
 use crate::part::{LookBack, Part};
+use crate::refresh::MOST_OWED;
 use crate::rules::lowest_broken;
 use crate::schedule::earliest;
 use crate::sleep::{Sleep, State};
@@ -26,7 +27,7 @@ pub fn guided_capture(dice: &mut Dice) -> Vec<u8> {
     }
 }
 
-/// A full, clean capture with given settings, whose GAP must leave room for refreshes.
+/// A full, clean capture with given settings, whose tREFI must leave room for refreshes.
 pub fn busy_capture(dice: &mut Dice, list: &[u32]) -> Vec<u8> {
     build(dice, list, MOST_EVENTS, 0)
 }
@@ -49,7 +50,7 @@ fn usual_capture(dice: &mut Dice) -> Vec<u8> {
 fn full_capture(dice: &mut Dice) -> Vec<u8> {
     let kind = dice.pick(&[Kind::Short, Kind::RealPart]);
     let mut list = settings::capture_settings(dice, kind);
-    list[GAP_SETTING] = dice.between(1_000, 100_000);
+    list[T_REFI_SETTING] = dice.between(200, 10_000);
     let fault_once_in = dice.pick(&[0, 0, 2_000]);
     build(dice, &list, MOST_EVENTS, fault_once_in)
 }
@@ -58,13 +59,13 @@ fn full_capture(dice: &mut Dice) -> Vec<u8> {
 fn late_capture(dice: &mut Dice) -> Vec<u8> {
     let kind = dice.pick(&[Kind::Short, Kind::RealPart, Kind::Limits]);
     let mut list = settings::capture_settings(dice, kind);
-    let gap = 1_000_000;
-    list[GAP_SETTING] = gap;
-    let refreshes = LAST_CYCLE / gap - 1;
+    let t_refi = 1_000_000;
+    list[T_REFI_SETTING] = t_refi;
+    let multiples = LAST_CYCLE / t_refi - 1;
     let fault_once_in = dice.pick(&[0, 5]);
-    let wanted = refreshes + dice.between(2, 20);
+    let wanted = multiples + dice.between(2, 20);
     let mut builder = Builder::new(dice, &list);
-    builder.refresh_at_every_gap(refreshes);
+    builder.refresh_before_multiples(multiples);
     builder.go_to_the_end();
     builder.fill(wanted, fault_once_in);
     bytes_of(&list, &builder.events)
@@ -107,6 +108,8 @@ struct Style {
     prompt_percent: u32,
     /// How often the next event puts the part to sleep; never without settings for it.
     sleep_percent: u32,
+    /// How many refreshes stay owed once some are paid back.
+    left_owed: u64,
     /// The rule that a fault, if there is one, breaks.
     fault_rule: u32,
 }
@@ -122,6 +125,7 @@ impl Style {
             } else {
                 0
             },
+            left_owed: dice.pick(&[0, 1, 4, 7, 8]),
             fault_rule: fault_rule(dice, sleeps),
         }
     }
@@ -183,6 +187,8 @@ struct Builder<'a> {
     events: Vec<Event>,
     /// The first cycle that the next event may have.
     next: u64,
+    /// Whether refreshes go out until few are owed.
+    paying_back: bool,
 }
 
 impl<'a> Builder<'a> {
@@ -196,13 +202,21 @@ impl<'a> Builder<'a> {
             part,
             events: Vec::new(),
             next: 0,
+            paying_back: false,
         }
     }
 
-    fn refresh_at_every_gap(&mut self, refreshes: u32) {
-        let gap = self.part.settings.gap;
-        for count in 1..=u64::from(refreshes) {
-            self.push_applied(count * gap, Command::AutoRefresh.into());
+    /// A refresh before each of so many multiples of tREFI but the first, some of which
+    /// are left out and stay owed.
+    fn refresh_before_multiples(&mut self, multiples: u32) {
+        let t_refi = self.part.settings.t_refi;
+        let left_out = self.dice.between(0, MOST_OWED as u32);
+        let before: u64 = self.dice.pick(&[1, 1, 1_000]);
+        for count in left_out + 1..=multiples {
+            self.push_applied(
+                u64::from(count) * t_refi - before,
+                Command::AutoRefresh.into(),
+            );
         }
     }
 
@@ -218,11 +232,14 @@ impl<'a> Builder<'a> {
         }
     }
 
-    /// One refresh more, and the next event so late that few fit before the last cycle.
+    /// Perhaps one refresh more, and the next event so late that few fit before the last
+    /// cycle.
     fn go_to_the_end(&mut self) {
         let last = u64::from(LAST_CYCLE);
         let refresh = last - u64::from(self.dice.between(25_000, 60_000));
-        self.push_applied(refresh, Command::AutoRefresh.into());
+        if self.dice.percent(50) {
+            self.push_applied(refresh, Command::AutoRefresh.into());
+        }
         let left = self.dice.pick(&[30, 400, 12_000]);
         self.next = last - u64::from(self.dice.between(0, left));
     }
@@ -259,7 +276,7 @@ impl<'a> Builder<'a> {
     fn due(&self) -> u64 {
         match self.part.sleep {
             State::Asleep(Sleep::SelfRefresh) => u64::MAX,
-            _ => self.part.gap_from + self.part.settings.gap,
+            _ => self.part.owed.too_many_from() - 1,
         }
     }
 
@@ -274,7 +291,7 @@ impl<'a> Builder<'a> {
 
     /// Adds an event that breaks nothing. False where the capture must end instead.
     fn add_legal(&mut self) -> bool {
-        let refreshing = self.is_refresh_near();
+        let refreshing = self.is_refreshing();
         let asked = if refreshing {
             self.refreshing_event()
         } else {
@@ -284,14 +301,21 @@ impl<'a> Builder<'a> {
         let slack = if refreshing { 0 } else { self.slack() };
         let mut cycle = soonest + slack;
         let refreshes = asked.command == Command::AutoRefresh;
-        if refreshes && soonest <= self.due() && self.dice.percent(20) {
-            cycle = self.due();
+        if refreshes && soonest <= self.due() && self.dice.percent(40) {
+            cycle = self.telling_cycle(soonest);
         }
         if cycle > self.due() || cycle > u64::from(LAST_CYCLE) {
             return false;
         }
         self.push_applied(cycle, asked);
         true
+    }
+
+    /// Where a refresh tells most: when it is due, at a multiple of tREFI, or just before.
+    fn telling_cycle(&mut self, soonest: u64) -> u64 {
+        let multiple = self.part.owed.next_multiple(soonest);
+        let cycles = [self.due(), self.due(), multiple, multiple - 1];
+        self.dice.pick(&cycles).min(self.due())
     }
 
     /// Adds an event soon after the one before. False where the capture must end.
@@ -316,8 +340,8 @@ impl<'a> Builder<'a> {
 
     fn slack(&mut self) -> u64 {
         if self.part.sleep == State::Asleep(Sleep::SelfRefresh) && self.dice.percent(30) {
-            let gap = self.part.settings.gap as u32;
-            return u64::from(self.dice.below(3 * gap));
+            let t_refi = self.part.settings.t_refi as u32;
+            return u64::from(self.dice.below(20 * t_refi));
         }
         if self.dice.percent(self.style.prompt_percent) {
             return 0;
@@ -330,8 +354,16 @@ impl<'a> Builder<'a> {
     fn is_refresh_near(&self) -> bool {
         let settings = &self.part.settings;
         let closing = settings.t_ras + settings.t_wr + settings.t_rp + 40;
-        let worth_it = settings.gap > closing + settings.t_rfc + settings.t_mrd;
-        worth_it && self.next + closing > self.due()
+        let worth_it = 4 * settings.t_refi > closing + settings.t_mrd;
+        worth_it && settings.t_refi > settings.t_rfc && self.next + closing > self.due()
+    }
+
+    /// Whether a refresh should come next: one is near, or more are paid back after it.
+    fn is_refreshing(&mut self) -> bool {
+        let owed = self.part.owed.at(self.next);
+        self.paying_back &= owed > self.style.left_owed && self.part.sleep.is_awake();
+        self.paying_back |= self.is_refresh_near();
+        self.paying_back
     }
 
     fn refreshing_event(&mut self) -> Asked {
@@ -536,7 +568,7 @@ impl<'a> Builder<'a> {
     /// A command of any kind in sleep, soon or after the refresh is due.
     fn event_asleep(&mut self) -> (u64, u32) {
         let soon = self.next + u64::from(self.dice.below(30));
-        let late = self.part.gap_from + self.part.settings.gap + 1;
+        let late = self.part.owed.too_many_from();
         let cycle = self.dice.pick(&[soon, soon, late.max(self.next)]);
         let quiet = self.idle_command().pins();
         let fitting = self.usual_command().pins();

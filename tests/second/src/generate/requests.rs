@@ -2,14 +2,14 @@
 
 use super::settings::{self, Kind};
 use super::Dice;
-use crate::capture::{GAP_SETTING, LIMITS, MODE_SETTING, SETTINGS, T_RC_SETTING};
+use crate::capture::{LIMITS, MODE_SETTING, SETTINGS, T_RC_SETTING, T_REFI_SETTING};
 use crate::schedule::MOST_REQUESTS;
 
 const WRITE: u32 = 1 << 31;
 
 pub fn request_list(dice: &mut Dice) -> (Vec<u32>, Vec<u32>) {
     let kind = settings::kind(dice);
-    let list = settings_with_gap(dice, kind);
+    let list = settings_with_refreshes(dice, kind);
     let count = request_count(dice, kind);
     let mut requests = good_requests(dice, &list, count);
     if dice.percent(15) {
@@ -22,13 +22,13 @@ pub fn request_list(dice: &mut Dice) -> (Vec<u32>, Vec<u32>) {
     (list, requests)
 }
 
-/// Valid settings whose GAP often lets only a few requests pass between refreshes.
-fn settings_with_gap(dice: &mut Dice, kind: Kind) -> [u32; SETTINGS] {
+/// Valid settings whose tREFI often lets only a request or two pass between refreshes.
+fn settings_with_refreshes(dice: &mut Dice, kind: Kind) -> [u32; SETTINGS] {
     let mut list = settings::settings(dice, kind);
-    let times: u32 = list[4..GAP_SETTING].iter().sum();
+    let times: u32 = list[4..T_REFI_SETTING].iter().sum();
     if dice.percent(60) {
-        let few_requests = times / 2 + dice.below(times * 3);
-        list[GAP_SETTING] = few_requests.clamp(1, LIMITS[GAP_SETTING].1);
+        let few_requests = times / 8 + dice.below(times);
+        list[T_REFI_SETTING] = few_requests.clamp(1, LIMITS[T_REFI_SETTING].1);
     }
     list
 }

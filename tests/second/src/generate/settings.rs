@@ -3,7 +3,7 @@
 
 use super::Dice;
 use crate::capture::{
-    GAP_SETTING, LIMITS, MODE_SETTING, SETTINGS, T_RAS_SETTING, T_RC_SETTING, T_RP_SETTING,
+    LIMITS, MODE_SETTING, SETTINGS, T_RAS_SETTING, T_RC_SETTING, T_REFI_SETTING, T_RP_SETTING,
 };
 
 const PARTS: &str = include_str!("../../../data/part-settings.csv");
@@ -101,10 +101,11 @@ fn short(dice: &mut Dice) -> [u32; SETTINGS] {
             settings[place] = dice.between(longest, 5 * longest);
         }
     }
-    settings[GAP_SETTING] = match dice.below(10) {
-        0 => dice.between(1, 60),
-        1 => dice.between(60, 200),
-        _ => dice.between(200, 3_000),
+    settings[T_REFI_SETTING] = match dice.below(10) {
+        0 => dice.between(1, 8),
+        1 => dice.between(8, 25),
+        2..=5 => dice.between(25, 120),
+        _ => dice.between(120, 400),
     };
     settings
 }
@@ -119,7 +120,7 @@ fn tight(dice: &mut Dice) -> [u32; SETTINGS] {
     for time in &mut settings[TIMES] {
         *time = dice.pick(&[1, 1, 1, 2, 3]);
     }
-    settings[GAP_SETTING] = dice.between(200, 1_000);
+    settings[T_REFI_SETTING] = dice.between(25, 120);
     settings
 }
 
@@ -139,7 +140,7 @@ fn real_part(dice: &mut Dice) -> [u32; SETTINGS] {
 fn limits(dice: &mut Dice) -> [u32; SETTINGS] {
     let mut settings = [0; SETTINGS];
     settings[..4].copy_from_slice(&organisation(dice));
-    for place in TIMES.chain([GAP_SETTING]) {
+    for place in TIMES.chain([T_REFI_SETTING]) {
         settings[place] = at_a_limit(dice, place);
     }
     settings
