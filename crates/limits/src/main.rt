@@ -34,7 +34,7 @@ const T_RC: u32 = 52;
 
 const T_MRD: u32 = 72;
 
-const GAP: u32 = 76;
+const T_REFI: u32 = 76;
 
 const T_XP: u32 = 80;
 
@@ -281,13 +281,13 @@ fn numbers_in_order() {
     twice_changed(80, LAST_WORD, 1, LANE, 0, 2, 0);
     twice_changed(104, EVENTS_COUNT, 2, PINS_0, 0x0010_0000, 2, 0);
     twice_changed(104, LANE, 3, PINS_0, 0x0010_0000, 3, 0);
-    twice_changed(104, GAP, 0, PINS_0, 0x0010_0000, 3, 13);
+    twice_changed(104, T_REFI, 0, PINS_0, 0x0010_0000, 3, 13);
 }
 
 // "lowest such setting", by range or by the mode word alike; "lowest event"
 fn lowest_places() {
     twice_changed(104, T_RCD, 0, LANE, 0, 3, 0);
-    twice_changed(104, GAP, 0, T_MRD, 0, 3, 12);
+    twice_changed(104, T_REFI, 0, T_MRD, 0, 3, 12);
     twice_changed(104, T_RCD, 0, MODE, 0x02, 3, 3);
     twice_changed(104, T_RCD, 0, MODE, 0x80, 3, 3);
     twice_changed(104, PINS_2, 0x0010_0000, PINS_0, 0x0010_0000, 4, 0);
@@ -530,7 +530,7 @@ fn contradictions_and_other_faults() {
     together_with(14, times, LANE, 0, 3, 0);
     together_with(14, times, MODE, 0x02, 3, 3);
     together_with(14, times, T_RP, 0, 3, 5);
-    together_with(14, times, GAP, 0, 3, 13);
+    together_with(14, times, T_REFI, 0, 3, 13);
     together_with(16, times, T_XP, 0, 3, 14);
     together_with(16, times, T_XSR, 0, 3, 15);
     together_with(14, times, PINS_0, 0x0010_0000, 3, 7);

@@ -11,9 +11,53 @@ const WRITE: u32 = 0x8000_0000;
 // The first cell of bank 1, with 13 row bits and 10 column bits.
 const BANK_1: u32 = 8_388_608;
 
-// The settings of 01's cases but for GAP.
-fn settings(gap: u32) -> [u32; settings::COUNT] {
-    [1, 13, 10, 0x32, 3, 3, 7, 10, 2, 3, 1, 12, 2, gap]
+// The requests of case m, ten times over.
+const TEN_TIMES_M: [u32; 40] = [
+    5,
+    0x8080_0000,
+    5,
+    8_388_608,
+    5,
+    0x8080_0000,
+    5,
+    8_388_608,
+    5,
+    0x8080_0000,
+    5,
+    8_388_608,
+    5,
+    0x8080_0000,
+    5,
+    8_388_608,
+    5,
+    0x8080_0000,
+    5,
+    8_388_608,
+    5,
+    0x8080_0000,
+    5,
+    8_388_608,
+    5,
+    0x8080_0000,
+    5,
+    8_388_608,
+    5,
+    0x8080_0000,
+    5,
+    8_388_608,
+    5,
+    0x8080_0000,
+    5,
+    8_388_608,
+    5,
+    0x8080_0000,
+    5,
+    8_388_608,
+];
+
+// The settings of 01's cases but for tREFI.
+fn settings(refi: u32) -> [u32; settings::COUNT] {
+    [1, 13, 10, 0x32, 3, 3, 7, 10, 2, 3, 1, 12, 2, refi]
 }
 
 fn load(capture: &[u8], at: u32) -> u32 {
@@ -125,28 +169,40 @@ fn print_nines(name: &[u8], rest: &[u8]) {
 
 // ---- lists
 
-// "GAP 24 ...: ACTIVE 0, READ 3, ACTIVE 4, WRITE 8, ACTIVE 10, READ 13, AUTO REFRESH 20, ACTIVE 32, READ 35. With GAP 16:
-// refusal 6, place 1."
+// With tREFI 4 nine are owed at 36, behind all of it; with tREFI 2 at 18, and the third request would end behind that.
 fn print_case_m() {
     let requests = [5, WRITE | BANK_1, 5, BANK_1];
     let mut out = [0u8; 200];
-    let loose = schedule::schedule(&settings(24), &requests, &mut out);
-    print_scheduled(b"case m, GAP 24", loose, &out);
-    let tight = schedule::schedule(&settings(16), &requests, &mut out);
-    print_scheduled(b"case m, GAP 16", tight, &out);
+    let loose = schedule::schedule(&settings(4), &requests, &mut out);
+    print_scheduled(b"case m, tREFI 4", loose, &out);
+    let tight = schedule::schedule(&settings(2), &requests, &mut out);
+    print_scheduled(b"case m, tREFI 2", tight, &out);
 }
 
-// ACTIVE 0 and READ 3 close bank 0 at 7, so that an AUTO REFRESH may come at 10: in time for GAP 10, late for GAP 9. With
-// AUTO REFRESH 0, ACTIVE 12 and READ 15 the next may come at 22, late too.
+// Its list ten times over. With tREFI 24 the first AUTO REFRESH comes at 215, before request 38 and so behind 76 events.
+fn print_case_m_ten_times() {
+    let mut out = [0u8; 1_000];
+    let paid = schedule::schedule(&settings(24), &TEN_TIMES_M, &mut out);
+    print_scheduled(b"ten times over, tREFI 24", paid, &out);
+    say(b"its event 76: ");
+    print_command(load(&out, 84 + 8 * 76));
+    print(load(&out, 80 + 8 * 76));
+    say(b"\n");
+    let late = schedule::schedule(&settings(16), &TEN_TIMES_M, &mut out);
+    print_scheduled(b"ten times over, tREFI 16", late, &out);
+}
+
+// ACTIVE 0 and READ 3 close bank 0 at 7, so that an AUTO REFRESH may come at 10: with tREFI 2 five are owed then, with
+// tREFI 1 ten. AUTO REFRESH 0 pays nothing; with ACTIVE 12 and READ 15 the next may come at 22.
 fn print_few() {
     let mut out = [9u8; 100];
     let none = schedule::schedule(&settings(1), &[], &mut out);
-    print_scheduled(b"no request, GAP 1", none, &out);
-    let one = schedule::schedule(&settings(10), &[5], &mut out);
-    print_scheduled(b"one request, GAP 10", one, &out);
+    print_scheduled(b"no request, tREFI 1", none, &out);
+    let one = schedule::schedule(&settings(2), &[5], &mut out);
+    print_scheduled(b"one request, tREFI 2", one, &out);
     print_nines(b"four bytes behind it", &out[96..]);
-    let late = schedule::schedule(&settings(9), &[5], &mut out);
-    print_scheduled(b"one request, GAP 9", late, &out);
+    let late = schedule::schedule(&settings(1), &[5], &mut out);
+    print_scheduled(b"one request, tREFI 1", late, &out);
 }
 
 // One byte too few, a word too many, settings that are wrong, and a cell behind the last.
@@ -156,38 +212,41 @@ fn print_refused() {
     print_scheduled(b"95 bytes for one request", short, &out);
     let count = schedule::schedule(&[0u32; 15], &[5], &mut out);
     print_scheduled(b"15 settings", count, &out);
-    let gap = schedule::schedule(&settings(0), &[5], &mut out);
-    print_scheduled(b"GAP 0", gap, &out);
+    let never = schedule::schedule(&settings(0), &[5], &mut out);
+    print_scheduled(b"tREFI 0", never, &out);
     let cell = schedule::schedule(&settings(10), &[5, 4 * BANK_1], &mut out);
     print_scheduled(b"the second cell is none", cell, &out);
     print_nines(b"the buffer", &out);
 }
 
 // Each request reads cell 5. Alone it takes the bank for 10 cycles: ACTIVE at 10 i, READ at 10 i + 3, the last at 19,993.
-// With an AUTO REFRESH it takes 22: 12, and 10. So GAP 22 holds two requests without one and then one at a time: AUTO
-// REFRESH at 22 i - 24, READ 15 behind it, the last at 43,969; and 2 + 2 + 1,998 x 3 events. GAP 21 fails at the third.
+// With an AUTO REFRESH it takes 22: 12, and 10. With tREFI 22 nine are owed at 198, so the first AUTO REFRESH comes before
+// request 19, at 190, and one before each from there on: at 190 + 22 k, READ 15 behind it, the last at 43,765; 4,000 events
+// and 1,981. With tREFI 21 it begins with request 18 at 180; after request 18 + k an AUTO REFRESH may come at 202 + 22 k, and
+// nine are owed at 210 + 21 k: too late for k = 8.
 fn print_longest() {
     let requests = [5u32; 2_000];
     let mut out = [0u8; 48_080];
     let loose = schedule::schedule(&settings(1_000_000), &requests, &mut out);
-    print_scheduled(b"2000 requests, GAP 1000000", loose, &out);
+    print_scheduled(b"2000 requests, tREFI 1000000", loose, &out);
     let tight = schedule::schedule(&settings(22), &requests, &mut out);
-    print_scheduled(b"2000 requests, GAP 22", tight, &out);
+    print_scheduled(b"2000 requests, tREFI 22", tight, &out);
     let late = schedule::schedule(&settings(21), &requests, &mut out);
-    print_scheduled(b"2000 requests, GAP 21", late, &out);
+    print_scheduled(b"2000 requests, tREFI 21", late, &out);
 }
 
 fn print_too_many() {
     let requests = [5u32; 2_001];
     let mut out = [9u8; 100];
     let loose = schedule::schedule(&settings(1_000_000), &requests, &mut out);
-    print_scheduled(b"2001 requests, GAP 1000000", loose, &out);
+    print_scheduled(b"2001 requests, tREFI 1000000", loose, &out);
     let tight = schedule::schedule(&settings(21), &requests, &mut out);
-    print_scheduled(b"2001 requests, GAP 21", tight, &out);
+    print_scheduled(b"2001 requests, tREFI 21", tight, &out);
 }
 
 fn main() {
     print_case_m();
+    print_case_m_ten_times();
     print_few();
     print_refused();
     print_longest();

@@ -4,11 +4,11 @@ use console::Out;
 use console::say;
 use console::say_number;
 use settings::Settings;
-use settings::places::GAP;
 use settings::places::ROW_BITS;
 use settings::places::T_MRD;
 use settings::places::T_RAS;
 use settings::places::T_RCD;
+use settings::places::T_REFI;
 use settings::places::T_RFC;
 use settings::places::T_RP;
 use settings::places::T_RRD;
@@ -50,17 +50,17 @@ fn ask_of_refresh(out: &mut Out, settings: &Settings) {
     if sleeps(settings) {
         ask(
             out,
-            b"every event but in self refresh at most GAP (",
-            settings[GAP],
-            b") cycles after the last AUTO REFRESH with CKE high or the end of self refresh, or after cycle 0 if there was neither",
+            b"at every event but in self refresh at most eight AUTO REFRESHes are owed, one for each tREFI (",
+            settings[T_REFI],
+            b") cycles since the start or the end of self refresh",
         );
         return;
     }
     ask(
         out,
-        b"every event at most GAP (",
-        settings[GAP],
-        b") cycles after the last AUTO REFRESH, or after cycle 0 if there was none",
+        b"at every event at most eight AUTO REFRESHes are owed, one for each tREFI (",
+        settings[T_REFI],
+        b") cycles",
     );
 }
 
