@@ -31,6 +31,7 @@ use Rattle.deadlines.proofs.sums.pick.Reads as deadlines-sums-pick
 use Rattle.deadlines.proofs.sums.pace.Reads as deadlines-sums-pace
 use Rattle.deadlines.proofs.sums.rows.Reads as deadlines-sums-rows
 use Rattle.deadlines.proofs.clock.overdue_from.Reads as deadlines-clock-overdue-from
+use Rattle.deadlines.proofs.clock.overdue_after.Reads as deadlines-clock-overdue-after
 use Rattle.rules.proofs.active_breaks.Reads as rules-active-breaks
 use Rattle.rules.proofs.read_breaks.Reads as rules-read-breaks
 use Rattle.rules.proofs.write_breaks.Reads as rules-write-breaks
@@ -184,6 +185,10 @@ deadlines-sums-rows-settles κs a z z′ e e′ p q = p ∙ sym q
 pub deadlines-clock-overdue-from-settles : (κs : _) (a : _) (z z′ : _) (e e′ : _) → deadlines-clock-overdue-from.Post κs a z e → deadlines-clock-overdue-from.Post κs a z′ e′ →
     z ≡ z′
 deadlines-clock-overdue-from-settles κs a z z′ e e′ p q = p ∙ sym q
+
+pub deadlines-clock-overdue-after-settles : (κs : _) (a : _) (z z′ : _) (e e′ : _) → deadlines-clock-overdue-after.Post κs a z e → deadlines-clock-overdue-after.Post κs a z′ e′ →
+    z ≡ z′
+deadlines-clock-overdue-after-settles κs a z z′ e e′ p q = p ∙ sym q
 
 -- ---- pins
 
