@@ -90,8 +90,8 @@ module _ (ws qs w₀ : List ℕ) where
           between = begins ∙ ap betweenOf (start-laid s);
           fair =
               record {
-                rests = λ i l. omega (arith, stands (X []) i l .rest);
-                bus = omega arith;
+                rests = λ i l. omega (arith, g .least-tREFI, stands (X []) i l .rest);
+                bus = omega (arith, g .least-tREFI);
                 others = λ i l. omega (arith, stands (X []) i l .other);
                 reads = omega arith;
                 writes = omega arith;
