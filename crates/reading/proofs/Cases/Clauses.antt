@@ -352,6 +352,8 @@ rule14 =
     ∷ line (at 9000 (MODE + 0x32) ∷ []) (breaks 0 14 0 9000)
     ∷ line (at 0 ACTIVE ∷ at 9000 READ ∷ []) (breaks 1 14 1 9000)
     ∷ line (at 0 ACTIVE ∷ at 9000 WRITE ∷ []) (breaks 1 14 1 9000)
+    -- a lower rule is told first
+    ∷ line (at 9000 READ ∷ []) (breaks 0 3 0 9000)
     -- no other command pays
     ∷ line (at 500 NOP ∷ at 9000 NOP ∷ []) (breaks 1 14 1 9000)
     ∷ line (at 500 DESELECT ∷ at 9000 NOP ∷ []) (breaks 1 14 1 9000)

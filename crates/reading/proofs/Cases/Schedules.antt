@@ -91,7 +91,7 @@ cases =
     ∷ refusing usual (0x40000000 ∷ []) [] 5 0
     ∷ refusing usual (0x1ffffff ∷ 0x2000000 ∷ []) [] 5 1
     ∷ refusing (set (set usual 1 12) 2 8) (0x3fffff ∷ 0x400000 ∷ []) [] 5 1
-    ∷ refusing (set usual 13 16) (5 ∷ 8388608 ∷ 0x2000000 ∷ []) [] 5 2
+    ∷ refusing (set usual 13 1) (5 ∷ 8388608 ∷ 0x2000000 ∷ []) [] 5 2
     -- 2,000 requests are looked at, one more is too many
     ∷ refusing usual (replicate 2000 0x78000000) [] 5 0
     ∷ refusing usual (replicate 2001 0x78000000) [] 5 2000

@@ -77,8 +77,8 @@ lines =
     ∷ breaking (at 0 (NOP + LOW) ∷ at 5 (ACTIVE + LOW + 0x2000) ∷ []) 1 1 5
     ∷ breaking (at 0 (NOP + LOW) ∷ at 5 READ ∷ []) 1 3 5
     ∷ breaking (at 0 (NOP + LOW) ∷ at 5 (PRECHARGE + LOW) ∷ []) 1 15 5
-    ∷ breaking (at 0 (REFRESH + LOW) ∷ at 5000 ACTIVE ∷ []) 1 15 5000
-    ∷ breaking (at 0 (REFRESH + LOW) ∷ at 5000 (ACTIVE + LOW) ∷ []) 1 15 5000
+    ∷ breaking (at 0 (REFRESH + LOW) ∷ at 10000 ACTIVE ∷ []) 1 15 10000
+    ∷ breaking (at 0 (REFRESH + LOW) ∷ at 10000 (ACTIVE + LOW) ∷ []) 1 15 10000
     ∷ []
 
 worked-lines : Hold lines
@@ -94,7 +94,7 @@ clauses =
     -- power-down waits for a write's data end, not for tWR
     ∷ under (set sleeping 9 30) (at 0 ACTIVE ∷ at 3 WRITE ∷ at 6 (NOP + LOW) ∷ []) (touches 3 (0 ∷ 1 ∷ 2 ∷ 3 ∷ []))
     -- DESELECT low keeps the part asleep, DESELECT high leaves self refresh; leaving restarts rule 14, not rule 4
-    ∷ quietly 4 (at 0 (REFRESH + LOW) ∷ at 3000 (DESELECT + LOW) ∷ at 4000 DESELECT ∷ at 5000 NOP ∷ [])
+    ∷ quietly 4 (at 0 (REFRESH + LOW) ∷ at 13000 (DESELECT + LOW) ∷ at 14000 DESELECT ∷ at 15000 NOP ∷ [])
     ∷ under (set sleeping 11 30) (at 0 REFRESH ∷ at 30 (REFRESH + LOW) ∷ at 31 NOP ∷ at 51 ACTIVE ∷ []) (touches 4 [])
     -- the wait after power-down is not that after self refresh, in either order
     ∷ quietly 5 (at 0 (REFRESH + LOW) ∷ at 1 NOP ∷ at 21 (NOP + LOW) ∷ at 22 NOP ∷ at 24 ACTIVE ∷ [])
@@ -111,7 +111,7 @@ clauses =
     ∷ breaking (at 0 (NOP + LOW) ∷ at 9000 (TERMINATE + LOW) ∷ []) 1 14 9000
     ∷ breaking (at 0 (NOP + LOW) ∷ at 8998 NOP ∷ at 9000 (NOP + LOW) ∷ []) 2 14 9000
     -- not asked of a command in self refresh, nor of a wrong exit; a wrong entry names lower rules first
-    ∷ breaking (at 0 (REFRESH + LOW) ∷ at 5000 (TERMINATE + LOW) ∷ []) 1 15 5000
+    ∷ breaking (at 0 (REFRESH + LOW) ∷ at 10000 (TERMINATE + LOW) ∷ []) 1 15 10000
     ∷ breaking (at 0 REFRESH ∷ at 5 (TERMINATE + LOW) ∷ []) 1 4 5
     -- self refresh behind a write with auto precharge, as soon as its bank has rested
     ∷ under (set (set (set (set sleeping 5 1) 6 1) 7 2) 9 1) (at 0 ACTIVE ∷ at 3 (WRITE + A10) ∷ at 8 (REFRESH + LOW) ∷ [])
