@@ -8,8 +8,8 @@ use Rattle.reading.specs.Commands.{Command, ACTIVE, READ, WRITE, commandOf, is,
 use Rattle.reading.specs.Settings.{Settings}
 use Rattle.reading.specs.Capture.{Event}
 use Rattle.reading.specs.Bursts.{Burst}
-use Rattle.reading.specs.Part.{Part, Bank, openOn, idleFrom, autoPrecharge, closes, cuts, step}
-use Rattle.reading.proofs.Cuts.{allOpen}
+use Rattle.reading.specs.Part.{Part, Bank, openOn, idleFrom, autoPrecharge, closes, step}
+use Rattle.reading.proofs.Alone.{cutsAlone}
 use Rattle.pins.specs.Pins.{codeOf, bankOf, addressOf, modeAfter}
 use Rattle.pins.proofs.Commands.{active-is, read-is, write-is, terminate-is, precharge-is, mode-set-is}
 use Rattle.beats.specs.Kept.{gives, cutsBurst}
@@ -25,9 +25,9 @@ module _ (w : ℕ) where
   pub gives-is : among (READ ∷ WRITE ∷ []) (commandOf w) ≡ gives w
   gives-is = rw (read-is, write-is) (either-none (eqb (codeOf w) 10) (eqb (codeOf w) 2))
 
-  -- whichever banks are open; the pins b gave the burst x
-  pub cuts-is : (p : Part) (b : ℕ) (x : Burst) → x .writes ≡ eqb (codeOf b) 2 → x .bank ≡ bankOf b → cuts (allOpen p) (commandOf w) x ≡ cutsBurst b w
-  cuts-is p b x e f = rw (e, f, read-is, write-is, terminate-is, precharge-is) (go (eqb (codeOf b) 2) (eqb (codeOf w) 10) (eqb (codeOf w) 6) _ _)
+  -- the pins b gave the burst x
+  pub cuts-is : (b : ℕ) (x : Burst) → x .writes ≡ eqb (codeOf b) 2 → x .bank ≡ bankOf b → cutsAlone (commandOf w) x ≡ cutsBurst b w
+  cuts-is b x e f = rw (e, f, read-is, write-is, terminate-is, precharge-is) (go (eqb (codeOf b) 2) (eqb (codeOf w) 10) (eqb (codeOf w) 6) _ _)
     where
       go : (v p q y z : Bool) → cond v y ((p || (q || false)) || z) ≡ cond v y (p || (q || z))
       go true p q y z = refl

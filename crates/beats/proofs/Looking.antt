@@ -1,16 +1,17 @@
 -- A turn of the look ahead: as long as nothing cut the burst, the events from j on decide what it keeps.
 use Prim.Native.Nat.{ℕ, suc, _+_, _-_, _≤_, _<_}
-use mathlib.Core.Bool.{Bool, true, false, cond}
+use mathlib.Core.Bool.{Bool, true, false, cond, _&&_}
 use mathlib.Core.List.{List, [], _∷_}
 use mathlib.Core.Path.{_≡_, refl, sym, ap, _∙_}
 use native.Mathlib.Omega.{arith}
 use borrow.Author.Tests.{lt-ltb, le-ltb, lt-leb, leb-false}
-use lib.Dec.{leb, ltb}
+use lib.Dec.{leb, ltb, eqb}
 use Rattle.reading.specs.Search.{lesser}
 use Rattle.reading.specs.Mode.{h}
+use Rattle.reading.specs.Settings.{Settings, newer}
 use Rattle.reading.specs.Capture.{Event, eventAt}
-use Rattle.pins.specs.Pins.{tenOf}
-use Rattle.beats.specs.Kept.{Fit, eventsFrom, gives, cutsBurst, keptBy, keptAhead, cutAhead, keptOf}
+use Rattle.pins.specs.Pins.{codeOf, bankOf, tenOf}
+use Rattle.beats.specs.Kept.{Fit, eventsFrom, gives, cutsBurst, keptBy, keptAhead, cutAhead, leftBy, nextLeaves, rowLeaves, interruptedAhead, keptOf}
 use Rattle.beats.proofs.Columns.{half-le}
 use Rattle.beats.proofs.Events.{next-event, no-event, rise-behind}
 use Rattle.beats.proofs.Cut.{cut-once}
@@ -87,29 +88,52 @@ ahead-le b k end pairs (e ∷ es) = go (ltb (e .cycle) end) (ahead-le b k end (k
     go true ih = omega (arith, ih, by-le b k pairs e)
     go false ih = omega arith
 
-pub kept-half : (mode : ℕ) (e : Event) (es : List Event) → keptOf mode e es ≤ h mode
-unfolding keptOf
-kept-half mode e es = go (gives (e .pins)) (tenOf (e .pins))
+next-le : (s : Settings) (k pairs : ℕ) (es : List Event) → nextLeaves s k pairs es ≤ pairs
+unfolding nextLeaves
+next-le s k pairs [] = omega arith
+next-le s k pairs (e ∷ es) = go (gives (e .pins)) (next-le s k pairs es)
   where
-    go : (v a : Bool) → cond v (cond a (h mode) (cutAhead mode e es)) 0 ≤ h mode
-    go true true = omega arith
-    go true false = ahead-le (e .pins) (e .cycle) (e .cycle + h mode) (h mode) es
-    go false a = omega arith
+    go : (v : Bool) → nextLeaves s k pairs es ≤ pairs → cond v (leftBy s k pairs e) (nextLeaves s k pairs es) ≤ pairs
+    go true ih = lesser-le pairs (e .cycle - cond (eqb (codeOf (e .pins)) 10) (k + 1 + s .tWTR) k)
+    go false ih = ih
 
-pub kept-le : (mode : ℕ) (e : Event) (es : List Event) → keptOf mode e es ≤ 64
-kept-le mode e es = omega (arith, half-le mode, kept-half mode e es)
+pub kept-half : (s : Settings) (mode : ℕ) (e : Event) (es : List Event) → keptOf s mode e es ≤ h mode
+unfolding keptOf
+kept-half s mode e es = go (gives (e .pins)) (tenOf (e .pins)) (newer s && eqb (codeOf (e .pins)) 2)
+  where
+    go : (v a i : Bool) → cond v (cond a (h mode) (cond i (interruptedAhead s mode e es) (cutAhead mode e es))) 0 ≤ h mode
+    go true true i = omega arith
+    go true false true =
+        omega (
+          arith,
+          lesser-le (nextLeaves s (e .cycle) (h mode) es) (rowLeaves s (bankOf (e .pins)) (e .cycle) (h mode) es),
+          next-le s (e .cycle) (h mode) es,
+        )
+    go true false false = ahead-le (e .pins) (e .cycle) (e .cycle + h mode) (h mode) es
+    go false a i = omega arith
+
+pub kept-le : (s : Settings) (mode : ℕ) (e : Event) (es : List Event) → keptOf s mode e es ≤ 64
+kept-le s mode e es = omega (arith, half-le mode, kept-half s mode e es)
 
 -- the pairs of an event, by what was read of its pins
-module _ (mode : ℕ) (e : Event) (es : List Event) {pins : ℕ} (p : pins ≡ e .pins) {given : Bool} (g : given ≡ gives pins) where
-  pub kept-none : given ≡ false → 0 ≡ keptOf mode e es
+module _ (s : Settings) (mode : ℕ) (e : Event) (es : List Event) {pins : ℕ} (p : pins ≡ e .pins) {given : Bool} (g : given ≡ gives pins) where
+  pub kept-none : given ≡ false → 0 ≡ keptOf s mode e es
   unfolding keptOf
   kept-none f = rw (← p, ← g, f)
 
   module _ (f : given ≡ true) {auto : Bool} (a : auto ≡ tenOf pins) where
-    pub kept-all : {half : ℕ} → auto ≡ true → half ≡ h mode → half ≡ keptOf mode e es
+    pub kept-all : {half : ℕ} → auto ≡ true → half ≡ h mode → half ≡ keptOf s mode e es
     unfolding keptOf
     kept-all t i = rw (← p, ← g, f, ← a, t) i
 
-    pub kept-cut : {pairs : ℕ} → auto ≡ false → pairs ≡ cutAhead mode e es → pairs ≡ keptOf mode e es
-    unfolding keptOf
-    kept-cut t i = i ∙ rw (ap gives (sym p) ∙ sym g ∙ f, ap tenOf (sym p) ∙ sym a ∙ t)
+    module _ {early : Bool} (q : early ≡ (newer s && eqb (codeOf pins) 2)) (t : auto ≡ false) where
+      kept-by : {pairs : ℕ} (v : Bool) → early ≡ v → pairs ≡ cond v (interruptedAhead s mode e es) (cutAhead mode e es) → pairs ≡ keptOf s mode e es
+      unfolding keptOf
+      kept-by v k i =
+          i ∙ rw (ap gives (sym p) ∙ sym g ∙ f, ap tenOf (sym p) ∙ sym a ∙ t, ap (λ (w : ℕ). newer s && eqb (codeOf w) 2) (sym p) ∙ sym q ∙ k)
+
+      pub kept-cut : {pairs : ℕ} → early ≡ false → pairs ≡ cutAhead mode e es → pairs ≡ keptOf s mode e es
+      kept-cut k i = kept-by false k i
+
+      pub kept-interrupted : {pairs : ℕ} → early ≡ true → pairs ≡ interruptedAhead s mode e es → pairs ≡ keptOf s mode e es
+      kept-interrupted k i = kept-by true k i

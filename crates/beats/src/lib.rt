@@ -1,18 +1,26 @@
 // Bursts by arithmetic: the columns and cells of their beats, and the pairs that they keep, found by looking ahead.
+use deadlines::sums::after2;
+use deadlines::sums::data_after;
+use deadlines::sums::past;
 use settings::Settings;
 use settings::places::COLUMN_BITS;
+use settings::places::EDITION;
 use settings::places::ROW_BITS;
+use settings::places::T_WR;
+use settings::places::T_WTR;
 ghost use mathlib.Core.Path.{_≡_};
-ghost use mathlib.Core.Bool.{true, false};
-ghost use Prim.Native.Nat.{_+_, _*_, _^_, _%_, _≤_, _<_};
+ghost use mathlib.Core.Bool.{true, false, cond, _&&_};
+ghost use Prim.Native.Nat.{_+_, _-_, _*_, _^_, _%_, _≤_, _<_};
 ghost use lib.ListN.{length};
 ghost use lib.Seq.{sets};
+ghost use lib.Dec.{eqb};
+ghost use Rattle.reading.specs.Search.{lesser};
 ghost use Rattle.reading.specs.Mode.{BL};
-ghost use Rattle.reading.specs.Settings.{settingsOf};
+ghost use Rattle.reading.specs.Settings.{settingsOf, newer};
 ghost use Rattle.reading.specs.Capture.{eventAt};
 ghost use Rattle.reading.specs.Bursts.{columnOf};
-ghost use Rattle.pins.specs.Pins.{addressOf, modeAfter};
-ghost use Rattle.beats.specs.Kept.{Fit, gives, cutsBurst, eventsFrom, cutAhead, keptOf};
+ghost use Rattle.pins.specs.Pins.{codeOf, bankOf, addressOf, modeAfter};
+ghost use Rattle.beats.specs.Kept.{Fit, gives, shutsBank, cutsBurst, eventsFrom, cutAhead, nextLeaves, takesBank, rowLeaves, keptOf};
 ghost use Rattle.beats.specs.Rows.{Sized, InRow, InBlock, firstCell, firstCells, cellsOpened, blockCells, beatCells};
 
 // ---- what the pins of an event are to a burst
@@ -25,6 +33,19 @@ pub fn gives_burst(w: u32) -> bool
         return true;
     }
     asked == pins::WRITE
+}
+
+// A PRECHARGE of the bank, or of all.
+fn shuts_bank(bank: usize, w: u32) -> bool
+    ensures { λ r. ⌜ r ≡ shutsBank bank w ⌝ }
+{
+    if pins::code(w) != pins::PRECHARGE {
+        return false;
+    }
+    if pins::ten(w) {
+        return true;
+    }
+    bank == pins::bank(w)
 }
 
 fn cuts_burst(burst: u32, w: u32) -> bool
@@ -40,13 +61,27 @@ fn cuts_burst(burst: u32, w: u32) -> bool
     if asked == pins::TERMINATE {
         return true;
     }
-    if asked != pins::PRECHARGE {
+    shuts_bank(pins::bank(burst), w)
+}
+
+// After these a PRECHARGE of the bank does nothing to a write that was given there before.
+fn takes_bank(bank: usize, w: u32) -> bool
+    ensures { λ r. ⌜ r ≡ takesBank bank w ⌝ }
+{
+    if bank != pins::bank(w) {
         return false;
     }
-    if pins::ten(w) {
+    let asked = pins::code(w);
+    if asked == pins::ACTIVE {
         return true;
     }
-    pins::bank(burst) == pins::bank(w)
+    if asked == pins::WRITE {
+        return true;
+    }
+    if asked != pins::READ {
+        return false;
+    }
+    pins::ten(w)
 }
 
 // MODE REGISTER SET with 00 replaces the mode word at once.
@@ -193,17 +228,121 @@ fn look_ahead(bytes: &[u8], n: u32, i: u32, mode: u32) -> u32
     half
 }
 
-// The pairs that the burst of event i keeps in the end; none if the event gives no burst.
-pub fn kept(bytes: &[u8], n: u32, i: u32, mode: u32) -> u32
+// Of some pairs those before cycle t, the first of them at `from`.
+fn before(pairs: u32, t: u32, from: u64) -> u32
+    ensures { λ r. ⌜ r ≡ lesser pairs (t - from) ⌝ }
+{
+    if (t as u64) <= from {
+        return 0;
+    }
+    let gone = (t as u64) - from;
+    if (pairs as u64) <= gone {
+        return pairs;
+    }
+    gone as u32
+}
+
+// Of a write at event i that can be interrupted, the pairs that the first READ or WRITE behind it leaves. Far enough behind it
+// none takes any.
+fn next_leaves(s: &Settings, bytes: &[u8], n: u32, i: u32, pairs: u32) -> u32
     requires { ⌜ Fit (now bytes) n × (i < n) ⌝ }
-    ensures { λ r. ⌜ r ≡ keptOf mode (eventAt (now (bytes .entry)) i) (eventsFrom (now (bytes .entry)) n (i + 1)) ⌝ }
+    ensures { λ r.
+        ⌜ r ≡ nextLeaves (settingsOf (now (s .entry))) (eventAt (now (bytes .entry)) i .cycle) pairs (eventsFrom (now (bytes .entry)) n (i + 1)) ⌝ }
+{
+    let k = capture::cycle_at(bytes, i as usize);
+    let reach = data_after(k, pairs, s[T_WTR]);
+    let mut j = i + 1;
+    'later: while j < n {
+        let behind = j as usize;
+        let t = capture::cycle_at(bytes, behind);
+        if past(reach, t) {
+            return pairs;
+        }
+        let w = capture::pins_at(bytes, behind);
+        if !gives_burst(w) {
+            j += 1;
+            continue 'later;
+        }
+        return left_by(s, k, pairs, t, w);
+    }
+    pairs
+}
+
+fn left_by(s: &Settings, k: u32, pairs: u32, t: u32, w: u32) -> u32
+    ensures { λ r. ⌜ r ≡ lesser pairs (t - cond (eqb (codeOf w) 10) (k + 1 + settingsOf (now (s .entry)) .tWTR) k) ⌝ }
+{
+    if pins::code(w) == pins::READ {
+        return before(pairs, t, after2(k, 1, s[T_WTR]));
+    }
+    before(pairs, t, k as u64)
+}
+
+// The same of the first event that ends its row, or takes it.
+fn row_leaves(s: &Settings, bytes: &[u8], n: u32, i: u32, pairs: u32) -> u32
+    requires { ⌜ Fit (now bytes) n × (i < n) ⌝ }
+    ensures { λ r.
+        ⌜ r ≡ rowLeaves (settingsOf (now (s .entry))) (bankOf (eventAt (now (bytes .entry)) i .pins)) (eventAt (now (bytes .entry)) i .cycle) pairs
+        (eventsFrom (now (bytes .entry)) n (i + 1)) ⌝ }
+{
+    let k = capture::cycle_at(bytes, i as usize);
+    let bank = pins::bank(capture::pins_at(bytes, i as usize));
+    let reach = data_after(k, pairs, s[T_WR]);
+    let mut j = i + 1;
+    'later: while j < n {
+        let behind = j as usize;
+        let t = capture::cycle_at(bytes, behind);
+        if past(reach, t) {
+            return pairs;
+        }
+        let w = capture::pins_at(bytes, behind);
+        if shuts_bank(bank, w) {
+            return before(pairs, t, after2(k, 1, s[T_WR]));
+        }
+        if takes_bank(bank, w) {
+            return pairs;
+        }
+        j += 1;
+    }
+    pairs
+}
+
+fn fewer(a: u32, b: u32) -> u32
+    ensures { λ r. ⌜ r ≡ lesser a b ⌝ }
+{
+    if a <= b {
+        return a;
+    }
+    b
+}
+
+// In the newer edition READ and PRECHARGE interrupt a write.
+fn interruptible(s: &Settings, w: u32) -> bool
+    ensures { λ r. ⌜ r ≡ (newer (settingsOf (now (s .entry))) && eqb (codeOf w) 2) ⌝ }
+{
+    if s[EDITION] != 1 {
+        return false;
+    }
+    pins::code(w) == pins::WRITE
+}
+
+// The pairs that the burst of event i keeps in the end; none if the event gives no burst.
+pub fn kept(s: &Settings, bytes: &[u8], n: u32, i: u32, mode: u32) -> u32
+    requires { ⌜ Fit (now bytes) n × (i < n) ⌝ }
+    ensures { λ r. ⌜ r ≡ keptOf (settingsOf (now (s .entry))) mode (eventAt (now (bytes .entry)) i) (eventsFrom (now (bytes .entry)) n (i + 1)) ⌝ }
 {
     let w = capture::pins_at(bytes, i as usize);
     if !gives_burst(w) {
         return 0;
     }
+    let half = length_of(mode) / 2;
     if pins::ten(w) {
-        return length_of(mode) / 2;
+        return half;
+    }
+    if interruptible(s, w) {
+        return fewer(
+            next_leaves(s, bytes, n, i, half),
+            row_leaves(s, bytes, n, i, half),
+        );
     }
     look_ahead(bytes, n, i, mode)
 }

@@ -1,29 +1,51 @@
 -- The bursts of a part after the cuts of one event: what is found among them, and what is held by them.
 use Prim.Native.Nat.{ℕ, _+_, _≤_, _<_}
-use mathlib.Core.Bool.{Bool, true, false, cond, not, _&&_, and-true}
+use mathlib.Core.Bool.{Bool, true, false, cond, not, _&&_, and-true, and-false}
 use mathlib.Core.List.{List, [], _∷_, map}
 use mathlib.Core.Logic.{_⊎_, inl, inr}
-use mathlib.Core.Option.{Option, some, Option·map}
+use mathlib.Core.Option.{Option, none, some, Option·map}
 use mathlib.Core.Path.{_≡_, refl, sym, ap, _∙_, subst}
 use native.Mathlib.Omega.{arith}
-use lib.Dec.{leb, leb·zero}
+use lib.Dec.{leb}
 use borrow.Author.Tests.{leb-true, leb-false, le-leb, lt-leb}
-use Rattle.reading.specs.Search.{implies, every, find, lesser, later}
+use Rattle.reading.specs.Search.{implies, ever, every, find, lesser, later}
 use Rattle.reading.specs.Mode.{h}
-use Rattle.reading.specs.Settings.{Settings}
-use Rattle.reading.specs.Commands.{Command}
-use Rattle.reading.specs.Bursts.{Burst, reads, dataEnd, withPairs}
-use Rattle.reading.specs.Part.{Part, Bank, cuts, cutBy}
+use Rattle.reading.specs.Settings.{Settings, newer}
+use Rattle.reading.specs.Commands.{Command, READ, WRITE, PRECHARGE, is}
+use Rattle.reading.specs.Bursts.{Burst, reads, dataEnd, restsFrom, withPairs}
+use Rattle.reading.specs.Part.{Part, Bank, cuts, interrupts, atMost, cutBy}
 use Rattle.reading.specs.Rules.{autoOver, untouchable}
-use Rattle.reading.proofs.Cuts.{All, nil, cons, Spent}
+use Rattle.reading.proofs.Cuts.{All, nil, cons, auto-uncut}
+use Rattle.reading.proofs.Alone.{Spent}
 use Rattle.reading.proofs.Found.{later-first, later-second}
-use Rattle.bridge.specs.Summary.{ended, heldBy}
+use Rattle.bridge.specs.Summary.{heldBy}
 use Rattle.bridge.proofs.Tests.{ltb-is, held-is}
 
 -- ---- what a cut leaves alone
 
-pub uncut : (s : Settings) (p : Part) (t : ℕ) (c : Command) (x : Burst) → cuts p c x ≡ false → cutBy s p t c x ≡ x
-uncut s p t c x e = rw e
+pub uncut : (s : Settings) (p : Part) (t : ℕ) (c : Command) (x : Burst) → cuts p c x ≡ false → interrupts s p c x ≡ false → cutBy s p t c x ≡ x
+uncut s p t c x e f = rw (e, f) (go (x .auto))
+  where
+    go : (a : Bool) → withPairs (atMost (cond a none none) (x .n)) x ≡ x
+    go true = refl
+    go false = refl
+
+-- only READ and PRECHARGE interrupt, and only writes
+pub calm : (s : Settings) (p : Part) (c : Command) (x : Burst) → is READ c ≡ false → is PRECHARGE c ≡ false → interrupts s p c x ≡ false
+calm s p c x e f = rw (e, f) (and-false (newer s && x .writes))
+
+pub read-calm : (s : Settings) (p : Part) (c : Command) (x : Burst) → x .writes ≡ false → interrupts s p c x ≡ false
+read-calm s p c x e = rw (e, and-false (newer s))
+
+-- a write, but by WRITE, in what rules 10 and 11 wait for
+pub rests-stay : (s : Settings) (p : Part) (t : ℕ) (c : Command) (x : Burst) → is WRITE c ≡ false → x .writes ≡ true →
+    restsFrom s (cutBy s p t c x) ≡ restsFrom s x
+rests-stay s p t c x e w = go (x .auto) refl (newer s) refl
+  where
+    go : (a : Bool) → x .auto ≡ a → (v : Bool) → newer s ≡ v → restsFrom s (cutBy s p t c x) ≡ restsFrom s x
+    go true f v g = ap (restsFrom s) (auto-uncut s p t c x f)
+    go false f true g = rw (f, g)
+    go false f false g = ap (restsFrom s) (uncut s p t c x (rw (w, e)) (rw g))
 
 pub find-same : (q : Burst → Bool) (f : Burst → Burst) → ((x : Burst) → q (f x) ≡ q x) → ((x : Burst) → q x ≡ true → f x ≡ x) →
     (xs : List Burst) → find q (map f xs) ≡ find q xs
@@ -107,15 +129,14 @@ later-add c a b = go (leb a b) refl
     go true e = later-low (a + c) (b + c) (omega (arith, leb-true a b e))
     go false e = later-high (a + c) (b + c) (omega (arith, leb-false a b e))
 
--- ---- writes: all but the last have ended
+-- ---- writes: of all bursts but the last they have ended
 
 pub record Ended (from : ℕ) (x : Burst) : Type 0 where
   pub by : x .writes ≡ true → dataEnd x ≤ from
 
 pub data Late (from : ℕ) : List Burst → Type 0 where
   nothing : Late from []
-  read : {x : Burst} {xs : List Burst} → x .writes ≡ false → Late from xs → Late from (x ∷ xs)
-  write : {x : Burst} {xs : List Burst} → x .writes ≡ true → All (Ended from) xs → Late from (x ∷ xs)
+  behind : {x : Burst} {xs : List Burst} → All (Ended from) xs → Late from (x ∷ xs)
 
 -- no write's data runs at t
 abbrev pub writeOver : ℕ → Burst → Bool
@@ -129,23 +150,47 @@ all-over {from} t l (cons {x = x} {xs = xs} e rest) = rw (one (x .writes) refl) 
     one true f = le-leb (dataEnd x) t (omega (arith, e .by f))
     one false f = refl
 
-leb-add : (w a b : ℕ) → leb (a + w) (b + w) ≡ leb a b
+pub leb-add : (w a b : ℕ) → leb (a + w) (b + w) ≡ leb a b
 leb-add w a b = go (leb a b) refl
   where
     go : (v : Bool) → leb a b ≡ v → leb (a + w) (b + w) ≡ v
     go true e = le-leb (a + w) (b + w) (omega (arith, leb-true a b e))
     go false e = lt-leb (a + w) (b + w) (omega (arith, leb-false a b e))
 
-pub late-is : {from : ℕ} (w t : ℕ) → from ≤ t → {xs : List Burst} → Late from xs →
-    every (writeOver t) xs ≡ leb (ended (find (λ x. x .writes) xs) w) (t + w)
-late-is w t l nothing = sym (leb·zero (t + w))
-late-is w t l (read e rest) = rw e (late-is w t l rest)
-late-is w t l (write {x = x} e rest) = rw (e, all-over t l rest) (and-true (leb (dataEnd x) t) ∙ sym (leb-add w (dataEnd x) t))
+-- the end of the data of the last write, if it is the last burst
+abbrev pub firstOver : ℕ → List Burst → Bool
+firstOver t [] = true
+firstOver t (x ∷ xs) = writeOver t x
+
+pub late-is : {from : ℕ} (t : ℕ) → from ≤ t → {xs : List Burst} → Late from xs → every (writeOver t) xs ≡ firstOver t xs
+late-is t l nothing = refl
+late-is t l (behind {x = x} rest) = rw (all-over t l rest) (and-true (writeOver t x))
+
+found-over : {from : ℕ} (t : ℕ) → from ≤ t → {xs : List Burst} → All (Ended from) xs → ever (find (λ x. x .writes) xs) (λ x. leb (dataEnd x) t) ≡ true
+found-over t l nil = refl
+found-over {from} t l (cons {x = x} {xs = xs} e rest) = go (x .writes) refl (found-over t l rest)
+  where
+    go : (v : Bool) → x .writes ≡ v → ever (find (λ y. y .writes) xs) (λ y. leb (dataEnd y) t) ≡ true →
+        ever (cond v (some x) (find (λ y. y .writes) xs)) (λ y. leb (dataEnd y) t) ≡ true
+    go true f ih = le-leb (dataEnd x) t (omega (arith, e .by f))
+    go false f ih = ih
+
+pub last-over : {from : ℕ} (t : ℕ) → from ≤ t → {xs : List Burst} → Late from xs → ever (find (λ x. x .writes) xs) (λ x. leb (dataEnd x) t) ≡ firstOver t xs
+last-over t l nothing = refl
+last-over t l (behind {x = x} {xs = xs} rest) = go (x .writes)
+  where
+    go : (v : Bool) → ever (cond v (some x) (find (λ y. y .writes) xs)) (λ y. leb (dataEnd y) t) ≡ implies v (leb (dataEnd x) t)
+    go true = refl
+    go false = found-over t l rest
 
 -- ---- reads: one that can be cut is over, or it is the last of all and its bank is open
 
+abbrev pub first : List Burst → Option Burst
+first [] = none
+first (x ∷ xs) = some x
+
 pub record Running (from : ℕ) (banks : ℕ → Bank) (xs : List Burst) (x : Burst) : Type 0 where
-  pub by : x .writes ≡ false → x .auto ≡ false → (x .k + x .n ≤ from) ⊎ ((find reads xs ≡ some x) × (banks (x .bank) .opened ≡ true))
+  pub by : x .writes ≡ false → x .auto ≡ false → (x .k + x .n ≤ from) ⊎ ((first xs ≡ some x) × (banks (x .bank) .opened ≡ true))
 
 pub all-spent : (p : Part) (from t : ℕ) → from ≤ t → {ys xs : List Burst} → All (Running from (p .banks) ys) xs → All (Spent t p) xs
 all-spent p from t l nil = nil
@@ -184,9 +229,9 @@ module _ (from t : ℕ) (l : from ≤ t) where
       rw (one-touchable x g, touchable r)
       (swap (implies (reads x) (autoOver t x)) (writeOver t x) (every (λ y. implies (reads y) (autoOver t y)) xs) (every (writeOver t) xs))
 
-  pub terminate-is : (w : ℕ) {xs : List Burst} → All (Given from) xs → Late from xs →
-      every (λ x. not (untouchable t x)) xs ≡ (leb (heldBy reads xs) t && leb (ended (find (λ x. x .writes) xs) w) (t + w))
-  terminate-is w {xs} g e = touchable g ∙ rw (held-is reads t xs, late-is w t l e)
+  pub terminate-is : {xs : List Burst} → All (Given from) xs → Late from xs →
+      every (λ x. not (untouchable t x)) xs ≡ (leb (heldBy reads xs) t && firstOver t xs)
+  terminate-is {xs} g e = touchable g ∙ rw (held-is reads t xs, late-is t l e)
 
 -- ---- what is found in a list has what all of it have
 

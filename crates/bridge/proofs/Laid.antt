@@ -6,8 +6,8 @@ use native.Mathlib.Omega.{arith}
 use lib.Dec.{eqb}
 use lib.ListN.{set}
 use Rattle.reading.specs.Search.{lesser, later}
-use Rattle.reading.specs.Settings.{Settings}
-use Rattle.deadlines.specs.Deadlines.{OPENED, OTHER, REST, COLUMN, CLOSE, WRITTEN, LOCKED, at, activeAfter, autoAfter, cutWrite, newWrite, restAfter}
+use Rattle.reading.specs.Settings.{Settings, newer}
+use Rattle.deadlines.specs.Deadlines.{OPENED, OTHER, REST, COLUMN, CLOSE, WRITTEN, LOCKED, at, activeAfter, autoAfter, cutWrite, newWrite, earlyRest, autoWrite, restAfter}
 use Rattle.bridge.specs.Summary.{BankHeld, ReadHeld, WriteHeld, SleepHeld, Held, laid}
 
 -- what holds of each of the four banks
@@ -41,8 +41,8 @@ pub same : {x y : Held} → ((b : ℕ) → x .banks b ≡ y .banks b) → x .rea
     x .sleep ≡ y .sleep → x ≡ y
 same banks read write busy sleep = λ u. record { banks = λ b. banks b u; read = read u; write = write u; busy = busy u; sleep = sleep u }
 
-pub same-read : {x y : ReadHeld} → x .bus ≡ y .bus → x .reads ≡ y .reads → x .reader ≡ y .reader → x ≡ y
-same-read bus reads reader = λ u. record { bus = bus u; reads = reads u; reader = reader u }
+pub same-read : {x y : ReadHeld} → x .bus ≡ y .bus → x .reads ≡ y .reads → x .last ≡ y .last → x ≡ y
+same-read bus reads last = λ u. record { bus = bus u; reads = reads u; last = last u }
 
 pub same-write : {x y : WriteHeld} → x .writes ≡ y .writes → x .end ≡ y .end → x .writer ≡ y .writer → x ≡ y
 same-write writes end writer = λ u. record { writes = writes u; end = end u; writer = writer u }
@@ -57,6 +57,11 @@ readGiven read x = record { banks = x .banks; read = read; write = x .write; bus
 
 abbrev pub writeGiven : WriteHeld → Held → Held
 writeGiven write x = record { banks = x .banks; read = x .read; write = write; busy = x .busy; sleep = x .sleep }
+
+-- a new write, which is the last burst
+abbrev pub newGiven : ℕ → WriteHeld → Held → Held
+newGiven last write x =
+    readGiven (record { bus = x .read .bus; reads = x .read .reads; last = last }) (writeGiven write x)
 
 abbrev pub timed : ℕ → SleepHeld → Held → Held
 timed busy sleep x = record { banks = x .banks; read = x .read; write = x .write; busy = busy; sleep = sleep }
@@ -115,7 +120,7 @@ closed c own y = shut (cond (eqb (y .opened) 0) (y .rest) c) own y
 abbrev pub writtenBy : ℕ → Bool → BankHeld → BankHeld
 writtenBy c own y = writtenTill (lesser (y .written) c) own y
 
--- ---- the same in the forty places
+-- ---- the same in the places
 
 pub active-laid : (s : Settings) (x : Held) (t b : ℕ) → b < 4 → activeAfter s (laid x) t b ≡ laid (banked (onBank (activated s t) b (x .banks)) x)
 unfolding activeAfter
@@ -137,7 +142,7 @@ cut-laid s x t = at-bank Cut refl refl refl refl (x .write .writer % 4) (omega a
 
 pub new-laid : (s : Settings) (x : Held) (t pairs b : ℕ) → b < 4 →
     newWrite s (laid x) t pairs b ≡
-    laid (writeGiven (record { writes = x .write .writes; end = t + 1 + pairs + s .tWTR; writer = b })
+    laid (newGiven (t + 1 + pairs + 5) (record { writes = x .write .writes; end = t + 1 + pairs + s .tWTR; writer = b })
     (banked (onBank (writtenTill (t + 1 + pairs + s .tWR)) b (x .banks)) x))
 unfolding newWrite
 new-laid s x t pairs = at-bank New refl refl refl refl
@@ -145,8 +150,27 @@ new-laid s x t pairs = at-bank New refl refl refl refl
     New : ℕ → Type 0
     New b =
         newWrite s (laid x) t pairs b ≡
-        laid (writeGiven (record { writes = x .write .writes; end = t + 1 + pairs + s .tWTR; writer = b })
+        laid (newGiven (t + 1 + pairs + 5) (record { writes = x .write .writes; end = t + 1 + pairs + s .tWTR; writer = b })
         (banked (onBank (writtenTill (t + 1 + pairs + s .tWR)) b (x .banks)) x))
+
+-- in the newer edition a write that can be interrupted is waited for from its first pair on
+abbrev pub restsEarly : Settings → ℕ → ℕ → Held → Held
+restsEarly s t b x =
+    writeGiven (record { writes = x .write .writes; end = t + 2 + s .tWTR; writer = x .write .writer })
+    (banked (onBank (writtenTill (t + 2 + s .tWR)) b (x .banks)) x)
+
+pub early-laid : (s : Settings) (x : Held) (t b : ℕ) → b < 4 → earlyRest s (laid x) t b ≡ cond (newer s) (laid (restsEarly s t b x)) (laid x)
+unfolding earlyRest
+early-laid s x t = at-bank (λ b. earlyRest s (laid x) t b ≡ cond (newer s) (laid (restsEarly s t b x)) (laid x)) refl refl refl refl
+
+-- with auto precharge
+abbrev pub autoGiven : ℕ → ℕ → Held → Held
+autoGiven over b x = writeGiven (record { writes = over; end = x .write .end; writer = b + 4 }) x
+
+pub auto-write-laid : (s : Settings) (x : Held) (t pairs b : ℕ) → b < 4 →
+    autoWrite s (laid x) t pairs b ≡ laid (banked (onBank (autoShut (t + 1 + pairs + s .tWR + s .tRP)) b (x .banks)) (autoGiven (t + pairs) b x))
+unfolding autoWrite
+auto-write-laid s x t pairs b m = auto-laid (autoGiven (t + pairs) b x) (t + 1 + pairs + s .tWR + s .tRP) b m
 
 pub rest-laid : (x : Held) (c b : ℕ) → b < 4 → restAfter (laid x) b c ≡ laid (banked (onBank (closed c) b (x .banks)) x)
 unfolding restAfter

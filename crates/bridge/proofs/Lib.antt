@@ -4,9 +4,11 @@ pub mod Tests
 pub mod Clock
 pub mod Sleeping
 pub mod Bursts
+pub mod Standing
 pub mod Rules
 pub mod Low
 pub mod Cut
 pub mod Next
+pub mod Stays
 pub mod Kept
 pub mod Turn

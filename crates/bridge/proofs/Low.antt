@@ -1,27 +1,30 @@
 -- With CKE low: the lowest broken rule of a part is the one that its deadlines show.
-use Prim.Native.Nat.{ℕ, _+_, _<_}
+use Prim.Native.Nat.{ℕ, _+_, _≤_, _<_}
 use mathlib.Core.Bool.{Bool, true, false, cond, not, _&&_, _||_, or-true}
-use mathlib.Core.Option.{Option, none, some}
+use mathlib.Core.Option.{Option}
 use mathlib.Core.Path.{_≡_, refl, sym, ap, _∙_}
 use native.Mathlib.Nat.{suc-mul}
 use native.Mathlib.Omega.{arith}
-use lib.Dec.{leb, ltb, eqb, leb·zero}
-use borrow.Author.Tests.{leb-true, leb-false, le-leb, lt-leb, lt-ltb, ne-eqb}
-use Rattle.reading.specs.Search.{implies, after}
+use lib.Dec.{leb, ltb, eqb}
+use borrow.Author.Tests.{lt-ltb, ne-eqb}
+use Rattle.reading.specs.Search.{implies, ever, after}
 use Rattle.reading.specs.Settings.{Settings}
 use Rattle.reading.specs.RefreshClock.{Clock, inTime}
 use Rattle.reading.specs.Commands.{Op, AUTO-REFRESH, NOP, DESELECT, Command, is, quiet}
-use Rattle.reading.specs.Bursts.{Burst, dataEnd}
+use Rattle.reading.specs.Bursts.{dataEnd}
 use Rattle.reading.specs.Sleep.{rested}
 use Rattle.reading.specs.Part.{Part, lastWrite}
-use Rattle.reading.specs.Rules.{rule1, rule2, rule3, rule4, rule5, rule7, rule8, rule9, rule10, rule11, rule12, rule13, rule14, rule15, afterData, rules, lowestBroken}
-use Rattle.deadlines.specs.Deadlines.{FAR, orElse, enterBreaks, lowBreaks, selfBreaks}
+use Rattle.reading.specs.Rules.{rule1, rule2, rule3, rule4, rule5, rule7, rule8, rule9, rule10, rule11, rule12, rule13, rule14, rule15, rules, lowestBroken}
+use Rattle.deadlines.specs.Deadlines.{FAR, orElse, taken, enterBreaks, lowBreaks, selfBreaks}
 use Rattle.steps.specs.Steps.{unlessLower}
-use Rattle.bridge.specs.Summary.{SleepHeld, Timed, ended, laid, summary, sleepHeld, overdueBy}
+use Rattle.bridge.specs.Summary.{SleepHeld, Timed, laid, summary, sleepHeld, overdueBy}
 use Rattle.bridge.proofs.Tests.{num, num-cond, after-is, cleared-is, leb-later}
 use Rattle.bridge.proofs.Rules.{does, doesLow, says, refresh-agrees}
 use Rattle.bridge.proofs.Sleeping.{never, sleepOf}
 use Rattle.bridge.proofs.Clock.{in-time-is}
+use Rattle.bridge.proofs.Bursts.{Given, Late, last-over}
+use Rattle.bridge.proofs.Standing.{Standing, taken-is}
+use Rattle.reading.proofs.Cuts.{All}
 
 -- ---- the rules up to 14, and what comes last
 
@@ -93,14 +96,6 @@ module _ (s : Settings) (p : Part) (t : ℕ) where
 
 -- ---- NOP and DESELECT
 
-end-is : (o : Option Burst) (w t : ℕ) → afterData 0 o t ≡ leb (ended o w) (t + w)
-end-is none w t = sym (leb·zero (t + w))
-end-is (some x) w t = go (leb (dataEnd x + 0) t) refl
-  where
-    go : (v : Bool) → leb (dataEnd x + 0) t ≡ v → v ≡ leb (dataEnd x + w) (t + w)
-    go true e = sym (le-leb (dataEnd x + w) (t + w) (omega (arith, leb-true (dataEnd x + 0) t e)))
-    go false e = sym (lt-leb (dataEnd x + w) (t + w) (omega (arith, leb-false (dataEnd x + 0) t e)))
-
 module _ (s : Settings) (k : Clock) (t : ℕ) (timed : Timed s t) where
   abbrev entered : SleepHeld → Bool → Bool → Bool → ℕ
   entered h busy bus end =
@@ -133,18 +128,26 @@ module _ (s : Settings) (k : Clock) (t : ℕ) (timed : Timed s t) where
       go true true true false w = refl
       go true true true true w = refl
 
-module _ (s : Settings) (p : Part) (t : ℕ) (timed : Timed s t) where
-  pub low-agrees : (b a : ℕ) (ten : Bool) → num (lowestBroken rules s p t (doesLow NOP b a ten)) ≡ lowBreaks s (laid (summary s p)) t
-  unfolding lowBreaks enterBreaks
+module _ (s : Settings) (p : Part) (t : ℕ) (timed : Timed s t) (from : ℕ) (l : from ≤ t) (given : All (Given from) (p .bursts))
+    (late : Late from (p .bursts)) (standing : Standing from p) where
+  -- the data of the last write are over
+  over : Bool
+  over = ever (lastWrite p) (λ x. leb (dataEnd x) t)
+
+  over-is : over ≡ taken (laid (summary s p)) t
+  unfolding over
+  over-is = last-over t l late ∙ sym (taken-is s p from t l given standing)
+
+  pub low-agrees : (b a : ℕ) (ten : Bool) → num (lowestBroken rules s p t (doesLow NOP b a ten)) ≡ lowBreaks (laid (summary s p)) t
+  unfolding lowBreaks enterBreaks over
   low-agrees b a ten =
-      simp num-cond (rw (low-is s (p .clock) t timed (p .sleep .asleep) (p .sleep .self) (p .sleep .left), end-is (lastWrite p) (s .tWTR) t)
+      simp num-cond (rw (low-is s (p .clock) t timed (p .sleep .asleep) (p .sleep .self) (p .sleep .left), over-is)
       (simp (leb-later, after-is, cleared-is)))
 
-  pub low-deselect-agrees : (b a : ℕ) (ten : Bool) →
-      num (lowestBroken rules s p t (doesLow DESELECT b a ten)) ≡ lowBreaks s (laid (summary s p)) t
-  unfolding lowBreaks enterBreaks
+  pub low-deselect-agrees : (b a : ℕ) (ten : Bool) → num (lowestBroken rules s p t (doesLow DESELECT b a ten)) ≡ lowBreaks (laid (summary s p)) t
+  unfolding lowBreaks enterBreaks over
   low-deselect-agrees b a ten =
-      simp num-cond (rw (low-is s (p .clock) t timed (p .sleep .asleep) (p .sleep .self) (p .sleep .left), end-is (lastWrite p) (s .tWTR) t)
+      simp num-cond (rw (low-is s (p .clock) t timed (p .sleep .asleep) (p .sleep .self) (p .sleep .left), over-is)
       (simp (leb-later, after-is, cleared-is)))
 
   -- ---- AUTO REFRESH
@@ -160,13 +163,13 @@ module _ (s : Settings) (p : Part) (t : ℕ) (timed : Timed s t) where
   self-last true true false false true = refl
   self-last true true false false false = refl
 
-  pub self-agrees : (b a : ℕ) (ten : Bool) → num (lowestBroken rules s p t (doesLow AUTO-REFRESH b a ten)) ≡ selfBreaks s (laid (summary s p)) t
-  unfolding selfBreaks
+  pub self-agrees : (b a : ℕ) (ten : Bool) → num (lowestBroken rules s p t (doesLow AUTO-REFRESH b a ten)) ≡ selfBreaks (laid (summary s p)) t
+  unfolding selfBreaks over
   self-agrees b a ten =
       let c = does AUTO-REFRESH b a ten in
       chain-is s p t (doesLow AUTO-REFRESH b a ten) ∙ same-rules s p t AUTO-REFRESH b a ten refl _
       ∙ ap (λ (v : ℕ). orElse (rule3 s p t c) 3 (orElse (rule4 s p t c) 4 (orElse (rule5 s p t c) 5 v)))
-      (self-last (rule12 s p t c) (rule14 s p t c) (p .sleep .asleep) (afterData 0 (lastWrite p) t) (rested s (p .sleep) t))
+      (self-last (rule12 s p t c) (rule14 s p t c) (p .sleep .asleep) over (rested s (p .sleep) t))
       ∙ sym (sealed-chain true true (rule3 s p t c) (rule4 s p t c) (rule5 s p t c) true true true true true (rule12 s p t c) true
-      (rule14 s p t c) (rule15 s p t c) (afterData 0 (lastWrite p) t))
-      ∙ (λ i. sealed ((sym (chain-is s p t c) ∙ refresh-agrees s p t timed b a ten) i) (orElse (end-is (lastWrite p) (s .tWTR) t i) 15 0))
+      (rule14 s p t c) (rule15 s p t c) over)
+      ∙ (λ i. sealed ((sym (chain-is s p t c) ∙ refresh-agrees s p t timed b a ten) i) (orElse (over-is i) 15 0))

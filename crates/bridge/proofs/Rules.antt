@@ -9,7 +9,7 @@ use borrow.Author.Tests.{eqb-true}
 use Rattle.reading.specs.Search.{implies, ever, find, after}
 use Rattle.reading.specs.Settings.{Settings}
 use Rattle.reading.specs.Commands.{Op, ACTIVE, READ, WRITE, BURST-TERMINATE, PRECHARGE, AUTO-REFRESH, MODE-REGISTER-SET, NOP, DESELECT, Command}
-use Rattle.reading.specs.Bursts.{reads, dataEnd}
+use Rattle.reading.specs.Bursts.{reads, restsFrom}
 use Rattle.reading.specs.Part.{Part, bankWrite}
 use Rattle.reading.specs.Rules.{everyBank, rules, lowestBroken}
 use Rattle.reading.proofs.Cuts.{All}
@@ -19,6 +19,7 @@ use Rattle.bridge.specs.Summary.{Timed, heldBy, laid, summary}
 use Rattle.bridge.proofs.Laid.{stands}
 use Rattle.bridge.proofs.Tests.{num, num-cond, after-is, ended-is, cleared-is, leb-later, held-is, open-is, shut-is, closing-is}
 use Rattle.bridge.proofs.Bursts.{Given, Late, terminate-is}
+use Rattle.bridge.proofs.Standing.{Standing, taken-is}
 use Rattle.bridge.proofs.Sleeping.{quiet-is, last-is}
 
 -- the banks that a PRECHARGE names
@@ -77,12 +78,12 @@ module _ (s : Settings) (p : Part) (t : ℕ) (timed : Timed s t) where
       (rw (last-is s (p .clock) (p .sleep) t timed, at-bank .opened, at-bank .rest, open-is (p .banks b .opened), mod-eq-of-lt w)
       (simp (leb-later, after-is, unasked, both)))
 
-  pub terminate-agrees : (b a : ℕ) (ten : Bool) (from : ℕ) → from ≤ t → All (Given from) (p .bursts) → Late from (p .bursts) →
-      says s p t BURST-TERMINATE b a ten ≡ terminateBreaks s (laid (summary s p)) t
+  pub terminate-agrees : (b a : ℕ) (ten : Bool) (from : ℕ) → from ≤ t → All (Given from) (p .bursts) → Late from (p .bursts) → Standing from p →
+      says s p t BURST-TERMINATE b a ten ≡ terminateBreaks (laid (summary s p)) t
   unfolding terminateBreaks
-  terminate-agrees b a ten from l g e =
+  terminate-agrees b a ten from l g e y =
       simp num-cond
-      (rw (last-is s (p .clock) (p .sleep) t timed, terminate-is from t l (s .tWTR) g e, both (leb (heldBy reads (p .bursts)) t))
+      (rw (last-is s (p .clock) (p .sleep) t timed, terminate-is from t l g e, ← taken-is s p from t l g y, both (leb (heldBy reads (p .bursts)) t))
       (simp (leb-later, after-is)))
 
   pub close-agrees : (b a : ℕ) → b < 4 → says s p t PRECHARGE b a false ≡ closeBreaks (laid (summary s p)) t b
@@ -92,7 +93,7 @@ module _ (s : Settings) (p : Part) (t : ℕ) (timed : Timed s t) where
       (rw (
         last-is s (p .clock) (p .sleep) t timed,
         one-is (λ i. p .banks i .opened) (λ i. after (s .tRAS) (p .banks i .lastActive) t) b l,
-        one-is (λ i. p .banks i .opened) (λ i. ever (find (bankWrite p i) (p .bursts)) (λ x. leb (dataEnd x + s .tWR) t)) b l,
+        one-is (λ i. p .banks i .opened) (λ i. ever (find (bankWrite p i) (p .bursts)) (λ x. leb (restsFrom s x + s .tWR) t)) b l,
         stands (summary s p) b l .opened,
         stands (summary s p) b l .close,
         stands (summary s p) b l .written,

@@ -9,7 +9,8 @@ use lib.Dec.{leb, ltb, eqb, leb·zero}
 use borrow.Author.Tests.{leb-true, leb-false, le-leb, lt-ltb, le-ltb}
 use Rattle.reading.specs.Search.{implies, ever, every, after, later}
 use Rattle.reading.specs.Mode.{h, CL}
-use Rattle.reading.specs.Bursts.{Burst, dataEnd}
+use Rattle.reading.specs.Settings.{Settings}
+use Rattle.reading.specs.Bursts.{Burst, restsFrom}
 use Rattle.reading.specs.Rules.{autoOver}
 use Rattle.deadlines.specs.Deadlines.{orElse}
 use Rattle.bridge.specs.Summary.{from, ended, cleared, heldBy}
@@ -27,9 +28,9 @@ pub after-is : (wait : ℕ) (o : Option ℕ) (t : ℕ) → after wait o t ≡ le
 after-is wait none t = sym (leb·zero t)
 after-is wait (some c) t = refl
 
-pub ended-is : (o : Option Burst) (wait t : ℕ) → ever o (λ x. leb (dataEnd x + wait) t) ≡ leb (ended o wait) t
-ended-is none wait t = sym (leb·zero t)
-ended-is (some x) wait t = refl
+pub ended-is : (s : Settings) (o : Option Burst) (wait t : ℕ) → ever o (λ x. leb (restsFrom s x + wait) t) ≡ leb (ended s o wait) t
+ended-is s none wait t = sym (leb·zero t)
+ended-is s (some x) wait t = refl
 
 pub cleared-is : (o : Option Burst) (t : ℕ) → ever o (λ x. leb (x .k + CL (x .mode) + x .n) t) ≡ leb (cleared o) t
 cleared-is none t = sym (leb·zero t)

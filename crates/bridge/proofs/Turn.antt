@@ -70,6 +70,12 @@ module _ (s : Settings) (wide : s .rowBits < 32) (p : Part) (from₀ t : ℕ) (l
   fourth : List·Memᴰ 4 rules
   fourth = there (there (there here))
 
+  tenth : List·Memᴰ 10 rules
+  tenth = there (there (there (there (there (there (there (there here)))))))
+
+  eleventh : List·Memᴰ 11 rules
+  eleventh = there (there (there (there (there (there (there (there (there here))))))))
+
   twelfth : List·Memᴰ 12 rules
   twelfth = there (there (there (there (there (there (there (there (there (there here)))))))))
 
@@ -128,14 +134,14 @@ module _ (s : Settings) (wide : s .rowBits < 32) (p : Part) (from₀ t : ℕ) (l
   unfolding b a ten
   turn-active n e =
       turn 12 (does ACTIVE b a ten) (carries w 12 false n e) (codes.active s (laid X) (paceOf (p .mode)) t w refl refl n e) (active-agrees s p t timed b a ten small wide)
-      (λ z. active-next s p from₀ t l g (awake _ (kept (does ACTIVE b a ten) z 15 fifteenth)) b a ten small) refl (λ z. kept-plain s p from₀ t l g (does ACTIVE b a ten) refl refl)
+      (λ z. active-next s p from₀ t l g (awake _ (kept (does ACTIVE b a ten) z 15 fifteenth)) b a ten small) refl (λ z. kept-plain s p from₀ t l g (does ACTIVE b a ten) refl refl (kept (does ACTIVE b a ten) z 3 third) (kept (does ACTIVE b a ten) z 10 tenth))
 
   turn-read : lowOf w ≡ false → codeOf w ≡ 10 → Turned (commandOf w)
   unfolding b a ten
   turn-read n e =
       turn 10 c (carries w 10 false n e) (codes.read s (laid X) (paceOf (p .mode)) t w refl refl n e) (read-agrees s p t timed b a ten small)
       (λ z. read-next s p from₀ t l g (awake _ (kept c z 15 fifteenth)) b a ten small (leb-true (X .read .reads) t (sym (held-is reads t (p .bursts)) ∙ kept c z 13 thirteenth)))
-      refl (λ z. kept-read s p from₀ t l g b a ten small (kept c z 3 third))
+      refl (λ z. kept-read s p from₀ t l g b a ten small (kept c z 3 third) (kept c z 11 eleventh))
     where
       c : Command
       c = does READ b a ten
@@ -144,7 +150,7 @@ module _ (s : Settings) (wide : s .rowBits < 32) (p : Part) (from₀ t : ℕ) (l
   unfolding b a ten
   turn-write n e =
       turn 2 c (carries w 2 false n e) (codes.write s (laid X) (paceOf (p .mode)) t w refl refl n e) (write-agrees s p t timed b a ten small)
-      (λ z. write-next s p from₀ t l g (awake _ (kept c z 15 fifteenth)) b a ten small (held z)) refl (λ z. kept-write s p from₀ t l g b a ten small (free z) (held z))
+      (λ z. write-next s p from₀ t l g (awake _ (kept c z 15 fifteenth)) b a ten small (held z)) refl (λ z. kept-write s p from₀ t l g b a ten small (kept c z 3 third) (free z) (held z))
     where
       c : Command
       c = does WRITE b a ten
@@ -163,17 +169,17 @@ module _ (s : Settings) (wide : s .rowBits < 32) (p : Part) (from₀ t : ℕ) (l
       go true f =
           turn 4 (does PRECHARGE b a true) (carries w 4 false n e ∙ ap (does PRECHARGE b a) f) (codes.close-all s (laid X) (paceOf (p .mode)) t w n e f)
           (close-all-agrees s p t timed b a) (λ z. close-all-next s p from₀ t l g (awake _ (kept (does PRECHARGE b a true) z 15 fifteenth)) b a) refl
-          (λ z. kept-plain s p from₀ t l g (does PRECHARGE b a true) refl refl)
+          (λ z. kept-plain s p from₀ t l g (does PRECHARGE b a true) refl refl (kept (does PRECHARGE b a true) z 3 third) (kept (does PRECHARGE b a true) z 10 tenth))
       go false f =
           turn 4 (does PRECHARGE b a false) (carries w 4 false n e ∙ ap (does PRECHARGE b a) f) (codes.close s (laid X) (paceOf (p .mode)) t w refl n e f)
           (close-agrees s p t timed b a small) (λ z. close-next s p from₀ t l g (awake _ (kept (does PRECHARGE b a false) z 15 fifteenth)) b a small) refl
-          (λ z. kept-plain s p from₀ t l g (does PRECHARGE b a false) refl refl)
+          (λ z. kept-plain s p from₀ t l g (does PRECHARGE b a false) refl refl (kept (does PRECHARGE b a false) z 3 third) (kept (does PRECHARGE b a false) z 10 tenth))
 
   turn-terminate : lowOf w ≡ false → codeOf w ≡ 6 → Turned (commandOf w)
   unfolding b a ten
   turn-terminate n e =
-      turn 6 c (carries w 6 false n e) (codes.terminate s (laid X) (paceOf (p .mode)) t w n e) (terminate-agrees s p t timed b a ten from₀ l (g .bursts) (g .late))
-      (λ z. terminate-next s p from₀ t l g (awake _ (kept c z 15 fifteenth)) b a ten (held z)) refl (λ z. kept-plain s p from₀ t l g c refl refl)
+      turn 6 c (carries w 6 false n e) (codes.terminate s (laid X) (paceOf (p .mode)) t w n e) (terminate-agrees s p t timed b a ten from₀ l (g .bursts) (g .late) (g .standing))
+      (λ z. terminate-next s p from₀ t l g (awake _ (kept c z 15 fifteenth)) b a ten (held z)) refl (λ z. kept-plain s p from₀ t l g c refl refl (kept c z 3 third) (kept c z 10 tenth))
     where
       c : Command
       c = does BURST-TERMINATE b a ten
@@ -181,13 +187,13 @@ module _ (s : Settings) (wide : s .rowBits < 32) (p : Part) (from₀ t : ℕ) (l
       held : lowestBroken rules s p t c ≡ none → X .read .reads ≤ t
       held z =
           leb-true (X .read .reads) t
-          (first-of (leb (X .read .reads) t) _ (sym (terminate-is from₀ t l (s .tWTR) (g .bursts) (g .late)) ∙ kept c z 13 thirteenth))
+          (first-of (leb (X .read .reads) t) _ (sym (terminate-is from₀ t l (g .bursts) (g .late)) ∙ kept c z 13 thirteenth))
 
   turn-refresh : lowOf w ≡ false → codeOf w ≡ 8 → Turned (commandOf w)
   unfolding b a ten
   turn-refresh n e =
       turn 8 c (carries w 8 false n e) (codes.refresh s (laid X) (paceOf (p .mode)) t w n e) (refresh-agrees s p t timed b a ten)
-      (λ z. refresh-next s p from₀ t l g (timed .ticks) (awake _ (kept c z 15 fifteenth)) b a ten (both-after (kept c z 4 fourth))) refl (λ z. kept-plain s p from₀ t l g c refl refl)
+      (λ z. refresh-next s p from₀ t l g (timed .ticks) (awake _ (kept c z 15 fifteenth)) b a ten (both-after (kept c z 4 fourth))) refl (λ z. kept-plain s p from₀ t l g c refl refl (kept c z 3 third) (kept c z 10 tenth))
     where
       c : Command
       c = does AUTO-REFRESH b a ten
@@ -197,7 +203,7 @@ module _ (s : Settings) (wide : s .rowBits < 32) (p : Part) (from₀ t : ℕ) (l
   turn-mode n e =
       turn 0 c (carries w 0 false n e) (codes.mode-set s (laid X) (paceOf (p .mode)) t w refl refl n e) (mode-agrees s p t timed b a ten)
       (λ z. mode-next s p from₀ t l g (awake _ (kept c z 15 fifteenth)) b a ten (both-after (kept c z 4 fourth))) (which (eqb b 0))
-      (λ z. kept-mode s p from₀ t l g b a ten (leb-true (X .read .bus) t (sym (cleared-is (find reads (p .bursts)) t) ∙ kept c z 12 twelfth)))
+      (λ z. kept-mode s p from₀ t l g b a ten (leb-true (X .read .bus) t (sym (cleared-is (find reads (p .bursts)) t) ∙ kept c z 12 twelfth)) (kept c z 3 third))
     where
       c : Command
       c = does MODE-REGISTER-SET b a ten
@@ -210,7 +216,7 @@ module _ (s : Settings) (wide : s .rowBits < 32) (p : Part) (from₀ t : ℕ) (l
   unfolding b a ten
   turn-quiet k q e n o =
       turn q c (carries w q false k e ∙ ap (λ (y : Op). does y b a ten) o) (codes.quiet s (laid X) (paceOf (p .mode)) t w (sym e) k n) (quiet s p t timed b a ten)
-      (λ z. quiet-next s p from₀ t l g b a ten timed (kept c z 14 fourteenth)) refl (λ z. kept-plain s p from₀ t l g c refl refl)
+      (λ z. quiet-next s p from₀ t l g b a ten timed (kept c z 14 fourteenth)) refl (λ z. kept-plain s p from₀ t l g c refl refl (kept c z 3 third) (kept c z 10 tenth))
     where
       c : Command
       c = does NOP b a ten
@@ -219,7 +225,7 @@ module _ (s : Settings) (wide : s .rowBits < 32) (p : Part) (from₀ t : ℕ) (l
   unfolding b a ten
   turn-deselect k q e n o =
       turn q c (carries w q false k e ∙ ap (λ (y : Op). does y b a ten) o) (codes.quiet s (laid X) (paceOf (p .mode)) t w (sym e) k n) (deselect s p t timed b a ten)
-      (λ z. deselect-next s p from₀ t l g b a ten timed (kept c z 14 fourteenth)) refl (λ z. kept-plain s p from₀ t l g c refl refl)
+      (λ z. deselect-next s p from₀ t l g b a ten timed (kept c z 14 fourteenth)) refl (λ z. kept-plain s p from₀ t l g c refl refl (kept c z 3 third) (kept c z 10 tenth))
     where
       c : Command
       c = does DESELECT b a ten
@@ -243,8 +249,8 @@ module _ (s : Settings) (wide : s .rowBits < 32) (p : Part) (from₀ t : ℕ) (l
   unfolding b a ten
   turn-low-quiet k q e n o =
       turn q c (carries w q true k e ∙ ap (λ (y : Op). doesLow y b a ten) o) (codes.low-quiet s (laid X) (paceOf (p .mode)) t w (sym e) k n)
-      (low-agrees s p t timed b a ten) (λ z. low-next s p from₀ t l g b a ten timed (kept c z 14 fourteenth)) refl
-      (λ z. kept-plain s p from₀ t l g c refl refl)
+      (low-agrees s p t timed from₀ l (g .bursts) (g .late) (g .standing) b a ten) (λ z. low-next s p from₀ t l g b a ten timed (kept c z 14 fourteenth)) refl
+      (λ z. kept-plain s p from₀ t l g c refl refl (kept c z 3 third) (kept c z 10 tenth))
     where
       c : Command
       c = doesLow NOP b a ten
@@ -254,8 +260,8 @@ module _ (s : Settings) (wide : s .rowBits < 32) (p : Part) (from₀ t : ℕ) (l
   unfolding b a ten
   turn-low-deselect k q e n o =
       turn q c (carries w q true k e ∙ ap (λ (y : Op). doesLow y b a ten) o) (codes.low-quiet s (laid X) (paceOf (p .mode)) t w (sym e) k n)
-      (low-deselect-agrees s p t timed b a ten) (λ z. low-deselect-next s p from₀ t l g b a ten timed (kept c z 14 fourteenth)) refl
-      (λ z. kept-plain s p from₀ t l g c refl refl)
+      (low-deselect-agrees s p t timed from₀ l (g .bursts) (g .late) (g .standing) b a ten) (λ z. low-deselect-next s p from₀ t l g b a ten timed (kept c z 14 fourteenth)) refl
+      (λ z. kept-plain s p from₀ t l g c refl refl (kept c z 3 third) (kept c z 10 tenth))
     where
       c : Command
       c = doesLow DESELECT b a ten
@@ -263,8 +269,8 @@ module _ (s : Settings) (wide : s .rowBits < 32) (p : Part) (from₀ t : ℕ) (l
   turn-low-refresh : lowOf w ≡ true → codeOf w ≡ 8 → Turned (commandOf w)
   unfolding b a ten
   turn-low-refresh n e =
-      turn 8 c (carries w 8 true n e) (codes.low-refresh s (laid X) (paceOf (p .mode)) t w n e) (self-agrees s p t timed b a ten)
-      (λ z. self-next s p from₀ t l g b a ten (awake _ (kept c z 15 fifteenth))) refl (λ z. kept-plain s p from₀ t l g c refl refl)
+      turn 8 c (carries w 8 true n e) (codes.low-refresh s (laid X) (paceOf (p .mode)) t w n e) (self-agrees s p t timed from₀ l (g .bursts) (g .late) (g .standing) b a ten)
+      (λ z. self-next s p from₀ t l g b a ten (awake _ (kept c z 15 fifteenth))) refl (λ z. kept-plain s p from₀ t l g c refl refl (kept c z 3 third) (kept c z 10 tenth))
     where
       c : Command
       c = doesLow AUTO-REFRESH b a ten
@@ -304,7 +310,7 @@ module _ (s : Settings) (wide : s .rowBits < 32) (p : Part) (from₀ t : ℕ) (l
   turn-low-terminate : lowOf w ≡ true → codeOf w ≡ 6 → Turned (commandOf w)
   unfolding b a ten
   turn-low-terminate n e =
-      turn-low-command 6 BURST-TERMINATE n e refl refl refl refl refl (rw e (sym (terminate-agrees s p t timed b a ten from₀ l (g .bursts) (g .late))))
+      turn-low-command 6 BURST-TERMINATE n e refl refl refl refl refl (rw e (sym (terminate-agrees s p t timed b a ten from₀ l (g .bursts) (g .late) (g .standing))))
 
   turn-low-mode : lowOf w ≡ true → codeOf w ≡ 0 → Turned (commandOf w)
   unfolding b a ten
@@ -389,4 +395,4 @@ unfolding startOf
 start-laid s = rw (zero-add (s .tRAS))
 
 pub start-sound : (s : Settings) → Sound 0 (start s)
-start-sound s = record { bursts = nil; banks = λ b. tt; late = nothing; latency = tt; running = nil }
+start-sound s = record { bursts = nil; banks = λ b. tt; late = nothing; latency = tt; running = nil; standing = tt }

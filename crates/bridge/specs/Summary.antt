@@ -5,10 +5,11 @@ use mathlib.Core.Bool.{Bool, cond, _&&_}
 use mathlib.Core.List.{List, [], _∷_}
 use mathlib.Core.Option.{Option, none, some}
 use Rattle.reading.specs.Search.{orZero, find, later}
+use Rattle.reading.specs.Mode.{h}
 use Rattle.reading.specs.Settings.{Settings}
 use Rattle.reading.specs.RefreshClock.{Clock}
 use Rattle.reading.specs.Sleep.{Sleep}
-use Rattle.reading.specs.Bursts.{Burst, reads, wholeEnd, readEnd, dataEnd}
+use Rattle.reading.specs.Bursts.{Burst, reads, wholeEnd, readEnd, restsFrom}
 use Rattle.reading.specs.Part.{Bank, Part, lastBankWrite}
 use Rattle.deadlines.specs.Deadlines.{FAR}
 
@@ -17,16 +18,16 @@ abbrev pub from : Option ℕ → ℕ → ℕ
 from none wait = 0
 from (some c) wait = c + wait
 
-abbrev pub ended : Option Burst → ℕ → ℕ
-ended none wait = 0
-ended (some x) wait = dataEnd x + wait
+abbrev pub ended : Settings → Option Burst → ℕ → ℕ
+ended s none wait = 0
+ended s (some x) wait = restsFrom s x + wait
 
--- the first cycle that is too late for the refresh clock
 -- an event that is looked at: below the cycle FAR, under settings by which AUTO REFRESHes come to be owed
 pub record Timed (s : Settings) (t : ℕ) : Type 0 where
   pub early : t < FAR
   pub ticks : 0 < s .tREFI
 
+-- the first cycle that is too late for the refresh clock
 abbrev pub overdueBy : Settings → Clock → ℕ
 overdueBy s k = k .origin + (9 + k .paid) * s .tREFI
 
@@ -40,14 +41,15 @@ abbrev pub heldBy : (Burst → Bool) → List Burst → ℕ
 heldBy kind [] = 0
 heldBy kind (x ∷ xs) = later (cond (kind x && x .auto) (wholeEnd x) 0) (heldBy kind xs)
 
--- the bank of the last read, 4 if nothing can cut it
-abbrev pub readerOf : Option Burst → ℕ
-readerOf none = 4
-readerOf (some x) = cond (x .auto) 4 (x .bank)
+-- of the last burst: the bank of a read, 4 if nothing can cut it; five cycles more than the end of a write's data, if all of it comes
+abbrev pub lastOf : List Burst → ℕ
+lastOf [] = 4
+lastOf (x ∷ xs) = cond (x .writes) (x .k + 1 + h (x .mode) + 5) (cond (x .auto) 4 (x .bank))
 
+-- the bank of the last write, four more if it has auto precharge
 abbrev pub writerOf : Option Burst → ℕ
 writerOf none = 0
-writerOf (some x) = x .bank
+writerOf (some x) = cond (x .auto) (x .bank + 4) (x .bank)
 
 -- ---- the deadlines in groups, by the names of their places
 
@@ -61,11 +63,11 @@ pub record BankHeld : Type 0 where
   pub written : ℕ
   pub locked : ℕ
 
--- of the reads
+-- of the reads, and of the last burst
 pub record ReadHeld : Type 0 where
   pub bus : ℕ
   pub reads : ℕ
-  pub reader : ℕ
+  pub last : ℕ
 
 -- of the writes
 pub record WriteHeld : Type 0 where
@@ -102,7 +104,7 @@ laid x =
     (four (x .banks) (λ b. b .written)
     (four (x .banks) (λ b. b .locked)
     (x .busy ∷ x .sleep .overdue
-    ∷ x .read .bus ∷ x .read .reads ∷ x .write .writes ∷ x .write .end ∷ x .read .reader ∷ x .write .writer
+    ∷ x .read .bus ∷ x .read .reads ∷ x .write .writes ∷ x .write .end ∷ x .read .last ∷ x .write .writer
     ∷ x .sleep .asleep ∷ x .sleep .wake ∷ x .sleep .self ∷ [])))))))
 
 -- ---- of the reading's part
@@ -116,18 +118,18 @@ bankHeld s b w =
       rest = from (b .prechargeCycle) (s .tRP);
       column = from (b .lastActive) (s .tRCD);
       close = from (b .lastActive) (s .tRAS);
-      written = ended w (s .tWR);
+      written = ended s w (s .tWR);
       locked = orZero (b .lastActive) + s .tRAS + s .tRP;
     }
 
 abbrev pub readHeld : List Burst → ReadHeld
-readHeld xs = record { bus = cleared (find reads xs); reads = heldBy reads xs; reader = readerOf (find reads xs) }
+readHeld xs = record { bus = cleared (find reads xs); reads = heldBy reads xs; last = lastOf xs }
 
 abbrev pub writeHeld : Settings → List Burst → WriteHeld
 writeHeld s xs =
     record {
       writes = heldBy (λ x. x .writes) xs;
-      end = ended (find (λ x. x .writes) xs) (s .tWTR);
+      end = ended s (find (λ x. x .writes) xs) (s .tWTR);
       writer = writerOf (find (λ x. x .writes) xs);
     }
 

@@ -11,10 +11,12 @@ use lib.ListN.{length, getD, length-map}
 use lib.Dec.{leb, ltb, eqb}
 use Rattle.reading.specs.Search.{given, count}
 use Rattle.reading.specs.Words.{wordAt}
-use Rattle.reading.specs.Settings.{settingFits, badSetting}
-use Rattle.reading.specs.Capture.{headerWord, countIn, eventsStart, captureSize, mostEvents, eventCount, settingWords, eventBytes, eventAt, lengthFits, headerFits, lastCycle, pinLimit, cycleFits, eventFits, badEvent}
-use Rattle.reading.specs.Answers.{Answer, refused, answered, unless, accepted}
+use Rattle.reading.specs.Settings.{settingsOf, settingFits, badSetting}
+use Rattle.reading.specs.Capture.{headerWord, countIn, eventsStart, captureSize, mostEvents, newestEdition, eventCount, editionIn, settingWords, eventBytes, eventAt, lengthFits, headerFits, lastCycle, pinLimit, cycleFits, eventFits, badEvent}
+use Rattle.reading.specs.Answers.{Answer, refused, answered, unless, settingsIn, accepted}
 use Rattle.words.proofs.Search.{none-below}
+use Rattle.settings.specs.Meaning.{held}
+use Rattle.settings.proofs.Padded.{held-settings}
 use Rattle.settings.proofs.Fitting.{in-range, each-in-range}
 
 -- ---- whatever follows: refused alike, or answered by what follows
@@ -119,7 +121,7 @@ module _ (capture : List ℕ) where
   unfolding headerFits
   counts h =
       third-and-last (eqb (headerWord capture 1) (countIn capture)) (eqb (headerWord capture 2) 24) _
-      (eqb (headerWord capture 4) (eventsStart (countIn capture))) (eqb (headerWord capture 5) 0) _ h
+      (eqb (headerWord capture 4) (eventsStart (countIn capture))) (leb (editionIn capture) newestEdition) _ h
 
   pub sized : lengthFits capture ≡ true → headerFits capture ≡ true → Sized capture
   sized l h =
@@ -131,6 +133,10 @@ module _ (capture : List ℕ) where
   pub words-count : length (settingWords capture) ≡ countIn capture
   unfolding settingWords
   words-count = length-map (count 0 (countIn capture)) (λ i. wordAt capture (24 + 4 * i)) ∙ length-count 0 (countIn capture)
+
+  -- the settings and the edition as they are held
+  pub held-in : settingsOf (held (editionIn capture) (settingWords capture)) ≡ settingsIn capture
+  held-in = held-settings (settingWords capture) (editionIn capture) (omega (arith, words-count, count-range .1))
 
   pub accepted-sound : accepted capture (answered (tt {0})) ≡ answered tt → Sound capture
   unfolding accepted badEvent eventFits

@@ -26,15 +26,15 @@ wordsFrom capture i = map (λ j. wordAt capture (24 + 4 * j)) (count i (countIn 
 
 pub record Loading (capture loaded : List ℕ) (i : ℕ) : Type 0 where
   pub within : i ≤ countIn capture
-  pub full : length loaded ≡ 16
+  pub full : length loaded ≡ 17
   pub same : sets loaded i (wordsFrom capture i) ≡ padded (settingWords capture)
 
-pub none-loaded : (capture : List ℕ) → Loading capture (replicate 16 0) 0
+pub none-loaded : (capture : List ℕ) → Loading capture (replicate 17 0) 0
 unfolding settingWords padded
 none-loaded capture = record { within = omega arith; full = refl; same = go (eqb (headerWord capture 1) 16) }
   where
     go : (b : Bool) →
-        sets (replicate 16 0) 0 (map (λ j. wordAt capture (24 + 4 * j)) (count 0 (cond b 16 14 - 0))) ≡
+        sets (replicate 17 0) 0 (map (λ j. wordAt capture (24 + 4 * j)) (count 0 (cond b 16 14 - 0))) ≡
         padded (map (λ j. wordAt capture (24 + 4 * j)) (count 0 (cond b 16 14)))
     go true = refl
     go false = refl

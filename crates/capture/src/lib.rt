@@ -1,8 +1,10 @@
 // A capture in bytes: whether it is accepted, and its settings and events.
 use settings::COUNT;
 use settings::Checked;
+use settings::HELD;
 use settings::SLEEPING;
 use settings::Settings;
+use settings::places::EDITION;
 use words::Found;
 ghost use mathlib.Core.Path.{_≡_};
 ghost use mathlib.Core.Bool.{true, not, _&&_};
@@ -12,9 +14,9 @@ ghost use lib.ListN.{length};
 ghost use Rattle.words.specs.Found.{placeOf};
 ghost use lib.Dec.{eqb};
 ghost use Rattle.reading.specs.Settings.{sleepingCount};
-ghost use Rattle.reading.specs.Capture.{headerWord, countIn, eventsStart, pinLimit, eventCount, settingWords, eventBytes, eventAt, lengthFits, headerFits, badEvent};
+ghost use Rattle.reading.specs.Capture.{headerWord, countIn, eventsStart, pinLimit, eventCount, editionIn, settingWords, eventBytes, eventAt, lengthFits, headerFits, badEvent};
 ghost use Rattle.reading.specs.Answers.{answered, accepted};
-ghost use Rattle.settings.specs.Meaning.{means, padded};
+ghost use Rattle.settings.specs.Meaning.{means, padded, held};
 ghost use Rattle.capture.specs.Meaning.{fitsFrom};
 
 // How many settings a capture states, without sleep and with it.
@@ -41,6 +43,8 @@ const PINS: u32 = 1 << 20;
 const SLEEPING_PINS: u32 = 1 << 21;
 
 const LAST_CYCLE: u32 = 2_000_000_000;
+
+const NEWEST_EDITION: u32 = 1;
 
 // Its settings have those of sleep among them.
 fn sleeping(capture: &[u8]) -> bool
@@ -108,6 +112,14 @@ pub fn event_count(capture: &[u8]) -> u32
     words::word_at(capture, 12)
 }
 
+// The edition of the rules, as the header states it.
+fn edition(capture: &[u8]) -> u32
+    requires { ⌜ 24 ≤ length (now capture) ⌝ }
+    ensures { λ r. ⌜ r ≡ editionIn (now (capture .entry)) ⌝ }
+{
+    words::word_at(capture, 20)
+}
+
 fn bad_header(capture: &[u8]) -> bool
     requires { ⌜ 24 ≤ length (now capture) ⌝ }
     ensures { λ r. ⌜ r ≡ not (headerFits (now (capture .entry))) ⌝ }
@@ -127,22 +139,32 @@ fn bad_header(capture: &[u8]) -> bool
     if words::word_at(capture, 16) != start {
         return true;
     }
-    if words::word_at(capture, 20) != 0 {
+    if NEWEST_EDITION < edition(capture) {
         return true;
     }
     words::word_at(capture, 0) != start + 8 * n
 }
 
-// The settings, as words; 0 for those of sleep where there is none.
-pub fn setting_words(capture: &[u8]) -> Settings
+// The settings, as words; 0 for those of sleep where there is none, and for the edition.
+fn setting_words(capture: &[u8]) -> Settings
     requires { ⌜ eventsStart (countIn (now capture)) ≤ length (now capture) ⌝ }
     ensures { λ r. ⌜ r ≡ padded (settingWords (now (capture .entry))) ⌝ }
 {
-    let mut loaded = [0u32; SLEEPING];
+    let mut loaded = [0u32; HELD];
     let n = settings_count(capture) as usize;
     for i in 0..n {
         loaded[i] = words::word_at(capture, SETTINGS + 4 * i);
     }
+    loaded
+}
+
+// The settings and the edition by which it is judged.
+pub fn settings_in(capture: &[u8]) -> Settings
+    requires { ⌜ eventsStart (countIn (now capture)) ≤ length (now capture) ⌝ }
+    ensures { λ r. ⌜ r ≡ held (editionIn (now (capture .entry))) (settingWords (now (capture .entry))) ⌝ }
+{
+    let mut loaded = setting_words(capture);
+    loaded[EDITION] = edition(capture);
     loaded
 }
 

@@ -67,22 +67,22 @@ module _ (settings bytes : List ℕ) (n : ℕ) where
         counts = ap length (all-ahead z k) ∙ omega arith;
       }
 
-  pub goes-on : {mode cells i pairs pins next : ℕ} → Counted mode cells i → i < n → pairs ≡ keptOf mode (eventAt bytes i) (eventsFrom bytes n (i + 1)) →
+  pub goes-on : {mode cells i pairs pins next : ℕ} → Counted mode cells i → i < n → pairs ≡ keptOf s mode (eventAt bytes i) (eventsFrom bytes n (i + 1)) →
       pins ≡ eventAt bytes i .pins → next ≡ modeAfter mode pins → Counted next (cells + 2 * pairs) (i + 1)
   goes-on {mode} {cells} {i} {pairs} {pins} {next} b l ep ew em =
       record {
         reached = step s (b .reached) (eventAt bytes i);
         moded = em ∙ rw (ew, b .moded) (sym (mode-is s (b .reached) (eventAt bytes i)));
         within = omega arith;
-        small = omega (arith, b .small, ep, kept-le mode (eventAt bytes i) later);
+        small = omega (arith, b .small, ep, kept-le s mode (eventAt bytes i) later);
         counts = b .counts ∙ omega (arith, sized);
       }
     where
       later : List Event
       later = eventsFrom bytes n (i + 1)
 
-      pairs-are : pairs ≡ keptOf (b .reached .mode) (eventAt bytes i) later
-      pairs-are = ep ∙ ap (λ (m : ℕ). keptOf m (eventAt bytes i) later) (b .moded)
+      pairs-are : pairs ≡ keptOf s (b .reached .mode) (eventAt bytes i) later
+      pairs-are = ep ∙ ap (λ (m : ℕ). keptOf s m (eventAt bytes i) later) (b .moded)
 
       sized : length (cellsFrom s (b .reached) (eventsFrom bytes n i)) ≡ 2 * pairs + length (cellsFrom s (step s (b .reached) (eventAt bytes i)) later)
       sized =

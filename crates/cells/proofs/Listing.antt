@@ -10,10 +10,11 @@ use borrow.Author.Tests.{ltb-false}
 use lib.Dec.{ltb}
 use lib.ListN.{length, getD, drop}
 use lib.Seq.{sets, sets-eq}
+use Rattle.reading.specs.Mode.{modeWord}
 use Rattle.reading.specs.Settings.{Settings, settingsOf}
-use Rattle.reading.specs.Capture.{eventCount, settingWords, eventBytes, eventsOf}
+use Rattle.reading.specs.Capture.{eventCount, editionIn, settingWords, eventBytes, eventsOf}
 use Rattle.reading.specs.Verdict.{verdictOf}
-use Rattle.reading.specs.Answers.{Answer, refused, answered, unless, accepted, Outcome, leaves, fitting, notClean, verdictIn, cellsIn, cellsOutcome}
+use Rattle.reading.specs.Answers.{Answer, refused, answered, unless, settingsIn, accepted, Outcome, leaves, fitting, notClean, verdictIn, cellsIn, cellsOutcome}
 use Rattle.words.specs.declared.Found.{Found}
 use Rattle.words.specs.declared.Found.the-variants.{Nothing, At}
 use Rattle.words.specs.Found.{placeOf}
@@ -21,8 +22,7 @@ use Rattle.settings.proofs.Fitting.{at-most, mode-valid}
 use Rattle.settings.specs.declared.Checked.{Checked}
 use Rattle.settings.specs.declared.Checked.the-variants as checked
 use Rattle.settings.specs.Meaning as check
-use Rattle.settings.specs.Meaning.{padded}
-use Rattle.settings.proofs.Padded.{padded-at, padded-settings}
+use Rattle.settings.specs.Meaning.{held}
 use Rattle.capture.proofs.Accepted.{Sound, count-range, accepted-sound, accepted-rest, refused-rest}
 use Rattle.judge.specs.Meaning.{eventsIn}
 use Rattle.judge.proofs.Judging as judging
@@ -79,7 +79,7 @@ module _ (s : Settings) (bytes : List ℕ) (n : ℕ) (buffer : List ℕ) (found 
 -- ---- the capture
 
 on-capture : (c buffer : List ℕ) → accepted c (answered (tt {0})) ≡ answered tt →
-    listing (settingsOf (settingWords c)) (eventBytes c) (eventCount c) buffer ≡ cellsOutcome c buffer
+    listing (settingsIn c) (eventBytes c) (eventCount c) buffer ≡ cellsOutcome c buffer
 unfolding listing cellsOn cellsOutcome cellsIn verdictIn eventsOf
 on-capture c buffer h = ap (λ (a : Answer (List ℕ)). leaves a buffer) (sym (accepted-rest c _ h))
 
@@ -93,30 +93,32 @@ module _ (c : List ℕ) (buffer : List ℕ) (o : Checked) (opened : check.means 
       (refused-rest c (unless 8 (notClean (verdictIn c)) (fitting buffer (cellsIn c))) (sym opened ∙ ap check.means e)))
 
   module _ (fine : o ≡ checked.Fine) {settings : List ℕ} {n : ℕ} {bytes : List ℕ}
-      (e : settings ≡ padded (settingWords c)) (f : n ≡ eventCount c) (g : bytes ≡ eventBytes c) where
+      (e : settings ≡ held (editionIn c) (settingWords c)) (f : n ≡ eventCount c) (g : bytes ≡ eventBytes c) where
     open-to : accepted c (answered (tt {0})) ≡ answered tt
     open-to = sym opened ∙ ap check.means fine
 
     sound : Sound c
     sound = accepted-sound c open-to
 
+    are : settingsOf settings ≡ settingsIn c
+    are = judging.settings-are c o opened fine e
+
     pub listable : Listable settings bytes n
     listable =
         record {
           fit = judging.fit c o opened fine e f g;
           sized =
-              rw (e, padded-settings (settingWords c))
-              (record {
-                rows = at-most 1 (getD (settingWords c) 1 0) (sound .settings 1 (omega (arith, count-range c .0)));
-                columns = at-most 2 (getD (settingWords c) 2 0) (sound .settings 2 (omega (arith, count-range c .0)));
-              });
+              record {
+                rows = omega (arith, ap (λ (s : Settings). s .rowBits) are, at-most 1 (getD (settingWords c) 1 0) (sound .settings 1 (omega (arith, count-range c .0))));
+                columns = omega (arith, ap (λ (s : Settings). s .columnBits) are, at-most 2 (getD (settingWords c) 2 0) (sound .settings 2 (omega (arith, count-range c .0))));
+              };
           moded =
-              rw (e, padded-at (settingWords c) 3)
-              (mode-valid (getD (settingWords c) 3 0) (sound .settings 3 (omega (arith, count-range c .0))));
+              ap (λ (s : Settings). modeWord (s .mode)) are
+              ∙ mode-valid (getD (settingWords c) 3 0) (sound .settings 3 (omega (arith, count-range c .0)));
         }
 
     pub listed-so : {a : Answer ℕ} {out : List ℕ} → Meets a out (listing (settingsOf settings) bytes n buffer) → Meets a out (cellsOutcome c buffer)
     listed-so {a} {out} m = (m .0 ∙ ap (λ (x : Outcome). x .answer) same, m .1 ∙ ap (λ (x : Outcome). x .buffer) same)
       where
         same : listing (settingsOf settings) bytes n buffer ≡ cellsOutcome c buffer
-        same = rw (e, padded-settings (settingWords c), f, g) (on-capture c buffer open-to)
+        same = rw (are, f, g) (on-capture c buffer open-to)

@@ -65,7 +65,7 @@ module _ (s : Settings) (p : Part) (e : Event) (v : modeWord (p .mode) ≡ true)
 -- ---- a clean capture
 
 module _ (s : Settings) where
-  given-cells : (p : Part) (e : Event) (es : List Event) → length (eventCells s p e es) ≡ 2 * keptOf (p .mode) e es
+  given-cells : (p : Part) (e : Event) (es : List Event) → length (eventCells s p e es) ≡ 2 * keptOf s (p .mode) e es
   given-cells p e es = length-cells _ _ _ _
 
   few-cells : (p : Part) (i : ℕ) (es : List Event) → modeWord (p .mode) ≡ true → judgeFrom s p i es ≡ clean → length (cellsFrom s p es) ≤ 16 * length es
@@ -77,7 +77,7 @@ module _ (s : Settings) where
         arith,
         length-append (eventCells s p e es) (cellsFrom s (step s p e) es),
         given-cells p e es,
-        kept-half (p .mode) e es,
+        kept-half s (p .mode) e es,
         few-pairs (p .mode) v,
         few-cells (step s p e) (suc i) es (mode-valid s p e v (next .0)) (next .1),
       )

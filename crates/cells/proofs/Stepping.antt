@@ -26,7 +26,7 @@ module _ (s : Settings) (bytes : List ℕ) (n i : ℕ) (firsts : List ℕ) (mode
     pub burst : gives w ≡ true
     pub row : first ≡ getD firsts (bankOf w) 0
     pub place : column ≡ columnOf s (addressOf w)
-    pub kept : pairs ≡ keptOf mode (eventAt bytes i) later
+    pub kept : pairs ≡ keptOf s mode (eventAt bytes i) later
 
   module _ {pins : ℕ} {v : Bool} (e : pins ≡ w) (f : v ≡ gives pins) where
     pub found-none : v ≡ false → Other ≡ givenAs (givenBy s bytes n i firsts mode)
@@ -34,7 +34,7 @@ module _ (s : Settings) (bytes : List ℕ) (n i : ℕ) (firsts : List ℕ) (mode
     found-none g = let h : gives w ≡ false = sym (f ∙ ap gives e) ∙ g in rw h
 
     pub found : {bank first column pairs : ℕ} → v ≡ true → bank ≡ bankOf pins → first ≡ getD firsts bank 0 → column ≡ columnOf s (addressOf pins) →
-        pairs ≡ keptOf mode (eventAt bytes i) later → Burst first column pairs ≡ givenAs (givenBy s bytes n i firsts mode)
+        pairs ≡ keptOf s mode (eventAt bytes i) later → Burst first column pairs ≡ givenAs (givenBy s bytes n i firsts mode)
     unfolding givenBy
     found g b x y z =
         let h : gives w ≡ true = sym (f ∙ ap gives e) ∙ g in
@@ -49,7 +49,7 @@ module _ (s : Settings) (bytes : List ℕ) (n i : ℕ) (firsts : List ℕ) (mode
       where
         go : (v : Bool) → gives w ≡ v →
             Burst first column pairs
-            ≡ givenAs (cond v (some (record { first = getD firsts (bankOf w) 0; column = columnOf s (addressOf w); pairs = keptOf mode (eventAt bytes i) later })) none) →
+            ≡ givenAs (cond v (some (record { first = getD firsts (bankOf w) 0; column = columnOf s (addressOf w); pairs = keptOf s mode (eventAt bytes i) later })) none) →
             Is first column pairs
         go true g q = record { burst = g; row = cc; place = cc; kept = cc }
         go false g q = let z : _≡_ {A = ℕ} 0 1 = cc in absurd (omega arith)
@@ -60,7 +60,7 @@ module _ (s : Settings) (bytes : List ℕ) (n i : ℕ) (firsts : List ℕ) (mode
       where
         go : (v : Bool) →
             Other
-            ≡ givenAs (cond v (some (record { first = getD firsts (bankOf w) 0; column = columnOf s (addressOf w); pairs = keptOf mode (eventAt bytes i) later })) none) →
+            ≡ givenAs (cond v (some (record { first = getD firsts (bankOf w) 0; column = columnOf s (addressOf w); pairs = keptOf s mode (eventAt bytes i) later })) none) →
             v ≡ false
         go true q = let z : _≡_ {A = ℕ} 0 1 = cc in absurd (omega arith)
         go false q = refl

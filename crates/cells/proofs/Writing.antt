@@ -60,7 +60,7 @@ module _ (settings bytes : List ℕ) (n : ℕ) (old : List ℕ) where
   size b = ap length (b .holds) ∙ length-sets old 0 (b .done)
 
   module _ {out firsts : List ℕ} {mode next i : ℕ} (b : Written out firsts mode next i) (l : i < n) {pins pairs : ℕ}
-      (ew : pins ≡ eventAt bytes i .pins) (ep : pairs ≡ keptOf mode (eventAt bytes i) (eventsFrom bytes n (i + 1))) where
+      (ew : pins ≡ eventAt bytes i .pins) (ep : pairs ≡ keptOf s mode (eventAt bytes i) (eventsFrom bytes n (i + 1))) where
     abbrev e : Event
     e = eventAt bytes i
 
@@ -70,8 +70,8 @@ module _ (settings bytes : List ℕ) (n : ℕ) (old : List ℕ) where
     abbrev cells : List ℕ
     cells = eventCells s (b .reached) e later
 
-    pairs-are : pairs ≡ keptOf (b .reached .mode) e later
-    pairs-are = ep ∙ ap (λ (m : ℕ). keptOf m e later) (b .moded)
+    pairs-are : pairs ≡ keptOf s (b .reached .mode) e later
+    pairs-are = ep ∙ ap (λ (m : ℕ). keptOf s m e later) (b .moded)
 
     sized : length cells ≡ 2 * pairs
     sized = length-cells _ _ _ _ ∙ ap (λ (k : ℕ). 2 * k) (sym pairs-are)
@@ -97,7 +97,7 @@ module _ (settings bytes : List ℕ) (n : ℕ) (old : List ℕ) where
           rowed = ef ∙ rw (ew, b .rowed) (firsts-after s (b .reached) e);
           low = low-after s (b .reached) e (b .low);
           within = omega arith;
-          small = omega (arith, b .small, ep, kept-le mode e later);
+          small = omega (arith, b .small, ep, kept-le s mode e later);
           done = b .done ++ cells;
           place = omega (arith, b .place, sized, length-append (b .done) cells);
           holds = eo ∙ rw (b .holds, b .place) behind;
@@ -119,7 +119,7 @@ module _ (settings bytes : List ℕ) (n : ℕ) (old : List ℕ) where
           record {
             cell = rw first-is (first-lt s (z .sized) bank (b .reached .banks bank .row) (omega (arith, eb)) (b .low bank));
             low = rw ec (column-lt s (addressOf pins));
-            short = omega (arith, ep, kept-le mode e later);
+            short = omega (arith, ep, kept-le s mode e later);
           }
 
       stored-are : beatCells first mode column (2 * pairs) ≡ cells
@@ -141,8 +141,8 @@ module _ (settings bytes : List ℕ) (n : ℕ) (old : List ℕ) where
       same : next + 2 * 0 ≡ next
       same = omega arith
 
-      none-kept : 0 ≡ keptOf mode (eventAt bytes i) later
-      none-kept = kept-none mode (eventAt bytes i) later ew refl g
+      none-kept : 0 ≡ keptOf s mode (eventAt bytes i) later
+      none-kept = kept-none s mode (eventAt bytes i) later ew refl g
 
       nothing : sets out next (eventCells s (b .reached) (eventAt bytes i) later) ≡ out
       nothing = rw (← b .moded, ← none-kept) (ap (sets out next) (no-cells _ _ _))

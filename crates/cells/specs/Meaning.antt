@@ -46,7 +46,7 @@ givenBy s bytes n i firsts mode =
     (record {
       first = getD firsts (bankOf (eventAt bytes i .pins)) 0;
       column = columnOf s (addressOf (eventAt bytes i .pins));
-      pairs = keptOf mode (eventAt bytes i) (eventsFrom bytes n (i + 1));
+      pairs = keptOf s mode (eventAt bytes i) (eventsFrom bytes n (i + 1));
     }))
     none
 

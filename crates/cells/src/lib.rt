@@ -53,7 +53,7 @@ fn needed(s: &Settings, bytes: &[u8], n: u32) -> u32
     let mut cells: u32 = 0;
     let mut i: u32 = 0;
     'events: while i < n {
-        cells += 2 * beats::kept(bytes, n, i, mode);
+        cells += 2 * beats::kept(s, bytes, n, i, mode);
         mode = beats::mode_after(mode, capture::pins_at(bytes, i as usize));
         i += 1;
     }
@@ -89,7 +89,7 @@ fn step(s: &Settings, bytes: &[u8], n: u32, i: u32, firsts: &[u32; 4], mode: u32
     let bank = pins::bank(w);
     let first = firsts[bank];
     let column = beats::column(s, w);
-    let pairs = beats::kept(bytes, n, i, mode);
+    let pairs = beats::kept(s, bytes, n, i, mode);
     Given::Burst {
         first,
         column,
@@ -160,7 +160,7 @@ pub fn burst_cells(capture: &[u8], out: &mut [u32]) -> Listed
     if let Checked::Refused { number, place } = checked {
         return Listed::Refused { number, place };
     }
-    let settings = capture::setting_words(capture);
+    let settings = capture::settings_in(capture);
     let n = capture::event_count(capture);
     let bytes = capture::event_bytes(capture);
     list(&settings, bytes, n, out)

@@ -7,7 +7,7 @@ use lib.ListN.{getD, set, replicate}
 use lib.Dec.{leb, ltb, eqb}
 use Rattle.reading.specs.Search.{lesser, later}
 use Rattle.reading.specs.Mode.{h, CL, modeWord}
-use Rattle.reading.specs.Settings.{Settings}
+use Rattle.reading.specs.Settings.{Settings, newer}
 use Rattle.reading.specs.Rules.{everyBank}
 
 -- of each bank, from these places on: 1 if it is open; rules 7, 5, 8, 9 and 10; and the first cycle at which
@@ -52,9 +52,10 @@ WRITES = 32
 abbrev pub END : ℕ
 END = 33
 
--- the bank of the last read if a PRECHARGE can cut it, else 4; the bank of the last write
-abbrev pub READER : ℕ
-READER = 34
+-- of the last burst: the bank of a read that a PRECHARGE can cut, 4 of any other read or where there is none, and of a write
+-- five cycles more than the end of its data; the bank of the last write, four more if it has auto precharge
+abbrev pub LAST : ℕ
+LAST = 34
 
 abbrev pub WRITER : ℕ
 WRITER = 35
@@ -104,7 +105,7 @@ overdueAfter s t due = cond (leb due (t + 8 * s .tREFI)) (due + s .tREFI) due
 unfoldable pub startOf : Settings → List ℕ
 startOf s =
     let d₁ = set (replicate 39 0) OVERDUE (overdueFrom s 0) in
-    let d₂ = set d₁ READER 4 in
+    let d₂ = set d₁ LAST 4 in
     let d₃ = set d₂ LOCKED (s .tRAS + s .tRP) in
     let d₄ = set d₃ (LOCKED + 1) (s .tRAS + s .tRP) in
     let d₅ = set d₄ (LOCKED + 2) (s .tRAS + s .tRP) in
@@ -176,11 +177,21 @@ readBreaks d t b = orElse (not (eqb (at d (OPENED + b)) 0)) 3 (unmet (readWaits 
 unfoldable pub writeBreaks : List ℕ → ℕ → ℕ → ℕ
 writeBreaks d t b = orElse (not (eqb (at d (OPENED + b)) 0)) 3 (unmet (writeWaits d b) t (lastBreaks d t))
 
-unfoldable pub terminateBreaks : Settings → List ℕ → ℕ → ℕ
-terminateBreaks s d t =
+-- the last write's row was closed since, which interrupted the write or waited for it
+abbrev pub gone : List ℕ → Bool
+gone d =
+    let b = at d WRITER % 4 in
+    ltb (at d WRITER) 4 && (eqb (at d (OPENED + b)) 0 || eqb (at d (WRITTEN + b)) 0)
+
+-- the data of the last write have been taken
+abbrev pub taken : List ℕ → ℕ → Bool
+taken d t = leb (at d LAST) (t + 5) || gone d
+
+unfoldable pub terminateBreaks : List ℕ → ℕ → ℕ
+terminateBreaks d t =
     orElse (leb (at d BUSY) t) 4
     (orElse (leb (at d READS) t) 13
-    (orElse (leb (at d END) (t + s .tWTR)) 13
+    (orElse (taken d t) 13
     (lastBreaks d t)))
 
 unfoldable pub closeBreaks : List ℕ → ℕ → ℕ → ℕ
@@ -207,22 +218,22 @@ unfoldable pub refreshBreaks : List ℕ → ℕ → ℕ
 refreshBreaks d t = orElse (allIdle d) 3 (unmet (refreshWaits d) t (lastBreaks d t))
 
 -- NOP and DESELECT with CKE low: awake they enter power-down, asleep they stay
-unfoldable pub enterBreaks : Settings → List ℕ → ℕ → ℕ
-enterBreaks s d t =
+unfoldable pub enterBreaks : List ℕ → ℕ → ℕ
+enterBreaks d t =
     orElse (leb (at d BUSY) t) 4
     (orElse (ltb t (at d OVERDUE)) 14
     (orElse (leb (at d BUS) t) 15
-    (orElse (leb (at d END) (t + s .tWTR)) 15
+    (orElse (taken d t) 15
     (orElse (leb (at d WAKE) t) 15 0))))
 
-unfoldable pub lowBreaks : Settings → List ℕ → ℕ → ℕ
-lowBreaks s d t = cond (ltb t (at d ASLEEP)) 0 (cond (eqb (at d OVERDUE) 0) 14 (enterBreaks s d t))
+unfoldable pub lowBreaks : List ℕ → ℕ → ℕ
+lowBreaks d t = cond (ltb t (at d ASLEEP)) 0 (cond (eqb (at d OVERDUE) 0) 14 (enterBreaks d t))
 
 -- AUTO REFRESH with CKE low enters self refresh
-unfoldable pub selfBreaks : Settings → List ℕ → ℕ → ℕ
-selfBreaks s d t =
+unfoldable pub selfBreaks : List ℕ → ℕ → ℕ
+selfBreaks d t =
     let rule = refreshBreaks d t in
-    cond (eqb rule 0) (orElse (leb (at d END) (t + s .tWTR)) 15 0) rule
+    cond (eqb rule 0) (orElse (taken d t) 15 0) rule
 
 unfoldable pub modeBreaks : List ℕ → ℕ → ℕ → ℕ → ℕ
 modeBreaks d t b a = orElse (cond (eqb b 0) (modeWord a) (eqb b 2)) 2 (refreshBreaks d t)
@@ -247,7 +258,7 @@ autoAfter d b c =
 unfoldable pub readAfter : Settings → List ℕ → List ℕ → ℕ → ℕ → Bool → List ℕ
 readAfter s d m t b auto =
     let d₁ = set d BUS (t + at m LATENCY + at m PAIRS) in
-    cond auto (autoAfter (set (set d₁ READER 4) READS (t + at m PAIRS)) b (t + at m PAIRS + s .tRP)) (set d₁ READER b)
+    cond auto (autoAfter (set (set d₁ LAST 4) READS (t + at m PAIRS)) b (t + at m PAIRS + s .tRP)) (set d₁ LAST b)
 
 -- the last write is cut, to a data end of t + 1
 unfoldable pub cutWrite : Settings → List ℕ → ℕ → List ℕ
@@ -260,12 +271,23 @@ unfoldable pub newWrite : Settings → List ℕ → ℕ → ℕ → ℕ → List
 newWrite s d t pairs b =
     let d₁ = set d (WRITTEN + b) (t + 1 + pairs + s .tWR) in
     let d₂ = set d₁ END (t + 1 + pairs + s .tWTR) in
-    set d₂ WRITER b
+    let d₃ = set d₂ LAST (t + 1 + pairs + 5) in
+    set d₃ WRITER b
+
+-- in the newer edition rules 10 and 11 count from its first pair
+unfoldable pub earlyRest : Settings → List ℕ → ℕ → ℕ → List ℕ
+earlyRest s d t b = cond (newer s) (set (set d (WRITTEN + b) (t + 2 + s .tWR)) END (t + 2 + s .tWTR)) d
+
+unfoldable pub autoWrite : Settings → List ℕ → ℕ → ℕ → ℕ → List ℕ
+autoWrite s d t pairs b =
+    let d₁ = set d WRITES (t + pairs) in
+    let d₂ = set d₁ WRITER (b + 4) in
+    autoAfter d₂ b (t + 1 + pairs + s .tWR + s .tRP)
 
 unfoldable pub writeAfter : Settings → List ℕ → List ℕ → ℕ → ℕ → Bool → List ℕ
 writeAfter s d m t b auto =
     let d₁ = newWrite s (cutWrite s d t) t (at m PAIRS) b in
-    cond auto (autoAfter (set d₁ WRITES (t + at m PAIRS)) b (t + 1 + at m PAIRS + s .tWR + s .tRP)) d₁
+    cond auto (autoWrite s d₁ t (at m PAIRS) b) (earlyRest s d₁ t b)
 
 -- the last read is cut, if it can be, to leave the bus CL cycles after t
 unfoldable pub cutRead : List ℕ → List ℕ → ℕ → Bool → List ℕ
@@ -278,13 +300,13 @@ restAfter d b c =
     set d₁ (OPENED + b) 0
 
 unfoldable pub closeAfter : Settings → List ℕ → List ℕ → ℕ → ℕ → List ℕ
-closeAfter s d m t b = cutRead (restAfter d b (t + s .tRP)) m t (eqb (at (restAfter d b (t + s .tRP)) READER) b)
+closeAfter s d m t b = cutRead (restAfter d b (t + s .tRP)) m t (eqb (at (restAfter d b (t + s .tRP)) LAST) b)
 
 unfoldable pub restAll : List ℕ → ℕ → List ℕ
 restAll d c = restAfter (restAfter (restAfter (restAfter d 0 c) 1 c) 2 c) 3 c
 
 unfoldable pub closeAllAfter : Settings → List ℕ → List ℕ → ℕ → List ℕ
-closeAllAfter s d m t = cutRead (restAll d (t + s .tRP)) m t (ltb (at (restAll d (t + s .tRP)) READER) 4)
+closeAllAfter s d m t = cutRead (restAll d (t + s .tRP)) m t (ltb (at (restAll d (t + s .tRP)) LAST) 4)
 
 unfoldable pub refreshAfter : Settings → List ℕ → ℕ → List ℕ
 refreshAfter s d t =

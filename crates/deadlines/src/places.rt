@@ -28,7 +28,7 @@ pub const WRITES: usize = 32;
 
 pub const END: usize = 33;
 
-pub const READER: usize = 34;
+pub const LAST: usize = 34;
 
 pub const WRITER: usize = 35;
 

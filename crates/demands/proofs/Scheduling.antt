@@ -23,7 +23,7 @@ use Rattle.schedule.specs.declared.Scheduled.the-variants as said
 use Rattle.memory.proofs.Same.{schedule-is-plain}
 use Rattle.plan.proofs.Ranged.{ranged}
 use Rattle.plan.proofs.Ready.{Planned, requests-fit, few-requests}
-use Rattle.plan.proofs.Captured.{allClean, settings-fit, settings-back, events-back, schedule-fits, schedule-clean}
+use Rattle.plan.proofs.Captured.{allClean, settings-fit, captured-settings, events-back, schedule-fits, schedule-clean}
 use Rattle.demands.specs.Allowed.{Judges, Schedules}
 use Rattle.demands.proofs.Judging.{judged-clean}
 
@@ -103,7 +103,7 @@ module _ (ws qs out : List ℕ) (n : ℕ) (e : scheduleOutcome ws qs out .answer
 
   outcome-memory : (r : Run) → replay (settingsIn capture) (eventsOf capture) r ≡ plain (settingsOf ws) qs r
   outcome-memory r =
-      rw (outcome-events, written .bytes, settings-back ws es l (written .settings) few (y .rises) (y .early))
+      rw (outcome-events, written .bytes, captured-settings ws es l (written .settings) few (y .rises) (y .early))
       (schedule-is-plain (settingsOf ws) placing (ranged ws (settings-fit ws (written .fourteen) (written .settings)) .sized) qs es
       (requests-fit (settingsOf ws) qs (written .requests)) (written .schedule) r)
 

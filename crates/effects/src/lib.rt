@@ -9,13 +9,13 @@ use deadlines::places::BUSY;
 use deadlines::places::CLOSE;
 use deadlines::places::COLUMN;
 use deadlines::places::END;
+use deadlines::places::LAST;
 use deadlines::places::LATENCY;
 use deadlines::places::LOCKED;
 use deadlines::places::OPENED;
 use deadlines::places::OTHER;
 use deadlines::places::OVERDUE;
 use deadlines::places::PAIRS;
-use deadlines::places::READER;
 use deadlines::places::READS;
 use deadlines::places::REST;
 use deadlines::places::SELF;
@@ -31,6 +31,7 @@ use deadlines::sums::latest;
 use deadlines::sums::least;
 use deadlines::sums::pick;
 use settings::Settings;
+use settings::places::EDITION;
 use settings::places::T_MRD;
 use settings::places::T_RAS;
 use settings::places::T_RCD;
@@ -74,12 +75,12 @@ pub fn read_after(s: &Settings, d: &mut Deadlines, pace: &Pace, t: u32, b: usize
     let pairs = pace[PAIRS];
     d[BUS] = after2(t, pace[LATENCY], pairs);
     if auto {
-        d[READER] = 4;
+        d[LAST] = 4;
         d[READS] = after(t, pairs);
         auto_after(d, b, after2(t, pairs, s[T_RP]));
         return;
     }
-    d[READER] = b as u64;
+    d[LAST] = b as u64;
 }
 
 fn cut_write(s: &Settings, d: &mut Deadlines, t: u32)
@@ -95,7 +96,29 @@ fn new_write(s: &Settings, d: &mut Deadlines, t: u32, pairs: u32, b: usize)
 {
     d[WRITTEN + b] = data_after(t, pairs, s[T_WR]);
     d[END] = data_after(t, pairs, s[T_WTR]);
+    d[LAST] = data_after(t, pairs, 5);
     d[WRITER] = b as u64;
+}
+
+// In the newer edition rules 10 and 11 count from the first pair of a write.
+fn early_rest(s: &Settings, d: &mut Deadlines, t: u32, b: usize)
+    requires { ⌜ b < 4 ⌝ }
+    ensures { λ r. ⌜ now (d .exit) ≡ is.earlyRest (settingsOf (now (s .entry))) (now (d .entry)) t b ⌝ }
+{
+    if s[EDITION] != 1 {
+        return;
+    }
+    d[WRITTEN + b] = after2(t, 2, s[T_WR]);
+    d[END] = after2(t, 2, s[T_WTR]);
+}
+
+fn auto_write(s: &Settings, d: &mut Deadlines, t: u32, pairs: u32, b: usize)
+    requires { ⌜ b < 4 ⌝ }
+    ensures { λ r. ⌜ now (d .exit) ≡ is.autoWrite (settingsOf (now (s .entry))) (now (d .entry)) t pairs b ⌝ }
+{
+    d[WRITES] = after(t, pairs);
+    d[WRITER] = (b as u64) + 4;
+    auto_after(d, b, data_after2(t, pairs, s[T_WR], s[T_RP]));
 }
 
 pub fn write_after(s: &Settings, d: &mut Deadlines, pace: &Pace, t: u32, b: usize, auto: bool)
@@ -106,9 +129,10 @@ pub fn write_after(s: &Settings, d: &mut Deadlines, pace: &Pace, t: u32, b: usiz
     cut_write(s, d, t);
     new_write(s, d, t, pairs, b);
     if auto {
-        d[WRITES] = after(t, pairs);
-        auto_after(d, b, data_after2(t, pairs, s[T_WR], s[T_RP]));
+        auto_write(s, d, t, pairs, b);
+        return;
     }
+    early_rest(s, d, t, b);
 }
 
 pub fn cut_read(d: &mut Deadlines, pace: &Pace, t: u32, cut: bool)
@@ -130,7 +154,7 @@ pub fn close_after(s: &Settings, d: &mut Deadlines, pace: &Pace, t: u32, b: usiz
     ensures { λ r. ⌜ now (d .exit) ≡ is.closeAfter (settingsOf (now (s .entry))) (now (d .entry)) (now (pace .entry)) t b ⌝ }
 {
     rest_after(d, b, after(t, s[T_RP]));
-    let cut = d[READER] == b as u64;
+    let cut = d[LAST] == b as u64;
     cut_read(d, pace, t, cut);
 }
 
@@ -147,7 +171,7 @@ pub fn close_all_after(s: &Settings, d: &mut Deadlines, pace: &Pace, t: u32)
     ensures { λ r. ⌜ now (d .exit) ≡ is.closeAllAfter (settingsOf (now (s .entry))) (now (d .entry)) (now (pace .entry)) t ⌝ }
 {
     rest_all(d, after(t, s[T_RP]));
-    let cut = d[READER] < 4;
+    let cut = d[LAST] < 4;
     cut_read(d, pace, t, cut);
 }
 
@@ -216,7 +240,7 @@ pub fn start(s: &Settings) -> Deadlines
 {
     let mut d = [0u64; KEPT];
     d[OVERDUE] = clock::overdue_from(s, 0);
-    d[READER] = 4;
+    d[LAST] = 4;
     let locked = after(s[T_RAS], s[T_RP]);
     d[LOCKED] = locked;
     d[LOCKED + 1] = locked;

@@ -72,7 +72,7 @@ pub fn judge(capture: &[u8]) -> Verdict
     if let Checked::Refused { number, place } = checked {
         return Verdict::Refused { number, place };
     }
-    let settings = capture::setting_words(capture);
+    let settings = capture::settings_in(capture);
     let n = capture::event_count(capture);
     let mut deadlines = effects::start(&settings);
     let mut pace = sums::pace(settings[MODE]);

@@ -96,13 +96,13 @@ fn close(s: &Settings, d: &mut Deadlines, pace: &Pace, t: u32, b: usize) -> u32
     0
 }
 
-fn terminate(s: &Settings, d: &mut Deadlines, pace: &Pace, t: u32) -> u32
-    ensures { λ r. ⌜ r ≡ is.terminateBreaks (settingsOf (now (s .entry))) (now (d .entry)) t ⌝ }
+fn terminate(d: &mut Deadlines, pace: &Pace, t: u32) -> u32
+    ensures { λ r. ⌜ r ≡ is.terminateBreaks (now (d .entry)) t ⌝ }
     ensures { λ r.
-        ⌜ now (d .exit) ≡ leftBy (is.terminateBreaks (settingsOf (now (s .entry))) (now (d .entry)) t)
+        ⌜ now (d .exit) ≡ leftBy (is.terminateBreaks (now (d .entry)) t)
         (is.cutRead (now (d .entry)) (now (pace .entry)) t true) (now (d .entry)) ⌝ }
 {
-    let rule = rules::terminate_breaks(s, &*d, t);
+    let rule = rules::terminate_breaks(&*d, t);
     if rule != 0 {
         return rule;
     }
@@ -170,13 +170,13 @@ fn quiet(s: &Settings, d: &mut Deadlines, t: u32) -> u32
 // With CKE low: NOP and DESELECT, which enter power-down or stay asleep; AUTO REFRESH, which enters self refresh; and every
 // other command, which breaks a rule, if not a lower one then rule 15.
 
-fn enter(s: &Settings, d: &mut Deadlines, t: u32) -> u32
-    ensures { λ r. ⌜ r ≡ is.enterBreaks (settingsOf (now (s .entry))) (now (d .entry)) t ⌝ }
+fn enter(d: &mut Deadlines, t: u32) -> u32
+    ensures { λ r. ⌜ r ≡ is.enterBreaks (now (d .entry)) t ⌝ }
     ensures { λ r.
-        ⌜ now (d .exit) ≡ leftBy (is.enterBreaks (settingsOf (now (s .entry))) (now (d .entry)) t)
+        ⌜ now (d .exit) ≡ leftBy (is.enterBreaks (now (d .entry)) t)
         (is.enterAfter (now (d .entry))) (now (d .entry)) ⌝ }
 {
-    let rule = rules::enter_breaks(s, &*d, t);
+    let rule = rules::enter_breaks(&*d, t);
     if rule != 0 {
         return rule;
     }
@@ -184,10 +184,10 @@ fn enter(s: &Settings, d: &mut Deadlines, t: u32) -> u32
     0
 }
 
-fn quiet_low(s: &Settings, d: &mut Deadlines, t: u32) -> u32
-    ensures { λ r. ⌜ r ≡ is.lowBreaks (settingsOf (now (s .entry))) (now (d .entry)) t ⌝ }
+fn quiet_low(d: &mut Deadlines, t: u32) -> u32
+    ensures { λ r. ⌜ r ≡ is.lowBreaks (now (d .entry)) t ⌝ }
     ensures { λ r.
-        ⌜ now (d .exit) ≡ leftBy (is.lowBreaks (settingsOf (now (s .entry))) (now (d .entry)) t)
+        ⌜ now (d .exit) ≡ leftBy (is.lowBreaks (now (d .entry)) t)
         (is.lowAfter (now (d .entry)) t) (now (d .entry)) ⌝ }
 {
     if (t as u64) < d[ASLEEP] {
@@ -196,16 +196,16 @@ fn quiet_low(s: &Settings, d: &mut Deadlines, t: u32) -> u32
     if d[OVERDUE] == 0 {
         return 14;
     }
-    enter(s, d, t)
+    enter(d, t)
 }
 
-fn refresh_low(s: &Settings, d: &mut Deadlines, t: u32) -> u32
-    ensures { λ r. ⌜ r ≡ is.selfBreaks (settingsOf (now (s .entry))) (now (d .entry)) t ⌝ }
+fn refresh_low(d: &mut Deadlines, t: u32) -> u32
+    ensures { λ r. ⌜ r ≡ is.selfBreaks (now (d .entry)) t ⌝ }
     ensures { λ r.
-        ⌜ now (d .exit) ≡ leftBy (is.selfBreaks (settingsOf (now (s .entry))) (now (d .entry)) t)
+        ⌜ now (d .exit) ≡ leftBy (is.selfBreaks (now (d .entry)) t)
         (is.selfAfter (now (d .entry))) (now (d .entry)) ⌝ }
 {
-    let rule = rules::self_breaks(s, &*d, t);
+    let rule = rules::self_breaks(&*d, t);
     if rule != 0 {
         return rule;
     }
@@ -232,9 +232,9 @@ fn low(s: &Settings, d: &mut Deadlines, t: u32, code: u32, w: u32) -> u32
         (lowStepAfter (now (d .entry)) t w) (now (d .entry)) ⌝ }
 {
     match code {
-        pins::NOP_LOW => quiet_low(s, d, t),
-        17 | 19 | 21 | 23 | 25 | 27 | 29 => quiet_low(s, d, t),
-        pins::REFRESH_LOW => refresh_low(s, d, t),
+        pins::NOP_LOW => quiet_low(d, t),
+        17 | 19 | 21 | 23 | 25 | 27 | 29 => quiet_low(d, t),
+        pins::REFRESH_LOW => refresh_low(d, t),
         pins::ACTIVE_LOW => barred(rules::active_breaks(
             s,
             &*d,
@@ -250,9 +250,9 @@ fn low(s: &Settings, d: &mut Deadlines, t: u32, code: u32, w: u32) -> u32
             }
             barred(rules::close_breaks(&*d, t, pins::bank(w)))
         }
-        pins::TERMINATE_LOW => barred(rules::terminate_breaks(s, &*d, t)),
+        pins::TERMINATE_LOW => barred(rules::terminate_breaks(&*d, t)),
         pins::MODE_SET_LOW => barred(rules::mode_breaks(&*d, t, pins::bank(w), pins::address(w))),
-        _ => quiet_low(s, d, t),
+        _ => quiet_low(d, t),
     }
 }
 
@@ -278,7 +278,7 @@ fn command(s: &Settings, d: &mut Deadlines, pace: &mut Pace, t: u32, w: u32) -> 
             }
             close(s, d, &*pace, t, pins::bank(w))
         }
-        pins::TERMINATE => terminate(s, d, &*pace, t),
+        pins::TERMINATE => terminate(d, &*pace, t),
         pins::REFRESH => refresh(s, d, t),
         pins::MODE_SET => mode_set(s, d, pace, t, pins::bank(w), pins::address(w)),
         pins::NOP => quiet(s, d, t),

@@ -7,17 +7,17 @@ use mathlib.Core.Path.{_≡_, refl, sym, ap, _∙_}
 use native.Mathlib.Nat.{add-zero, zero-add, add-suc, suc-add}
 use native.Mathlib.Omega.{arith}
 use lib.Dec.{leb, eqb, eqb·suc-zero}
-use lib.ListN.{length, getD, drop, length-append, List·getD-append}
+use lib.ListN.{length, getD, drop, length-append, List·getD-append, List·getD-eq-default}
 use lib.Seq.{getD-append-add}
 use borrow.Author.Tests.{leb-true, le-leb, lt-ltb, eq-eqb}
 use Rattle.reading.specs.Search.{every, find, count}
 use Rattle.reading.specs.Words.{wordAt, bytesOf}
-use Rattle.reading.specs.Settings.{Limits, settingsCount, sleepingCount, limits, settingsOf, settingFits, badSetting}
+use Rattle.reading.specs.Settings.{Limits, settingsCount, sleepingCount, limits, settingsOf, inEdition, settingFits, badSetting}
 use Rattle.reading.specs.Capture.{Event, settingsStart, eventsStart, captureSize, headerWord, countIn, eventCount, settingWords, eventBytes, eventAt, eventsOf}
 use Rattle.reading.specs.Capture.{lengthFits, headerFits, pinLimit, lastCycle, eventFits, badEvent}
 use Rattle.reading.specs.Verdict.{clean, verdictOf}
 use Rattle.reading.specs.Schedule.{badRequest, freeFrom, planned, scheduleOf, eventWords, captureOf}
-use Rattle.reading.specs.Answers.{Answer, Report, answered, accepted, verdictIn, judgeAnswer}
+use Rattle.reading.specs.Answers.{Answer, Report, answered, settingsIn, accepted, verdictIn, judgeAnswer}
 use Rattle.reading.proofs.Meaning.{eventOf}
 use Rattle.words.proofs.Words.{bytesOf-length, word-drop, word-of-bytes}
 use Rattle.settings.proofs.Fitting.{rowAt, at-most, in-range, each-in-range}
@@ -248,9 +248,15 @@ module _ (ws : List ℕ) (es : List Event) (fourteen : length ws ≡ 14) (good :
   unfolding accepted
   captured rest = rw (right-length, right-header, settings-back, good, awake-pins, right-events)
 
+  -- fourteen settings name no edition, and the sixth header word is 0
+  pub captured-settings : settingsIn C ≡ settingsOf ws
+  captured-settings =
+      let none-named = head ws es fourteen 5 (omega arith) (omega arith) ∙ sym (List·getD-eq-default ws 0 {n = 16} (omega (arith, fourteen))) in
+      λ i. inEdition (none-named i) (settingsOf (settings-back i))
+
   pub captured-verdict : verdictIn C ≡ verdictOf (settingsOf ws) es
   unfolding verdictIn
-  captured-verdict = rw (settings-back, events-back)
+  captured-verdict = rw (captured-settings, events-back)
 
   pub captured-clean : verdictOf (settingsOf ws) es ≡ clean → judgeAnswer C ≡ answered (allClean es)
   unfolding judgeAnswer

@@ -12,9 +12,9 @@ use Rattle.reading.specs.Search.{lesser, later}
 use Rattle.reading.specs.Mode.{h, CL}
 use Rattle.reading.specs.Settings.{Settings}
 use Rattle.reading.proofs.Cuts.{All, nil, cons}
-use Rattle.deadlines.specs.Deadlines.{OPENED, OTHER, REST, COLUMN, CLOSE, WRITTEN, LOCKED, BUSY, OVERDUE, BUS, READS, WRITES, END, READER, WRITER, at}
+use Rattle.deadlines.specs.Deadlines.{OPENED, OTHER, REST, COLUMN, CLOSE, WRITTEN, LOCKED, BUSY, OVERDUE, BUS, READS, WRITES, END, LAST, WRITER, at}
 use Rattle.deadlines.specs.Deadlines.{Wait, otherBank, soonest, overdueFrom, paceOf, startOf}
-use Rattle.deadlines.specs.Deadlines.{activeAfter, autoAfter, readAfter, cutWrite, newWrite, writeAfter, refreshAfter}
+use Rattle.deadlines.specs.Deadlines.{activeAfter, autoAfter, readAfter, cutWrite, newWrite, autoWrite, writeAfter, refreshAfter}
 use Rattle.bridge.proofs.Bursts.{lesser-left}
 use Rattle.plan.specs.Soonest.{activeSoonest, readSoonest, writeSoonest, burstSoonest, refreshSoonest}
 use Rattle.plan.proofs.Ranged.{Ranged}
@@ -91,21 +91,23 @@ module _ (s : Settings) (g : Ranged s) {n : ℕ} {d : List ℕ} (near : Near n d
       unfolding readAfter
       near-read =
           let d₁ = near-set now BUS (t + CL m + h m) (omega (arith, h-small m)) in
-          let d₂ = near-set d₁ READER 4 (omega arith) in
+          let d₂ = near-set d₁ LAST 4 (omega arith) in
           let d₃ = near-set d₂ READS (t + h m) (omega (arith, h-small m)) in
           near-auto d₃ b (t + h m + s .tRP) lb (omega (arith, h-small m, g .tRP))
 
       pub near-write : Near (suc t) (writeAfter s d (paceOf m) t b true)
-      unfolding writeAfter newWrite cutWrite
+      unfolding writeAfter newWrite autoWrite cutWrite
       near-write =
           let o : ℕ = WRITTEN + at d WRITER % 4 in
           let least = lesser-left (at d o) (t + 1 + 0 + s .tWR) in
           let d₁ = near-set now o (lesser (at d o) (t + 1 + 0 + s .tWR)) (omega (arith, least, now .by o (omega arith))) in
           let d₂ = near-set d₁ (WRITTEN + b) (t + 1 + h m + s .tWR) (omega (arith, h-small m, g .tWR)) in
           let d₃ = near-set d₂ END (t + 1 + h m + s .tWTR) (omega (arith, h-small m, g .tWTR)) in
-          let d₄ = near-set d₃ WRITER b (omega arith) in
-          let d₅ = near-set d₄ WRITES (t + h m) (omega (arith, h-small m)) in
-          near-auto d₅ b (t + 1 + h m + s .tWR + s .tRP) lb (omega (arith, h-small m, g .tWR, g .tRP))
+          let d₄ = near-set d₃ LAST (t + 1 + h m + 5) (omega (arith, h-small m)) in
+          let d₅ = near-set d₄ WRITER b (omega arith) in
+          let d₆ = near-set d₅ WRITES (t + h m) (omega (arith, h-small m)) in
+          let d₇ = near-set d₆ WRITER (b + 4) (omega arith) in
+          near-auto d₇ b (t + 1 + h m + s .tWR + s .tRP) lb (omega (arith, h-small m, g .tWR, g .tRP))
 
 -- ---- at the start, and the latest of several
 
@@ -114,7 +116,7 @@ unfolding startOf
 near-start s g =
     let d₀ : Near 0 (replicate 39 0) = record { by = λ j u. nothing 39 j } in
     let d₁ = near-overdue d₀ (overdueFrom s 0) in
-    let d₂ = near-set d₁ READER 4 (omega arith) in
+    let d₂ = near-set d₁ LAST 4 (omega arith) in
     let d₃ = near-set d₂ LOCKED (s .tRAS + s .tRP) (omega (arith, g .tRAS, g .tRP)) in
     let d₄ = near-set d₃ (LOCKED + 1) (s .tRAS + s .tRP) (omega (arith, g .tRAS, g .tRP)) in
     let d₅ = near-set d₄ (LOCKED + 2) (s .tRAS + s .tRP) (omega (arith, g .tRAS, g .tRP)) in

@@ -7,17 +7,18 @@ use native.Mathlib.Nat.{le-refl, le-trans}
 use native.Mathlib.Omega.{arith}
 use lib.Dec.{leb, eqb}
 use lib.ListN.{getD}
-use borrow.Author.Tests.{eq-eqb}
+use borrow.Author.Tests.{le-leb, eq-eqb}
 use Rattle.reading.specs.Words.{bit}
 use Rattle.reading.specs.Settings.{Settings}
 use Rattle.reading.specs.Capture.{Event}
 use Rattle.reading.specs.Commands.{READ, WRITE, AUTO-REFRESH, Command}
 use Rattle.reading.specs.Sleep.{sleepAtStart}
-use Rattle.reading.specs.Part.{Bank, Part, idleFrom, partAfter}
+use Rattle.reading.specs.Part.{Bank, Part, idleFrom, lastWrite, partAfter}
 use Rattle.reading.specs.Rules.{placing}
 use Rattle.reading.specs.Schedule.{asksWrite, firstCell, cellBank, cellRow, cellColumn, requestFits, activePins, columnPins, burstPins, refreshPins, freeFrom, placed, send}
 use Rattle.deadlines.specs.Deadlines.{Wait, readWaits, writeWaits, refreshWaits, soonest, activeAfter, refreshAfter}
 use Rattle.bridge.specs.Summary.{Held, laid, summary}
+use Rattle.bridge.proofs.Tests.{ended-is}
 use Rattle.bridge.proofs.Rules.{does}
 use Rattle.bridge.proofs.Next.{Sound, active-next, read-next, write-next, refresh-next}
 use Rattle.bridge.proofs.Kept.{kept-plain, kept-read, kept-write}
@@ -78,8 +79,10 @@ module _ (s : Settings) (p : Part) (b a : ℕ) (lb : b < 4) (own : p .banks b .o
     burst-sound : (write : Bool) → burstSoonest write (laid X) b ≤ t → Sound (suc t) (partAfter s p t (bursts write))
     unfolding readSoonest writeSoonest
     burst-sound true k =
-        kept-write s p from t l g b a true lb (le-trans (waited (writeWaits (laid X) b) 2) k) (le-trans (waited (writeWaits (laid X) b) 3) k)
-    burst-sound false k = kept-read s p from t l g b a true lb own
+        kept-write s p from t l g b a true lb own (le-trans (waited (writeWaits (laid X) b) 2) k) (le-trans (waited (writeWaits (laid X) b) 3) k)
+    burst-sound false k =
+        kept-read s p from t l g b a true lb own
+        (ended-is s (lastWrite p) (s .tWTR) t ∙ le-leb (X .write .end) t (le-trans (waited (readWaits (laid X) b) 2) k))
 
     burst-near : Ranged s → Near from (laid X) → (write : Bool) → Near (suc t) (burstAfter write s (laid X) (p .mode) t b)
     burst-near r n true = near-write s r n t l b lb (p .mode)
@@ -125,7 +128,7 @@ module _ {s : Settings} (g : Ranged s) {es : List Event} (r : Reached s es) wher
         let t = placed placing s es refreshPins in
         let c = does AUTO-REFRESH 0 0 false in
         let l = goes-free refresh-goes in
-        sent r refreshPins c refresh-carried refresh-goes refresh-small refl (kept-plain s p free t l (r .sound) c refl refl)
+        sent r refreshPins c refresh-carried refresh-goes refresh-small refl (kept-plain s p free t l (r .sound) c refl refl (rw (idle 0, idle 1, idle 2, idle 3)) refl)
         (refresh-next s p free t l (r .sound) (omega (arith, g .least-tREFI)) (awake-now r) 0 0 false (le-trans (waited (refreshWaits d) 0) (goes-soonest refresh-goes)))
         (near-refresh s g (r .near) t l)
 
@@ -160,7 +163,7 @@ module _ {s : Settings} (g : Ranged s) {es : List Event} (r : Reached s es) wher
           let t = placed placing s es (activePins s q) in
           let l = goes-free active-goes in
           sent r (activePins s q) (activeCommand s q) (active-carried s (g .sized) q fits) active-goes (active-small s g q fits) refl
-          (kept-plain s p free t l (r .sound) (activeCommand s q) refl refl)
+          (kept-plain s p free t l (r .sound) (activeCommand s q) refl refl (rw (idle bank)) refl)
           (active-next s p free t l (r .sound) (awake-now r) bank row (eqb (bit 10 row) 1) lb)
           (near-active s g (r .near) t l bank lb)
 

@@ -6,3 +6,4 @@ pub mod Beats
 pub mod Tables
 pub mod Six
 pub mod Cuts
+pub mod Alone

@@ -6,8 +6,8 @@ use mathlib.Core.Option.{Option, none, some}
 use lib.ListN.{length, drop}
 use lib.Dec.{ltb, eqb}
 use Rattle.reading.specs.Search.{given}
-use Rattle.reading.specs.Settings.{Settings, settingsCount, settingsOf, badSetting}
-use Rattle.reading.specs.Capture.{Event, eventCount, settingWords, eventBytes, eventsOf, lengthFits, headerFits, pinLimit, badEvent}
+use Rattle.reading.specs.Settings.{Settings, settingsCount, settingsOf, inEdition, badSetting}
+use Rattle.reading.specs.Capture.{Event, eventCount, editionIn, settingWords, eventBytes, eventsOf, lengthFits, headerFits, pinLimit, badEvent}
 use Rattle.reading.specs.Verdict.{Verdict, clean, broken, verdictOf, judgedOf}
 use Rattle.reading.specs.Cells.{burstsOf, cellsOf}
 use Rattle.reading.specs.Schedule.{Schedule, planned, late, badRequest, scheduleOf, captureOf}
@@ -22,10 +22,10 @@ abbrev pub unless : {A : Type 0} → ℕ → Option ℕ → Answer A → Answer 
 unless number none rest = rest
 unless number (some place) rest = refused number place
 
--- ---- the capture, whose settings and events every call on one reads
+-- ---- the capture, whose settings and events every call on one reads; its edition counts with its settings
 
 abbrev pub settingsIn : List ℕ → Settings
-settingsIn capture = settingsOf (settingWords capture)
+settingsIn capture = inEdition (editionIn capture) (settingsOf (settingWords capture))
 
 unfoldable pub accepted : {A : Type 0} → List ℕ → Answer A → Answer A
 accepted capture rest =

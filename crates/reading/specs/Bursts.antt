@@ -1,13 +1,13 @@
 -- Bursts: their columns and cells, the pairs they keep, when they are over.
 use Prim.Native.Nat.{ℕ, _+_, _*_, _/_, _%_, _^_}
-use mathlib.Core.Bool.{Bool, cond, not}
+use mathlib.Core.Bool.{Bool, cond, not, _&&_}
 use mathlib.Core.List.{List, map}
 use lib.Dec.{eqb}
 use lib.Bits.{bitXor}
 use Rattle.reading.specs.Search.{count}
 use Rattle.reading.specs.Words.{bit}
 use Rattle.reading.specs.Mode.{BL, h, CL, interleaved}
-use Rattle.reading.specs.Settings.{Settings}
+use Rattle.reading.specs.Settings.{Settings, newer}
 
 -- A0-A9, cut to the column bits; with 11 column bits, A11 is column bit 10
 abbrev pub columnOf : Settings → ℕ → ℕ
@@ -71,3 +71,7 @@ readEnd x = x .k + CL (x .mode) + x .n
 -- the data of a write have been taken
 abbrev pub dataEnd : Burst → ℕ
 dataEnd x = x .k + 1 + x .n
+
+-- what rules 10 and 11 count from: a write's data, of which in the newer edition its first pair, unless it has auto precharge
+abbrev pub restsFrom : Settings → Burst → ℕ
+restsFrom s x = cond (newer s && not (x .auto)) (x .k + 2) (dataEnd x)

@@ -14,12 +14,15 @@ pub record Event : Type 0 where
   pub cycle : ℕ
   pub pins : ℕ
 
--- header words, by number: total bytes, settings count, settings offset, events count N, events offset, 0
+-- header words, by number: total bytes, settings count, settings offset, events count N, events offset, edition
 abbrev pub headerWord : List ℕ → ℕ → ℕ
 headerWord capture k = wordAt capture (4 * k)
 
 abbrev pub eventCount : List ℕ → ℕ
 eventCount capture = headerWord capture 3
+
+abbrev pub editionIn : List ℕ → ℕ
+editionIn capture = headerWord capture 5
 
 -- ---- the layout: settings follow the header, events follow the settings
 
@@ -35,6 +38,9 @@ captureSize settings n = eventsStart settings + 8 * n
 
 abbrev pub mostEvents : ℕ
 mostEvents = 8000
+
+abbrev pub newestEdition : ℕ
+newestEdition = 1
 
 -- how many settings a capture holds: with those of sleep, where it says so
 abbrev pub countIn : List ℕ → ℕ
@@ -67,7 +73,7 @@ headerFits capture =
     && eqb (headerWord capture 2) settingsStart
     && leb (eventCount capture) mostEvents
     && eqb (headerWord capture 4) (eventsStart (countIn capture))
-    && eqb (headerWord capture 5) 0
+    && leb (editionIn capture) newestEdition
     && eqb (headerWord capture 0) (captureSize (countIn capture) (eventCount capture))
 
 abbrev pub lastCycle : ℕ

@@ -6,7 +6,7 @@ use mathlib.Core.Option.{Option, none, some}
 use lib.Dec.{leb, ltb, eqb}
 use Rattle.reading.specs.Search.{ever, orZero, find, lesser, later}
 use Rattle.reading.specs.Mode.{h}
-use Rattle.reading.specs.Settings.{Settings}
+use Rattle.reading.specs.Settings.{Settings, newer}
 use Rattle.reading.specs.RefreshClock.{Clock, clockAtStart, clockAfterRefresh, clockAfterSleep}
 use Rattle.reading.specs.Capture.{Event}
 use Rattle.reading.specs.Commands.{Command, ACTIVE, READ, WRITE, BURST-TERMINATE, PRECHARGE, AUTO-REFRESH, MODE-REGISTER-SET, is, among, names, commandOf}
@@ -65,6 +65,21 @@ bankAfter s m t c b x =
     (cond (among (READ ∷ WRITE ∷ []) c && (eqb b (c .bank) && c .A10)) (idleFrom (autoPrecharge s m t c x) x)
     (cond (closes c b x) (idleFrom t x) x))
 
+-- ---- the last bursts of a part
+
+abbrev pub lastRead : Part → Option Burst
+lastRead p = find reads (p .bursts)
+
+abbrev pub lastWrite : Part → Option Burst
+lastWrite p = find (λ x. x .writes) (p .bursts)
+
+-- a write to the bank since its ACTIVE, and the last of them
+abbrev pub bankWrite : Part → ℕ → Burst → Bool
+bankWrite p b x = x .writes && (eqb b (x .bank) && ever (p .banks b .lastActive) (λ a. leb a (x .k)))
+
+abbrev pub lastBankWrite : Part → ℕ → Option Burst
+lastBankWrite p b = find (bankWrite p b) (p .bursts)
+
 -- ---- what cuts a burst short
 
 -- READ and BURST TERMINATE cut a read, so does a PRECHARGE that closes its bank; WRITE cuts a write
@@ -72,9 +87,28 @@ abbrev pub cuts : Part → Command → Burst → Bool
 cuts p c x =
     cond (x .writes) (is WRITE c) (among (READ ∷ BURST-TERMINATE ∷ []) c || closes c (x .bank) (p .banks (x .bank)))
 
--- to how many pairs, if at all: to t - k by an event at t < k + h, and never with auto precharge
+-- the burst that was found, if one was; each has a cycle of its own
+abbrev pub isThat : Option Burst → Burst → Bool
+isThat none x = false
+isThat (some y) x = eqb (y .k) (x .k)
+
+-- in the newer edition a READ interrupts the last write, a PRECHARGE the last since its ACTIVE of each bank that it closes
+abbrev pub interrupts : Settings → Part → Command → Burst → Bool
+interrupts s p c x =
+    (newer s && x .writes)
+    && cond (is READ c) (isThat (lastWrite p) x)
+    (closes c (x .bank) (p .banks (x .bank)) && isThat (lastBankWrite p (x .bank)) x)
+
+-- to what was taken by tWTR or tWR before
+abbrev pub interruptedTo : Settings → ℕ → Command → Burst → ℕ
+interruptedTo s t c x = t - (x .k + 1 + cond (is READ c) (s .tWTR) (s .tWR))
+
+-- to how many pairs, if at all: never with auto precharge; to t - k by an event at t < k + h; or as far as it is interrupted
 abbrev pub cutPairs : Settings → Part → ℕ → Command → Burst → Option ℕ
-cutPairs s p t c x = cond (cuts p c x && (not (x .auto) && ltb t (wholeEnd x))) (some (t - x .k)) none
+cutPairs s p t c x =
+    cond (x .auto) none
+    (cond (cuts p c x && ltb t (wholeEnd x)) (some (t - x .k))
+    (cond (interrupts s p c x) (some (interruptedTo s t c x)) none))
 
 -- n, or the most that there may be: the lesser counts
 abbrev pub atMost : Option ℕ → ℕ → ℕ
@@ -132,18 +166,3 @@ step s p e = partAfter s p (e .cycle) (commandOf (e .pins))
 abbrev pub run : Settings → Part → List Event → Part
 run s p [] = p
 run s p (e ∷ es) = run s (step s p e) es
-
--- ---- the last bursts of a part
-
-abbrev pub lastRead : Part → Option Burst
-lastRead p = find reads (p .bursts)
-
-abbrev pub lastWrite : Part → Option Burst
-lastWrite p = find (λ x. x .writes) (p .bursts)
-
--- a write to the bank since its ACTIVE, and the last of them
-abbrev pub bankWrite : Part → ℕ → Burst → Bool
-bankWrite p b x = x .writes && (eqb b (x .bank) && ever (p .banks b .lastActive) (λ a. leb a (x .k)))
-
-abbrev pub lastBankWrite : Part → ℕ → Option Burst
-lastBankWrite p b = find (bankWrite p b) (p .bursts)

@@ -11,7 +11,7 @@ use Rattle.reading.specs.RefreshClock.{inTime}
 use Rattle.reading.specs.Capture.{Event}
 use Rattle.reading.specs.Commands.{Command, ACTIVE, READ, WRITE, BURST-TERMINATE, AUTO-REFRESH, MODE-REGISTER-SET, is, among, quiet, commandOf}
 use Rattle.reading.specs.Sleep.{enters, inSelfRefresh, sleepAllows}
-use Rattle.reading.specs.Bursts.{Burst, reads, wholeEnd, readEnd, dataEnd}
+use Rattle.reading.specs.Bursts.{Burst, reads, wholeEnd, readEnd, dataEnd, restsFrom}
 use Rattle.reading.specs.Part.{Part, closes, lastRead, lastWrite, lastBankWrite}
 
 abbrev pub Rule : Type 0
@@ -21,9 +21,9 @@ Rule = Settings → Part → ℕ → Command → Bool
 abbrev pub everyBank : (ℕ → Bool) → Bool
 everyBank f = f 0 && (f 1 && (f 2 && f 3))
 
--- at least `wait` cycles after the data end of a write
-abbrev pub afterData : ℕ → Option Burst → ℕ → Bool
-afterData wait o t = ever o (λ x. leb (dataEnd x + wait) t)
+-- at least `wait` cycles after what a write is waited for
+abbrev pub afterWrite : Settings → ℕ → Option Burst → ℕ → Bool
+afterWrite s wait o t = ever o (λ x. leb (restsFrom s x + wait) t)
 
 -- 1: the row of an ACTIVE is one that the part has
 abbrev pub rule1 : Rule
@@ -73,11 +73,11 @@ rule9 s p t c = closing p c (λ b. after (s .tRAS) (p .banks b .lastActive) t)
 
 -- 10: and so long after the data of its last write
 abbrev pub rule10 : Rule
-rule10 s p t c = closing p c (λ b. afterData (s .tWR) (lastBankWrite p b) t)
+rule10 s p t c = closing p c (λ b. afterWrite s (s .tWR) (lastBankWrite p b) t)
 
 -- 11: a READ waits after the data of the last write, of whatever bank
 abbrev pub rule11 : Rule
-rule11 s p t c = implies (is READ c) (afterData (s .tWTR) (lastWrite p) t)
+rule11 s p t c = implies (is READ c) (afterWrite s (s .tWTR) (lastWrite p) t)
 
 -- 12: WRITE, AUTO REFRESH and MODE REGISTER SET wait until the last read's data have left the bus
 abbrev pub rule12 : Rule
@@ -105,7 +105,7 @@ rule14 s p t c = implies (not (inSelfRefresh (p .sleep))) (inTime s (p .clock) t
 
 -- the data of the last read have left the bus, and those of the last write have been taken
 abbrev pub dataOver : Part → ℕ → Bool
-dataOver p t = ever (lastRead p) (λ x. leb (readEnd x) t) && afterData 0 (lastWrite p) t
+dataOver p t = ever (lastRead p) (λ x. leb (readEnd x) t) && ever (lastWrite p) (λ x. leb (dataEnd x) t)
 
 -- 15: sleep is entered and left as it may be, and nothing else comes before that is over
 abbrev pub rule15 : Rule

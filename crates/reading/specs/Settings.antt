@@ -15,6 +15,7 @@ settingsCount = 14
 abbrev pub sleepingCount : ℕ
 sleepingCount = 16
 
+-- and by which edition of the rules a board is judged: 0 the old one, 1 that of the newer sheets
 pub record Settings : Type 0 where
   pub lane : ℕ
   pub rowBits : ℕ
@@ -32,8 +33,9 @@ pub record Settings : Type 0 where
   pub tREFI : ℕ
   pub tXP : ℕ
   pub tXSR : ℕ
+  pub edition : ℕ
 
--- from a list of words, by their numbers
+-- from a list of words, by their numbers; behind all sixteen the edition, which is 0 where none is named
 abbrev pub settingsOf : List ℕ → Settings
 settingsOf ws =
     record {
@@ -53,6 +55,32 @@ settingsOf ws =
       tREFI = getD ws 13 0;
       tXP = getD ws 14 0;
       tXSR = getD ws 15 0;
+      edition = getD ws 16 0;
+    }
+
+abbrev pub newer : Settings → Bool
+newer s = eqb (s .edition) 1
+
+abbrev pub inEdition : ℕ → Settings → Settings
+inEdition edition s =
+    record {
+      lane = s .lane;
+      rowBits = s .rowBits;
+      columnBits = s .columnBits;
+      mode = s .mode;
+      tRCD = s .tRCD;
+      tRP = s .tRP;
+      tRAS = s .tRAS;
+      tRC = s .tRC;
+      tRRD = s .tRRD;
+      tWR = s .tWR;
+      tWTR = s .tWTR;
+      tRFC = s .tRFC;
+      tMRD = s .tMRD;
+      tREFI = s .tREFI;
+      tXP = s .tXP;
+      tXSR = s .tXSR;
+      edition = edition;
     }
 
 pub record Limits : Type 0 where

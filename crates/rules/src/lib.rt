@@ -6,20 +6,20 @@ use deadlines::places::BUSY;
 use deadlines::places::CLOSE;
 use deadlines::places::COLUMN;
 use deadlines::places::END;
+use deadlines::places::LAST;
 use deadlines::places::OPENED;
 use deadlines::places::OTHER;
 use deadlines::places::OVERDUE;
 use deadlines::places::READS;
 use deadlines::places::REST;
 use deadlines::places::WAKE;
+use deadlines::places::WRITER;
 use deadlines::places::WRITES;
 use deadlines::places::WRITTEN;
-use deadlines::sums::after;
 use deadlines::sums::past;
 use deadlines::sums::rows;
 use settings::Settings;
 use settings::places::ROW_BITS;
-use settings::places::T_WTR;
 ghost use mathlib.Core.Path.{_≡_};
 ghost use mathlib.Core.Bool.{cond};
 ghost use Prim.Native.Nat.{_+_, _<_};
@@ -126,11 +126,29 @@ fn all_written(d: &Deadlines, t: u32) -> u32
     0
 }
 
-// The data of the last write have been taken; rule 11's deadline is tWTR later.
-fn taken(s: &Settings, d: &Deadlines, t: u32) -> bool
-    ensures { λ r. ⌜ r ≡ leb (at (now (d .entry)) is.END) (t + settingsOf (now (s .entry)) .tWTR) ⌝ }
+// The last write has no auto precharge, and its row was closed since.
+fn gone(d: &Deadlines) -> bool
+    ensures { λ r. ⌜ r ≡ is.gone (now (d .entry)) ⌝ }
 {
-    d[END] <= after(t, s[T_WTR])
+    let writer = d[WRITER];
+    if 4 <= writer {
+        return false;
+    }
+    let b = (writer % 4) as usize;
+    if d[OPENED + b] == 0 {
+        return true;
+    }
+    d[WRITTEN + b] == 0
+}
+
+// The data of the last write have been taken.
+fn taken(d: &Deadlines, t: u32) -> bool
+    ensures { λ r. ⌜ r ≡ is.taken (now (d .entry)) t ⌝ }
+{
+    if d[LAST] <= (t as u64) + 5 {
+        return true;
+    }
+    gone(d)
 }
 
 // The lowest rule that a command breaks, 0 for none. Each reads the deadlines of the banks and the part that it concerns.
@@ -202,8 +220,8 @@ pub fn write_breaks(d: &Deadlines, t: u32, b: usize) -> u32
     last_breaks(d, t)
 }
 
-pub fn terminate_breaks(s: &Settings, d: &Deadlines, t: u32) -> u32
-    ensures { λ r. ⌜ r ≡ is.terminateBreaks (settingsOf (now (s .entry))) (now (d .entry)) t ⌝ }
+pub fn terminate_breaks(d: &Deadlines, t: u32) -> u32
+    ensures { λ r. ⌜ r ≡ is.terminateBreaks (now (d .entry)) t ⌝ }
 {
     if (t as u64) < d[BUSY] {
         return 4;
@@ -211,7 +229,7 @@ pub fn terminate_breaks(s: &Settings, d: &Deadlines, t: u32) -> u32
     if (t as u64) < d[READS] {
         return 13;
     }
-    if !taken(s, d, t) {
+    if !taken(d, t) {
         return 13;
     }
     last_breaks(d, t)
@@ -292,8 +310,8 @@ pub fn mode_breaks(d: &Deadlines, t: u32, b: usize, word: u32) -> u32
 }
 
 // NOP and DESELECT that enter power-down.
-pub fn enter_breaks(s: &Settings, d: &Deadlines, t: u32) -> u32
-    ensures { λ r. ⌜ r ≡ is.enterBreaks (settingsOf (now (s .entry))) (now (d .entry)) t ⌝ }
+pub fn enter_breaks(d: &Deadlines, t: u32) -> u32
+    ensures { λ r. ⌜ r ≡ is.enterBreaks (now (d .entry)) t ⌝ }
 {
     if !past(d[BUSY], t) {
         return 4;
@@ -304,7 +322,7 @@ pub fn enter_breaks(s: &Settings, d: &Deadlines, t: u32) -> u32
     if !past(d[BUS], t) {
         return 15;
     }
-    if !taken(s, d, t) {
+    if !taken(d, t) {
         return 15;
     }
     if !past(d[WAKE], t) {
@@ -314,14 +332,14 @@ pub fn enter_breaks(s: &Settings, d: &Deadlines, t: u32) -> u32
 }
 
 // AUTO REFRESH that enters self refresh.
-pub fn self_breaks(s: &Settings, d: &Deadlines, t: u32) -> u32
-    ensures { λ r. ⌜ r ≡ is.selfBreaks (settingsOf (now (s .entry))) (now (d .entry)) t ⌝ }
+pub fn self_breaks(d: &Deadlines, t: u32) -> u32
+    ensures { λ r. ⌜ r ≡ is.selfBreaks (now (d .entry)) t ⌝ }
 {
     let rule = refresh_breaks(d, t);
     if rule != 0 {
         return rule;
     }
-    if !taken(s, d, t) {
+    if !taken(d, t) {
         return 15;
     }
     0

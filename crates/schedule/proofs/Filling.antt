@@ -8,11 +8,11 @@ use native.Mathlib.Omega.{arith}
 use lib.ListN.{length, set, getD, take, drop, replicate, length-set, length-take}
 use lib.Seq.{sets, sets-eq, length-sets, take-suc, drop-cons}
 use Rattle.reading.specs.Words.{wordBytes, bytesOf}
-use Rattle.reading.specs.Settings.{settingsCount, sleepingCount}
+use Rattle.reading.specs.Settings.{settingsCount}
 use Rattle.reading.specs.Capture.{Event}
 use Rattle.reading.specs.Schedule.{eventWords}
 use Rattle.words.proofs.Words.{sets-words}
-use Rattle.settings.specs.Meaning.{padded}
+use Rattle.settings.specs.Meaning.{heldCount, padded}
 
 pub none-behind : {A : Type 0} (l : List A) (i : ℕ) → length l ≤ i → drop i l ≡ []
 none-behind [] zero h = refl
@@ -28,20 +28,20 @@ front vs l h = sets-eq vs l 0 (omega arith) ∙ ap (λ (k : ℕ). vs ++ drop k l
 
 pub record Loading (settings s : List ℕ) (i : ℕ) : Type 0 where
   pub within : i ≤ settingsCount
-  pub full : length s ≡ sleepingCount
+  pub full : length s ≡ heldCount
   pub same : sets s i (drop i settings) ≡ padded settings
 
-pub begins : (settings : List ℕ) → length settings ≡ settingsCount → Loading settings (replicate sleepingCount 0) 0
+pub begins : (settings : List ℕ) → length settings ≡ settingsCount → Loading settings (replicate heldCount 0) 0
 unfolding padded
 begins settings h =
-    let zeros : List ℕ = replicate sleepingCount 0 in
+    let zeros : List ℕ = replicate heldCount 0 in
     record {
       within = omega arith;
       full = refl;
       same =
           front settings zeros (omega arith)
           ∙ ap (λ (k : ℕ). settings ++ drop k zeros) h
-          ∙ sym (ap (λ (k : ℕ). settings ++ replicate (sleepingCount - k) 0) h);
+          ∙ sym (ap (λ (k : ℕ). settings ++ replicate (heldCount - k) 0) h);
     }
 
 module _ {settings s : List ℕ} {i : ℕ} (h : length settings ≡ settingsCount) (x : Loading settings s i) where

@@ -3,7 +3,7 @@ use deadlines::sums;
 use requests::REFRESH_PINS;
 use settings::COUNT;
 use settings::Checked;
-use settings::SLEEPING;
+use settings::HELD;
 use settings::Settings;
 use settings::places::MODE;
 use turns::Placed;
@@ -43,12 +43,12 @@ const SETTINGS: u32 = capture::SETTINGS as u32;
 
 const EVENTS: u32 = capture::EVENTS as u32;
 
-// All settings, of the fourteen words that a schedule takes; those of sleep are 0.
+// All settings, of the fourteen words that a schedule takes; those of sleep are 0, and so is the edition.
 fn fourteen(settings: &[u32]) -> Settings
     requires { ⌜ length (now settings) ≡ settingsCount ⌝ }
     ensures { λ r. ⌜ r ≡ padded (now (settings .entry)) ⌝ }
 {
-    let mut s = [0u32; SLEEPING];
+    let mut s = [0u32; HELD];
     'settings: for i in 0..COUNT {
         s[i] = settings[i];
     }

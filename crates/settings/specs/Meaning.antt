@@ -1,9 +1,9 @@
 -- What this crate's types mean in document 01.
-use Prim.Native.Nat.{ℕ, _-_}
+use Prim.Native.Nat.{ℕ, _+_, _-_}
 use mathlib.Core.Bool.{not}
 use mathlib.Core.List.{List, _++_}
 use mathlib.Core.Option.{Option}
-use lib.ListN.{length, replicate}
+use lib.ListN.{length, replicate, set}
 use lib.Dec.{eqb}
 use Rattle.reading.specs.Search.{orElse, given}
 use Rattle.reading.specs.Settings.{sleepingCount, settingsOf, outOfRange, contradiction, badSetting}
@@ -26,6 +26,13 @@ checked ws =
 abbrev pub badAmong : List ℕ → ℕ → Option ℕ
 badAmong ws n = orElse (outOfRange ws n) (contradiction (settingsOf ws))
 
--- all of them, from a list of words: those that it does not have are 0
+-- the settings and the edition, from a list of words: what it does not have is 0
+abbrev pub heldCount : ℕ
+heldCount = sleepingCount + 1
+
 unfoldable pub padded : List ℕ → List ℕ
-padded ws = ws ++ replicate (sleepingCount - length ws) 0
+padded ws = ws ++ replicate (heldCount - length ws) 0
+
+-- the same with the edition
+unfoldable pub held : ℕ → List ℕ → List ℕ
+held edition ws = set (padded ws) sleepingCount edition

@@ -18,8 +18,10 @@ pub const COUNT: usize = 14;
 
 pub const SLEEPING: usize = 16;
 
-// All of them; those of sleep are 0 where there is none.
-pub type Settings = [u32; SLEEPING];
+// All of them, those of sleep 0 where there is none, and behind them the edition by which a board is judged.
+pub const HELD: usize = SLEEPING + 1;
+
+pub type Settings = [u32; HELD];
 
 // The least and the most that a setting may be.
 struct Limits(u32, u32);

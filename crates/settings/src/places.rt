@@ -30,3 +30,6 @@ pub const T_REFI: usize = 13;
 pub const T_XP: usize = 14;
 
 pub const T_XSR: usize = 15;
+
+// Behind the settings, the edition of the rules.
+pub const EDITION: usize = 16;

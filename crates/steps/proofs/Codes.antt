@@ -40,7 +40,7 @@ module _ (s : Settings) (d m : List ℕ) (t w : ℕ) where
   unfolding stepBreaks stepAfter paceAfter
   close f n e a = record { breaks = rw (f, n, e, a); leaves = rw (f, n, e, a); sets = rw e }
 
-  pub terminate : lowOf w ≡ false → codeOf w ≡ 6 → Does (terminateBreaks s d t) (cutRead d m t true) m
+  pub terminate : lowOf w ≡ false → codeOf w ≡ 6 → Does (terminateBreaks d t) (cutRead d m t true) m
   unfolding stepBreaks stepAfter paceAfter
   terminate n e = record { breaks = rw (n, e); leaves = rw (n, e); sets = rw e }
 
@@ -71,7 +71,7 @@ module _ (s : Settings) (d m : List ℕ) (t w : ℕ) where
 
   -- ---- with CKE low
 
-  pub low-quiet : {q : ℕ} → q ≡ codeOf w → lowOf w ≡ true → Quiet q → Does (lowBreaks s d t) (lowAfter d t) m
+  pub low-quiet : {q : ℕ} → q ≡ codeOf w → lowOf w ≡ true → Quiet q → Does (lowBreaks d t) (lowAfter d t) m
   unfolding stepBreaks stepAfter paceAfter
   low-quiet {q} e l n =
       let e₁ = ne-eqb q 12 (n .no-active) in
@@ -87,7 +87,7 @@ module _ (s : Settings) (d m : List ℕ) (t w : ℕ) where
         sets = rw (← e, e₇);
       }
 
-  pub low-refresh : lowOf w ≡ true → codeOf w ≡ 8 → Does (selfBreaks s d t) (selfAfter d) m
+  pub low-refresh : lowOf w ≡ true → codeOf w ≡ 8 → Does (selfBreaks d t) (selfAfter d) m
   unfolding stepBreaks stepAfter paceAfter
   low-refresh l e = record { breaks = rw (l, e); leaves = rw (l, e); sets = rw e }
 

@@ -25,11 +25,11 @@ module _ (s : Settings) (d : List ℕ) (t w : ℕ) where
   MeetsLow told d′ = (told ≡ stepBreaks s d t w) × (d′ ≡ leftBy (stepBreaks s d t w) (lowStepAfter d t w) d)
 
   pub met-quiet : lowOf w ≡ true → Quiet (codeOf w) → {told : ℕ} {d′ : List ℕ} →
-      told ≡ lowBreaks s d t → d′ ≡ leftBy (lowBreaks s d t) (lowAfter d t) d → MeetsLow told d′
+      told ≡ lowBreaks d t → d′ ≡ leftBy (lowBreaks d t) (lowAfter d t) d → MeetsLow told d′
   met-quiet l n a b = rw (low-quiet s d [] t w refl l n .breaks, ne-eqb (codeOf w) 8 (n .no-refresh)) (a, b)
 
   pub met-refresh : lowOf w ≡ true → codeOf w ≡ 8 → {told : ℕ} {d′ : List ℕ} →
-      told ≡ selfBreaks s d t → d′ ≡ leftBy (selfBreaks s d t) (selfAfter d) d → MeetsLow told d′
+      told ≡ selfBreaks d t → d′ ≡ leftBy (selfBreaks d t) (selfAfter d) d → MeetsLow told d′
   met-refresh l e a b = rw (low-refresh s d [] t w l e .breaks, e) (a, b)
 
   -- the six commands that may not come, by the rule that each breaks with CKE high
@@ -56,7 +56,7 @@ module _ (s : Settings) (d : List ℕ) (t w : ℕ) where
   pub high-close : {b : ℕ} → b ≡ bankOf w → codeOf w ≡ 4 → tenOf w ≡ false → closeBreaks d t b ≡ highBreaks s d t w
   high-close f e a = rw (f, e, a)
 
-  pub high-terminate : codeOf w ≡ 6 → terminateBreaks s d t ≡ highBreaks s d t w
+  pub high-terminate : codeOf w ≡ 6 → terminateBreaks d t ≡ highBreaks s d t w
   high-terminate e = rw e
 
   pub high-mode-set : {b a : ℕ} → b ≡ bankOf w → a ≡ addressOf w → codeOf w ≡ 0 → modeBreaks d t b a ≡ highBreaks s d t w

@@ -26,7 +26,7 @@ highBreaks s d t w =
     (readBreaks d t (bankOf w))
     (writeBreaks d t (bankOf w))
     (cond (tenOf w) (closeAllBreaks d t) (closeBreaks d t (bankOf w)))
-    (terminateBreaks s d t)
+    (terminateBreaks d t)
     (refreshBreaks d t)
     (modeBreaks d t (bankOf w) (addressOf w))
     (quietBreaks d t)
@@ -37,8 +37,8 @@ unlessLower rule = cond (eqb rule 0) 15 rule
 
 abbrev pub lowStepBreaks : Settings → List ℕ → ℕ → ℕ → ℕ
 lowStepBreaks s d t w =
-    cond (eqb (codeOf w) 8) (selfBreaks s d t)
-    (cond (quietCode (codeOf w)) (lowBreaks s d t) (unlessLower (highBreaks s d t w)))
+    cond (eqb (codeOf w) 8) (selfBreaks d t)
+    (cond (quietCode (codeOf w)) (lowBreaks d t) (unlessLower (highBreaks s d t w)))
 
 unfoldable pub stepBreaks : Settings → List ℕ → ℕ → ℕ → ℕ
 stepBreaks s d t w = cond (lowOf w) (lowStepBreaks s d t w) (highBreaks s d t w)

@@ -6,15 +6,14 @@ use mathlib.Core.Path.{_≡_, refl, sym, ap, _∙_}
 use native.Mathlib.Nat.{le-refl}
 use native.Mathlib.Omega.{arith}
 use lib.Dec.{leb, ltb, eqb}
-use lib.ListN.{set}
 use borrow.Author.Tests.{ltb-true, ltb-false, lt-ltb, eq-eqb, ne-eqb, eqb-true, eqb-false}
 use Rattle.reading.specs.Search.{later}
 use Rattle.reading.specs.Mode.{h, CL}
 use Rattle.reading.specs.Settings.{Settings}
-use Rattle.deadlines.specs.Deadlines.{OTHER, BUSY, BUS, WRITES, paceOf, at, soonest, autoAfter, readAfter, newWrite, writeAfter}
+use Rattle.deadlines.specs.Deadlines.{OTHER, BUSY, BUS, paceOf, at, soonest, readAfter, newWrite, autoWrite, writeAfter}
 use Rattle.deadlines.specs.Deadlines as all
 use Rattle.bridge.specs.Summary.{Held, laid}
-use Rattle.bridge.proofs.Laid.{stands, banked, readGiven, writeGiven, onBank, activated, writtenTill, autoShut, writtenBy, auto-laid, cut-laid, new-laid}
+use Rattle.bridge.proofs.Laid.{stands, banked, readGiven, newGiven, onBank, activated, writtenTill, autoShut, writtenBy, auto-laid, auto-write-laid, cut-laid, new-laid}
 use Rattle.plan.specs.Soonest.{readSoonest, writeSoonest}
 use Rattle.plan.specs.Soonest as plan
 use Rattle.plan.proofs.Ranged.{Ranged}
@@ -228,10 +227,10 @@ landed true s m u b y =
     let new = u + 1 + h m + s .tWR in
     let y₁ = banked (onBank (writtenBy (u + 1 + 0 + s .tWR)) (y .write .writer % 4) (y .banks)) y in
     let y₂ = banked (onBank (writtenTill new) b (y₁ .banks)) y₁ in
-    let y₃ = writeGiven (record { writes = u + h m; end = u + 1 + h m + s .tWTR; writer = b }) y₂ in
+    let y₃ = newGiven (u + 1 + h m + 5) (record { writes = u + h m; end = u + 1 + h m + s .tWTR; writer = b + 4 }) y₂ in
     banked (onBank (autoShut (new + s .tRP)) b (y₃ .banks)) y₃
 landed false s m u b y =
-    let y₁ = readGiven (record { bus = u + CL m + h m; reads = u + h m; reader = 4 }) y in
+    let y₁ = readGiven (record { bus = u + CL m + h m; reads = u + h m; last = 4 }) y in
     banked (onBank (autoShut (u + h m + s .tRP)) b (y₁ .banks)) y₁
 
 pub landed-is : (write : Bool) (s : Settings) (m u b : ℕ) (y : Held) → b < 4 → burstLeaves write s (laid y) (paceOf m) u b ≡ laid (landed write s m u b y)
@@ -240,11 +239,11 @@ landed-is true s m u b y l =
     let new : ℕ = u + 1 + h m + s .tWR in
     let y₁ : Held = banked (onBank (writtenBy (u + 1 + 0 + s .tWR)) (y .write .writer % 4) (y .banks)) y in
     let y₂ : Held = banked (onBank (writtenTill new) b (y₁ .banks)) y₁ in
-    let y₃ : Held = writeGiven (record { writes = u + h m; end = u + 1 + h m + s .tWTR; writer = b }) y₂ in
-    ap (λ (d : List ℕ). autoAfter (set (newWrite s d u (h m) b) WRITES (u + h m)) b (new + s .tRP)) (cut-laid s y u)
-    ∙ ap (λ (d : List ℕ). autoAfter (set d WRITES (u + h m)) b (new + s .tRP)) (new-laid s y₁ u (h m) b l)
-    ∙ auto-laid y₃ (new + s .tRP) b l
-landed-is false s m u b y l = auto-laid (readGiven (record { bus = u + CL m + h m; reads = u + h m; reader = 4 }) y) (u + h m + s .tRP) b l
+    let y₃ : Held = newGiven (u + 1 + h m + 5) (record { writes = y .write .writes; end = u + 1 + h m + s .tWTR; writer = b }) y₂ in
+    ap (λ (d : List ℕ). autoWrite s (newWrite s d u (h m) b) u (h m) b) (cut-laid s y u)
+    ∙ ap (λ (d : List ℕ). autoWrite s d u (h m) b) (new-laid s y₁ u (h m) b l)
+    ∙ auto-write-laid s y₃ u (h m) b l
+landed-is false s m u b y l = auto-laid (readGiven (record { bus = u + CL m + h m; reads = u + h m; last = 4 }) y) (u + h m + s .tRP) b l
 
 -- a list of twelve
 listed : (x₀ x₁ x₂ x₃ overdue bus : ℕ) {a b : ℕ → ℕ} {r w v y : ℕ} → ((i : ℕ) → a i ≡ b i) → r ≡ v → w ≡ y →

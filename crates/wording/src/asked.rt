@@ -1,4 +1,5 @@
 // What a broken rule asks, in a sentence with the settings that it looks at.
+use crate::values::newer;
 use crate::values::sleeps;
 use console::Out;
 use console::say;
@@ -79,6 +80,44 @@ fn ask_of_sleep(out: &mut Out, settings: &Settings) {
     );
 }
 
+fn ask_after_row_written(out: &mut Out, settings: &Settings) {
+    let before = b"PRECHARGE at least tWR (";
+    if newer(settings) {
+        ask(
+            out,
+            before,
+            settings[T_WR],
+            b") + 2 cycles after the last WRITE to each row that it closes",
+        );
+        return;
+    }
+    ask(
+        out,
+        before,
+        settings[T_WR],
+        b") cycles after the last write data of each row that it closes",
+    );
+}
+
+fn ask_after_write(out: &mut Out, settings: &Settings) {
+    let before = b"READ at least tWTR (";
+    if newer(settings) {
+        ask(
+            out,
+            before,
+            settings[T_WTR],
+            b") + 2 cycles after the last WRITE, of whatever bank; after one with auto precharge, tWTR after its last write data",
+        );
+        return;
+    }
+    ask(
+        out,
+        before,
+        settings[T_WTR],
+        b") cycles after the last write data, of whatever bank",
+    );
+}
+
 fn ask_of_rows(out: &mut Out, settings: &Settings, rule: u32) {
     match rule {
         1 => ask(
@@ -125,18 +164,8 @@ fn ask_of_bursts(out: &mut Out, settings: &Settings, rule: u32) {
             settings[T_RAS],
             b") cycles after the ACTIVE of each row that it closes",
         ),
-        10 => ask(
-            out,
-            b"PRECHARGE at least tWR (",
-            settings[T_WR],
-            b") cycles after the last write data of each row that it closes",
-        ),
-        11 => ask(
-            out,
-            b"READ at least tWTR (",
-            settings[T_WTR],
-            b") cycles after the last write data, of whatever bank",
-        ),
+        10 => ask_after_row_written(out, settings),
+        11 => ask_after_write(out, settings),
         12 => say(
             out,
             b"WRITE, AUTO REFRESH or MODE REGISTER SET not before the data of the last READ has left the bus",

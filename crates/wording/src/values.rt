@@ -4,8 +4,10 @@ use console::say;
 use console::say_number;
 use console::say_word;
 use settings::COUNT;
+use settings::HELD;
 use settings::SLEEPING;
 use settings::Settings;
+use settings::places::EDITION;
 use settings::places::T_RAS;
 use settings::places::T_RC;
 use settings::places::T_RP;
@@ -17,17 +19,17 @@ ghost use Rattle.wording.specs.Values.{shown};
 
 const MODE: u32 = settings::places::MODE as u32;
 
-// The settings; zeros where there is no room for them, as in no capture whose settings were looked at.
+// The settings and the edition; zeros where there is no room for them, as in no capture whose settings were looked at.
 pub fn settings_of(capture: &[u8]) -> Settings
     ensures { λ r. ⌜ r ≡ shown (now (capture .entry)) ⌝ }
 {
     if capture.len() < capture::EVENTS {
-        return [0; SLEEPING];
+        return [0; HELD];
     }
     if capture.len() < capture::events_start(capture) as usize {
-        return [0; SLEEPING];
+        return [0; HELD];
     }
-    capture::setting_words(capture)
+    capture::settings_in(capture)
 }
 
 fn say_name(out: &mut Out, i: u32) {
@@ -103,6 +105,11 @@ pub fn sleeps(settings: &Settings) -> bool {
     settings[T_XP] != 0
 }
 
+// The edition of the newer sheets.
+pub fn newer(settings: &Settings) -> bool {
+    settings[EDITION] == 1
+}
+
 fn shown_count(settings: &Settings) -> usize
     ensures { λ r. ⌜ r ≤ 16 ⌝ }
 {
@@ -113,6 +120,12 @@ pub fn print_settings(out: &mut Out, settings: &Settings) {
     let n = shown_count(settings);
     for i in 0..n {
         print_setting(out, i as u32, settings[i]);
+    }
+    if newer(settings) {
+        say(
+            out,
+            b"edition 1: READ and PRECHARGE may cut a write short\n",
+        );
     }
 }
 

@@ -1,3 +1,4 @@
+use mathlib.Core.Path.{_∙_}
 use borrow.Author.Tests.{eq-eqb, ne-eqb}
 use borrow.Author.Needs.{needs}
 use Rattle.beats.proofs.cuts_burst.Statement.{statement}
@@ -28,84 +29,29 @@ returns-3 c =
       eq-eqb _ 6 (c .if3 .taken),
     )
 
-returns-4 : tie.Need-returns-4
-returns-4 c =
-    let at-if2 = c .before .before in
-    let at-if1 = at-if2 .before in
-    let at-code2 = at-if1 .before in
-    let at-code = at-code2 .before in
-    rw (
-      ← at-code2 .code2 .ensures,
-      ← at-code .code .ensures,
-      ne-eqb _ 2 (at-if1 .if1 .left),
-      ne-eqb _ 10 (at-if2 .if2 .left),
-      ne-eqb _ 6 (c .before .if3 .left),
-      ne-eqb _ 4 (c .if4 .taken),
-    )
-
-ten-requires : tie.Need-ten-requires
-ten-requires c κs = search needs
-
-returns-5 : tie.Need-returns-5
-returns-5 c =
-    let at-if4 = c .before .before in
-    let at-if3 = at-if4 .before in
-    let at-if2 = at-if3 .before in
-    let at-if1 = at-if2 .before in
-    let at-code2 = at-if1 .before in
-    let at-code = at-code2 .before in
-    rw (
-      ← at-code2 .code2 .ensures,
-      ← at-code .code .ensures,
-      ne-eqb _ 2 (at-if1 .if1 .left),
-      ne-eqb _ 10 (at-if2 .if2 .left),
-      ne-eqb _ 6 (at-if3 .if3 .left),
-      eq-eqb _ 4 (at-if4 .if4 .left),
-      ← c .before .ten .ensures,
-      c .if5 .taken,
-    )
-
 bank-requires : tie.Need-bank-requires
 bank-requires c κs = search needs
 
-bank-requires-2 : tie.Need-bank-requires-2
-bank-requires-2 c κs = search needs
+shuts-bank-requires : tie.Need-shuts-bank-requires
+shuts-bank-requires c κs = search needs
 
-returns-6 : tie.Need-returns-6
-returns-6 c =
-    let at-if5 = c .before .before in
-    let at-ten = at-if5 .before in
-    let at-if4 = at-ten .before in
-    let at-if3 = at-if4 .before in
+returns-4 : tie.Need-returns-4
+returns-4 c =
+    let at-if3 = c .before .before in
     let at-if2 = at-if3 .before in
     let at-if1 = at-if2 .before in
     let at-code2 = at-if1 .before in
     let at-code = at-code2 .before in
-    rw (
+    c .shuts-bank .ensures
+    ∙ rw (
+      ← c .before .bank .ensures .0,
       ← at-code2 .code2 .ensures,
       ← at-code .code .ensures,
       ne-eqb _ 2 (at-if1 .if1 .left),
       ne-eqb _ 10 (at-if2 .if2 .left),
       ne-eqb _ 6 (at-if3 .if3 .left),
-      eq-eqb _ 4 (at-if4 .if4 .left),
-      ← at-ten .ten .ensures,
-      at-if5 .if5 .left,
-      c .bank2 .ensures .0,
-      c .before .bank .ensures .0,
     )
 
 pub cuts-burst-spec : {M : Type 1} → statement M
 cuts-burst-spec =
-    tie.close
-    (tie.spec
-    code-requires
-    code-requires-2
-    returns
-    returns-2
-    returns-3
-    returns-4
-    ten-requires
-    returns-5
-    bank-requires
-    bank-requires-2
-    returns-6)
+    tie.close (tie.spec code-requires code-requires-2 returns returns-2 returns-3 bank-requires shuts-bank-requires returns-4)

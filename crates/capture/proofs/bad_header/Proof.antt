@@ -78,8 +78,8 @@ returns-4 c =
       ne-eqb _ _ (c .if4 .taken),
     )
 
-word-at-requires-4 : tie.Need-word-at-requires-4
-word-at-requires-4 c κs = search needs
+edition-requires : tie.Need-edition-requires
+edition-requires c κs = search needs
 
 returns-5 : tie.Need-returns-5
 unfolding headerFits
@@ -102,12 +102,12 @@ returns-5 c =
       le-leb _ _ (at-if3 .if3 .left),
       ← at-word-at3 .word-at3 .ensures,
       eq-eqb _ _ (at-if4 .if4 .left),
-      ← c .before .word-at4 .ensures,
-      ne-eqb _ _ (c .if5 .taken),
+      ← c .before .edition .ensures,
+      lt-leb _ _ (c .if5 .taken),
     )
 
-word-at-requires-5 : tie.Need-word-at-requires-5
-word-at-requires-5 c κs = search needs
+word-at-requires-4 : tie.Need-word-at-requires-4
+word-at-requires-4 c κs = search needs
 
 mul-result : tie.Need-mul-result
 mul-result c = search needs
@@ -118,8 +118,8 @@ add-result c = search needs
 returns-6 : tie.Need-returns-6
 unfolding headerFits
 returns-6 c =
-    let at-word-at4 = c .before .before in
-    let at-if4 = at-word-at4 .before in
+    let at-edition = c .before .before in
+    let at-if4 = at-edition .before in
     let at-word-at3 = at-if4 .before in
     let at-if3 = at-word-at3 .before in
     let at-event-count = at-if3 .before in
@@ -137,9 +137,9 @@ returns-6 c =
       le-leb _ _ (at-if3 .if3 .left),
       ← at-word-at3 .word-at3 .ensures,
       eq-eqb _ _ (at-if4 .if4 .left),
-      ← at-word-at4 .word-at4 .ensures,
-      eq-eqb _ _ (c .before .if5 .left),
-      ← c .word-at5 .ensures,
+      ← at-edition .edition .ensures,
+      le-leb _ _ (c .before .if5 .left),
+      ← c .word-at4 .ensures,
     )
 
 pub bad-header-spec : {M : Type 1} → statement M
@@ -159,9 +159,9 @@ bad-header-spec =
     add-start
     word-at-requires-3
     returns-4
-    word-at-requires-4
+    edition-requires
     returns-5
-    word-at-requires-5
+    word-at-requires-4
     mul-result
     add-result
     returns-6)

@@ -31,8 +31,8 @@ returns c =
 enum-told : tie.Need-enum-told
 enum-told c = search needs
 
-setting-words-requires : tie.Need-setting-words-requires
-setting-words-requires c κs = holds-settings c
+settings-in-requires : tie.Need-settings-in-requires
+settings-in-requires c κs = holds-settings c
 
 event-count-requires : tie.Need-event-count-requires
 event-count-requires c κs = omega (arith, holds-settings (c .before))
@@ -47,7 +47,7 @@ list-requires c κs =
     let told = counted .before .before in
     let opened = told .before .before .«open» in
     listable (capture-of told) (told .before .before .before .before .before .args .out .now) (opened .result) (opened .ensures)
-    (told .enum-told .given .1) (counted .before .setting-words .ensures) (counted .event-count .ensures) (given .event-bytes .ensures)
+    (told .enum-told .given .1) (counted .before .settings-in .ensures) (counted .event-count .ensures) (given .event-bytes .ensures)
 
 same-length : tie.Need-same-length
 same-length c = search needs
@@ -59,7 +59,7 @@ returns-2 c =
     let told = counted .before .before in
     let opened = told .before .before .«open» in
     listed-so (capture-of told) (told .before .before .before .before .before .args .out .now) (opened .result) (opened .ensures)
-    (told .enum-told .given .1) (counted .before .setting-words .ensures) (counted .event-count .ensures) (given .event-bytes .ensures)
+    (told .enum-told .given .1) (counted .before .settings-in .ensures) (counted .event-count .ensures) (given .event-bytes .ensures)
     (c .before .before .list .ensures)
 
 pub burst-cells-spec : {M : Type 1} → statement M
@@ -70,7 +70,7 @@ burst-cells-spec =
     enum-known-checked
     returns
     enum-told
-    setting-words-requires
+    settings-in-requires
     event-count-requires
     event-bytes-requires
     list-requires

@@ -2,6 +2,7 @@
 use Prim.Native.Nat.{_+_, _-_}
 use native.Mathlib.Omega.{arith}
 use borrow.Author.Needs.{needs}
+use Rattle.reading.specs.Settings.{settingsOf}
 use Rattle.reading.specs.Capture.{eventAt}
 use Rattle.beats.specs.Kept.{eventsFrom}
 use Rattle.beats.proofs.Looking.{kept-le}
@@ -32,7 +33,7 @@ mul-cells : tie.Need-mul-cells Inv-events μ-events
 mul-cells c =
     let a = c .before .before .before .before .before .args in
     let x = c .before .before .events in
-    omega (arith, c .kept .ensures, kept-le (x .mode) (eventAt (a .bytes .now) (x .i)) (eventsFrom (a .bytes .now) (a .n) (x .i + 1)))
+    omega (arith, c .kept .ensures, kept-le (settingsOf (a .s .now)) (x .mode) (eventAt (a .bytes .now) (x .i)) (eventsFrom (a .bytes .now) (a .n) (x .i + 1)))
 
 add-cells : tie.Need-add-cells Inv-events μ-events
 add-cells c =
@@ -42,7 +43,7 @@ add-cells c =
     omega (
       arith,
       c .kept .ensures,
-      kept-le (x .mode) (eventAt (a .bytes .now) (x .i)) (eventsFrom (a .bytes .now) (a .n) (x .i + 1)),
+      kept-le (settingsOf (a .s .now)) (x .mode) (eventAt (a .bytes .now) (x .i)) (eventsFrom (a .bytes .now) (a .n) (x .i + 1)),
       x .inv .small,
       start .pre .0 .fit .few,
     )

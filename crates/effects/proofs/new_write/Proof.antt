@@ -27,12 +27,20 @@ data-after-requires-2 c κs = search needs
 element-write-d-2 : tie.Need-element-write-d-2
 element-write-d-2 c = search needs
 
+data-after-requires-3 : tie.Need-data-after-requires-3
+data-after-requires-3 c κs = search needs
+
 element-write-d-3 : tie.Need-element-write-d-3
 element-write-d-3 c = search needs
 
+element-write-d-4 : tie.Need-element-write-d-4
+element-write-d-4 c = search needs
+
 returns : tie.Need-returns
 unfolding newWrite
-returns c = rw (c .data-after2 .ensures, c .before .before .data-after .ensures)
+returns c =
+    let ended = c .before in
+    rw (c .data-after3 .ensures, ended .data-after2 .ensures, ended .before .before .data-after .ensures)
 
 pub new-write-spec : {M : Type 1} → statement M
 new-write-spec =
@@ -46,5 +54,7 @@ new-write-spec =
     element-copy-out-data-after-2
     data-after-requires-2
     element-write-d-2
+    data-after-requires-3
     element-write-d-3
+    element-write-d-4
     returns)

@@ -29,8 +29,8 @@ returns c =
 enum-told : tie.Need-enum-told
 enum-told c = search needs
 
-setting-words-requires : tie.Need-setting-words-requires
-setting-words-requires c κs = holds-settings c
+settings-in-requires : tie.Need-settings-in-requires
+settings-in-requires c κs = holds-settings c
 
 event-count-requires : tie.Need-event-count-requires
 event-count-requires c κs = omega (arith, holds-settings (c .before))
@@ -55,7 +55,7 @@ walk-requires c κs =
     let told = counted .before .before in
     let opened = told .before .before .«open» in (
       fit (capture-of told) (opened .result) (opened .ensures) (told .enum-told .given .1)
-          (counted .before .setting-words .ensures) (counted .event-count .ensures) (given .event-bytes .ensures),
+          (counted .before .settings-in .ensures) (counted .event-count .ensures) (given .event-bytes .ensures),
       record { deadlines = paced .before .start .ensures; paced = paced .pace .ensures },
     )
 
@@ -67,7 +67,7 @@ returns-2 c =
     let opened = told .before .before .«open» in
     rw (c .walk .ensures .0)
     (judged-so (capture-of told) (opened .result) (opened .ensures) (told .enum-told .given .1)
-    (counted .before .setting-words .ensures) (counted .event-count .ensures) (given .event-bytes .ensures))
+    (counted .before .settings-in .ensures) (counted .event-count .ensures) (given .event-bytes .ensures))
 
 pub judge-spec : {M : Type 1} → statement M
 judge-spec =
@@ -77,7 +77,7 @@ judge-spec =
     enum-known-checked
     returns
     enum-told
-    setting-words-requires
+    settings-in-requires
     event-count-requires
     start-requires
     array-read-pace

@@ -28,7 +28,9 @@ refusals =
     ∷ wrong (80 ∷ 14 ∷ 24 ∷ 1 ∷ 80 ∷ 0 ∷ []) 2 0
     ∷ wrong (80 ∷ 14 ∷ 24 ∷ 0x20000000 ∷ 80 ∷ 0 ∷ []) 2 0
     ∷ wrong (80 ∷ 14 ∷ 24 ∷ 0 ∷ 88 ∷ 0 ∷ []) 2 0
-    ∷ wrong (80 ∷ 14 ∷ 24 ∷ 0 ∷ 80 ∷ 1 ∷ []) 2 0
+    ∷ wrong (80 ∷ 14 ∷ 24 ∷ 0 ∷ 80 ∷ 2 ∷ []) 2 0
+    ∷ wrong (80 ∷ 14 ∷ 24 ∷ 0 ∷ 80 ∷ 0xffffffff ∷ []) 2 0
+    ∷ bytes (bytesOf (80 ∷ 14 ∷ 24 ∷ 0 ∷ 80 ∷ 1 ∷ []) ++ bytesOf usual) (touches 0 [])
     -- 3: the lowest setting, by its range or as a mode word
     ∷ under (set usual 0 0) [] (refuses 3 0)
     ∷ under (set usual 0 3) [] (refuses 3 0)

@@ -24,16 +24,16 @@ returns-2 c =
     let capture = told .before .before .before .args .capture .now in
     simp (lt-ltb (length capture) (eventsStart (countIn capture)) (omega (arith, told .events-start .ensures .0, c .if2 .taken)))
 
-setting-words-requires : tie.Need-setting-words-requires
-setting-words-requires c κs = omega (arith, c .before .events-start .ensures .0, c .if2 .left)
+settings-in-requires : tie.Need-settings-in-requires
+settings-in-requires c κs = omega (arith, c .before .events-start .ensures .0, c .if2 .left)
 
 returns-3 : tie.Need-returns-3
 returns-3 c =
     let told = c .before .before in
     let capture = told .before .before .before .args .capture .now in
     simp (le-ltb (length capture) (eventsStart (countIn capture)) (omega (arith, told .events-start .ensures .0, c .before .if2 .left)))
-    (c .setting-words .ensures)
+    (c .settings-in .ensures)
 
 pub settings-of-spec : {M : Type 1} → statement M
 settings-of-spec =
-    tie.close (tie.spec returns events-start-requires cast-if2 returns-2 setting-words-requires returns-3)
+    tie.close (tie.spec returns events-start-requires cast-if2 returns-2 settings-in-requires returns-3)
