@@ -33,9 +33,13 @@
  * 1 to 4, 8 and 7, morgazell_schedule 2, 3, 5, 6 and 7.
  *
  * A capture is words of 32 bits, lowest byte first: six of header (its length in bytes; 14 or 16, the settings count; 24,
- * where they start; the number of events, at most 8,000; 80 or 88, where these start; 0), the settings, and two words an
- * event, cycle and pins: A0-A13 in bits 0-13, BA0 and BA1 in 14 and 15, CS#, RAS#, CAS# and WE# in 16-19 and, with
- * 16 settings, CKE low in 20. So event i stands at byte 80 + 8 * i with 14 settings, at byte 88 + 8 * i with 16.
+ * where they start; the number of events, at most 8,000; 80 or 88, where these start; 0 or 1, the edition), the settings,
+ * and two words an event, cycle and pins: A0-A13 in bits 0-13, BA0 and BA1 in 14 and 15, CS#, RAS#, CAS# and WE# in 16-19
+ * and, with 16 settings, CKE low in 20. So event i stands at byte 80 + 8 * i with 14 settings, at byte 88 + 8 * i with 16.
+ *
+ * In edition 1 a READ may cut the last write short, and a PRECHARGE the last write of a row that it closes, unless the write
+ * has auto precharge: a WRITE at cycle k keeps of its pairs of beats at most t - tWTR - k - 1 if READ comes at t,
+ * t - tWR - k - 1 if PRECHARGE does. Rules 10 and 11 ask that it is one at least. In edition 0 they ask that all data is in.
  *
  *     setting  name and range                        setting  name and range, all 1 to 10,000 cycles but tREFI
  *        0     lane code, 1 or 2: 2 or 4 bytes wide     4-12  tRCD, tRP, tRAS, tRC, tRRD, tWR, tWTR, tRFC, tMRD
@@ -52,8 +56,8 @@
  *       7   ACTIVE waits tRRD from the ACTIVEs of other banks
  *       8   READ and WRITE wait tRCD from their bank's ACTIVE
  *       9   PRECHARGE waits tRAS from the ACTIVE of what it closes
- *      10   PRECHARGE waits tWR from the write data of what it closes
- *      11   READ waits tWTR from the last write data
+ *      10   PRECHARGE waits tWR from the write data of what it closes; in edition 1, tWR + 2 from the WRITE
+ *      11   READ waits tWTR from the last write data; in edition 1, tWTR + 2 from the last WRITE if that has no auto precharge
  *      12   WRITE, AUTO REFRESH and MODE REGISTER SET wait until the data of the last READ have left the bus
  *      13   READ does not cut a read with auto precharge, WRITE no such write, BURST TERMINATE neither, nor any write
  *      14   at most eight refreshes are owed: one more at each multiple of tREFI since cycle 0 or the end of self refresh,
@@ -94,8 +98,8 @@ uint64_t morgazell_judge(const uint8_t *capture, size_t len);
 uint64_t morgazell_cells(const uint8_t *capture, size_t len, uint32_t *out, size_t out_len);
 
 /* The schedule of the requests, as a whole capture from out[0] on; bytes behind it stay. 48,080 bytes are always
- * enough. The settings are the first fourteen: a schedule never sleeps. A request has bit 31 set for a write, and in bits
- * 0-26 the cell where its burst starts. */
+ * enough. The settings are the first fourteen: a schedule never sleeps. Its edition is 0. A request has bit 31 set for a
+ * write, and in bits 0-26 the cell where its burst starts. */
 uint64_t morgazell_schedule(const uint32_t *settings, size_t settings_len,
                             const uint32_t *requests, size_t requests_len,
                             uint8_t *out, size_t out_len);

@@ -2,7 +2,8 @@
 
 Every command goes out at the first cycle that the rules leave to it, or later. The controller runs every burst to its end
 except where it ends a read by BURST TERMINATE, and it waits tRC from ACTIVE to AUTO REFRESH as well, which some data
-sheets ask for and the rules do not. Between frames it may put the part to sleep."""
+sheets ask for and the rules do not. Between frames it may put the part to sleep. One that interrupts does what edition 1
+allows besides: it cuts a write short by a READ or PRECHARGE as soon as one pair of it is in."""
 import random
 
 from captures import (A10, ACTIVE, AUTO_REFRESH, BURST_TERMINATE, DESELECT, LOW, MODE_REGISTER_SET, NOP, PRECHARGE, READ,
@@ -12,7 +13,7 @@ BANKS = range(4)
 
 
 class Controller:
-    def __init__(self, part, seed, refreshes_every=None):
+    def __init__(self, part, seed, refreshes_every=None, interrupts=False):
         self.part = part
         self.random = random.Random(seed)
         self.events = []
@@ -28,6 +29,10 @@ class Controller:
         self.opened = [0] * 4  # its ACTIVE
         self.column_ready = [0] * 4  # tRCD is over
         self.close_ready = [0] * 4  # tRAS, tWR and the bank's bursts are over
+        self.interrupts = interrupts
+        self.read_cuts_until = 0  # a READ before this cycle cuts the last write
+        self.close_cuts_until = [0] * 4  # a PRECHARGE before it cuts the row's last write
+        self.first_cut = None  # the first event that cuts a write, and the rule that edition 0 breaks by it
         self.open_ready = [0] * 4  # tRP and tRC are over
         self.refreshing = True
         self.refreshes_every = refreshes_every or part["tREFI"]
@@ -61,11 +66,13 @@ class Controller:
         self.row_ready = t + self.part["tRRD"]
         self.column_ready[b] = t + self.part["tRCD"]
         self.close_ready[b] = t + self.part["tRAS"]
+        self.close_cuts_until[b] = 0
         self.open_ready[b] = t + self.part["tRC"]
         return t
 
     def read(self, b, c, auto=False):
         t = self.send([self.column_ready[b], self.read_ready], READ | bank(b) | column(c) | A10 * auto)
+        self.note_cut(t < self.read_cuts_until, 11)
         self.read_ready = t + self.h
         self.write_ready = self.reads_done = t + self.latency + self.h
         self.burst_ends(b, t + self.h, auto)
@@ -74,10 +81,17 @@ class Controller:
     def write(self, b, c, auto=False):
         t = self.send([self.column_ready[b], self.write_ready], WRITE | bank(b) | column(c) | A10 * auto)
         end = self.writes_done = t + 1 + self.h
-        self.read_ready = end + self.part["tWTR"]
+        enough = t + 2 if self.interrupts and not auto else end
+        self.read_ready = enough + self.part["tWTR"]
+        self.read_cuts_until = end + self.part["tWTR"]
         self.write_ready = t + self.h
-        self.burst_ends(b, end + self.part["tWR"], auto)
+        self.burst_ends(b, enough + self.part["tWR"], auto)
+        self.close_cuts_until[b] = end + self.part["tWR"]
         return t
+
+    def note_cut(self, cuts, rule):
+        if cuts and self.first_cut is None:
+            self.first_cut = len(self.events) - 1, rule
 
     def burst_ends(self, b, cycle, auto):
         self.close_ready[b] = max(self.close_ready[b], cycle)
@@ -93,6 +107,7 @@ class Controller:
 
     def precharge(self, b):
         t = self.send([self.close_ready[b]], PRECHARGE | bank(b))
+        self.note_cut(t < self.close_cuts_until[b], 10)
         self.closed(b, t)
         return t
 
@@ -100,6 +115,7 @@ class Controller:
         t = self.send([self.close_ready[b] for b in BANKS if self.row[b] is not None], PRECHARGE | A10)
         for b in BANKS:
             if self.row[b] is not None:
+                self.note_cut(t < self.close_cuts_until[b], 10)
                 self.closed(b, t)
         return t
 

@@ -36,25 +36,29 @@ def settings_of(part, names=SETTINGS):
 
 def clean_run(part, seed):
     c = Controller(part, seed)
-    c.run(900)
-    c.mode_set(mode_word(8, True, cas_latency(part["mode"])))
-    c.run(1800)
-    c.close_rows()
+    run_in_two_modes(c)
     return capture(c.events, settings_of(part)), clean_lines(c.events)
 
 
-def with_fault(part, seed, fault, rule):
+def run_in_two_modes(c):
+    c.run(900)
+    c.mode_set(mode_word(8, True, c.latency))
+    c.run(1800)
+    c.close_rows()
+
+
+def with_fault(part, seed, fault, rule, edition=0):
     """Traffic, a fault in the middle of it, and more traffic: the recorder does not know."""
-    c = Controller(part, seed)
+    c = Controller(part, seed, interrupts=edition == 1)
     c.run(200 + c.below(100))
-    return continued(c, fault, rule, SETTINGS)
+    return continued(c, fault, rule, SETTINGS, edition)
 
 
-def continued(c, fault, rule, names):
+def continued(c, fault, rule, names, edition=0):
     fault(c)
     at = len(c.events) - 1
     c.run(at + 40)
-    return capture(c.events, settings_of(c.part, names)), broken_lines(c.events, rule, at)
+    return capture(c.events, settings_of(c.part, names), edition=edition), broken_lines(c.events, rule, at)
 
 
 def read_before_trcd(part, seed):
@@ -65,23 +69,36 @@ def read_before_trcd(part, seed):
     return with_fault(part, seed, fault, 8)
 
 
-def read_before_twtr(part, seed):
+def pairs_awaited(c, edition):
+    """How many pairs of a write without auto precharge have to be in."""
+    return 1 if edition == 1 else c.h
+
+
+def read_before_twtr(part, seed, edition=0):
     def fault(c):
         c.open_row(1, 300)
         c.open_row(3, 1200)
         c.read(3, 8)
         t = c.write(1, 40)
-        c.put(t + 1 + c.h + part["tWTR"] - 1, READ | bank(3) | column(12))
-    return with_fault(part, seed, fault, 11)
+        c.put(t + 1 + pairs_awaited(c, edition) + part["tWTR"] - 1, READ | bank(3) | column(12))
+    return with_fault(part, seed, fault, 11, edition)
 
 
-def precharge_before_twr(part, seed):
+def precharge_before_twr(part, seed, edition=0):
     def fault(c):
         c.open_row(0, 9)
         for place in range(4):  # so many that tRAS is over
             t = c.write(0, 4 * place)
-        c.put(t + 1 + c.h + part["tWR"] - 1, PRECHARGE | bank(0))
-    return with_fault(part, seed, fault, 10)
+        c.put(t + 1 + pairs_awaited(c, edition) + part["tWR"] - 1, PRECHARGE | bank(0))
+    return with_fault(part, seed, fault, 10, edition)
+
+
+def read_before_a_pair_is_in(part, seed):
+    return read_before_twtr(part, seed, edition=1)
+
+
+def precharge_before_a_pair_is_in(part, seed):
+    return precharge_before_twr(part, seed, edition=1)
 
 
 def refresh_with_open_row(part, seed):
@@ -149,6 +166,26 @@ def stamps_of_16_bits(part, seed):
         c.run(len(c.events) + 20)
     at = next(i for i, (cycle, _) in enumerate(c.events) if 65_536 <= cycle)
     return capture([(cycle % 65_536, pins) for cycle, pins in c.events], settings_of(part)), [f"refused 4 place {at}"]
+
+
+# ---- samples of a controller that cuts writes short, which edition 1 allows
+
+def interrupted_writes(part):
+    """Of one seed, so that the same events are judged in both editions."""
+    c = Controller(part, 1, interrupts=True)
+    run_in_two_modes(c)
+    return c
+
+
+def clean_interrupted_writes(part, _):
+    c = interrupted_writes(part)
+    return capture(c.events, settings_of(part), edition=1), clean_lines(c.events)
+
+
+def interrupted_in_edition_0(part, _):
+    c = interrupted_writes(part)
+    at, rule = c.first_cut
+    return capture(c.events, settings_of(part)), broken_lines(c.events, rule, at)
 
 
 # ---- samples of a controller that puts the part to sleep between frames
@@ -286,6 +323,13 @@ SAMPLES = [
     ("setting-tRC-100", ("W948D6KBHX", "-6 CL3"), mistyped_trc, "clean traffic, and a tRC of 100 typed where the sheet has 10"),
     ("one-refresh-in-eight", ("MT46H64M16LF", "-75 CL3"), one_refresh_in_eight,
      "one AUTO REFRESH for nearly eight tREFI, over and over"),
+    ("clean-interrupted-writes", ("W948D6KBHX", "-6 CL3"), clean_interrupted_writes,
+     "edition 1: writes cut short by READ and by PRECHARGE, as sheet 001 shows it"),
+    ("interrupted-writes-edition-0", ("W948D6KBHX", "-6 CL3"), interrupted_in_edition_0, "the same events in edition 0"),
+    ("tWTR-edition-1", ("MT46H64M16LF", "-5 CL3"), read_before_a_pair_is_in,
+     "edition 1: READ a cycle too soon after a WRITE to another bank to leave it one pair"),
+    ("tWR-edition-1", ("MT46H32M32LF", "-75 CL3"), precharge_before_a_pair_is_in,
+     "edition 1: PRECHARGE a cycle too soon after a WRITE to leave it one pair"),
 ]
 
 

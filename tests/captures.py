@@ -2,7 +2,8 @@
 the report says of one whose verdict is known."""
 import struct
 
-# Where settings stand, in bytes; events stand behind them.
+# Where the edition and the settings stand, in bytes; events stand behind them.
+EDITION_AT = 20
 SETTINGS_AT = 24
 
 # The settings of document 01's cases, and with tXP and tXSR of a part that may sleep.
@@ -61,11 +62,20 @@ def words(values):
     return struct.pack("<%dI" % len(values), *values)
 
 
-def capture(events, settings=USUAL, header=None):
+def capture(events, settings=USUAL, header=None, edition=0):
     """Laid out for as many settings as there are."""
     n, start = len(events), SETTINGS_AT + 4 * len(settings)
-    head = header or [start + 8 * n, len(settings), SETTINGS_AT, n, start, 0]
+    head = header or [start + 8 * n, len(settings), SETTINGS_AT, n, start, edition]
     return words(head) + words(settings) + b"".join(words(e) for e in events)
+
+
+def edition_in(data):
+    return struct.unpack_from("<I", data, EDITION_AT)[0]
+
+
+def with_edition(data, edition):
+    """The same capture with another sixth word."""
+    return data[:EDITION_AT] + words([edition]) + data[SETTINGS_AT:]
 
 
 def settings_count(data):

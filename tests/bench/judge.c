@@ -144,6 +144,7 @@ struct capture {
     struct settings settings;
     const uint8_t *events;
     uint32_t count;
+    uint32_t edition;
 };
 
 /* Refusals 1 to 4, or 0 with the capture taken apart. */
@@ -158,10 +159,11 @@ static uint64_t check_capture(const uint8_t *bytes, size_t len, struct capture *
     if (len < events_at || len > events_at + EVENT_BYTES * MOST_EVENTS || load(bytes) != len)
         return refused(1, 0);
     if (load(bytes + 4) != settings || load(bytes + 8) != HEADER_BYTES || count > MOST_EVENTS
-        || load(bytes + 16) != events_at || load(bytes + 20) != 0
+        || load(bytes + 16) != events_at || load(bytes + 20) > 1
         || len != events_at + EVENT_BYTES * (size_t)count)
         return refused(2, 0);
-    *capture = (struct capture){.events = bytes + events_at, .count = count};
+    *capture = (struct capture){
+        .events = bytes + events_at, .count = count, .edition = load(bytes + 20)};
     memcpy(&capture->settings, bytes + HEADER_BYTES, 4 * settings);
     uint64_t refusal = check_settings(&capture->settings, settings);
     return refusal != 0 ? refusal : check_events(capture->events, count, sleeps ? 21 : 20);
@@ -199,6 +201,7 @@ struct now {
      * entry of `recovered` is to be, unless a WRITE cuts it first. */
     uint32_t last;
     int32_t recovered;
+    int32_t written; /* in edition 1, of a write: where its data ends */
     int32_t pairs;
     int32_t latency;
 };
@@ -238,24 +241,33 @@ static inline int32_t all_precharged(const struct part *part)
     return later(later(p[0], p[1]), later(p[2], p[3]));
 }
 
-/* Rule 13 for BURST TERMINATE: the end of the last burst, if it must not be cut. */
-static inline int32_t terminable(const struct part *part, struct now now, int32_t wtr)
+/* The end of the last burst's data, if it is a write. */
+static inline int32_t write_over(const struct settings *s, const struct part *part,
+                                 struct now now, int edition)
 {
-    return part->from[1] - (now.last & READ_SLOT ? 0 : wtr);
+    return edition == 0 ? part->from[1] - s->wtr : now.written;
+}
+
+/* Rule 13 for BURST TERMINATE: the end of the last burst, if it must not be cut. */
+static inline int32_t terminable(const struct settings *s, const struct part *part,
+                                 struct now now, int edition)
+{
+    return now.last & READ_SLOT ? part->from[1] : write_over(s, part, now, edition);
 }
 
 /* Rule 15: the data of the last burst. What came before it was over when it was given, by
  * rules 11 and 12. */
-static inline int32_t data_over(const struct part *part, struct now now, int32_t wtr)
+static inline int32_t data_over(const struct settings *s, const struct part *part,
+                                struct now now, int edition)
 {
-    return now.last & READ_SLOT ? part->from[0] : part->from[1] - wtr;
+    return now.last & READ_SLOT ? part->from[0] : write_over(s, part, now, edition);
 }
 
 /* The lowest rule that an event breaks; it breaks one. */
 __attribute__((cold, noinline)) static uint32_t lowest_rule(const struct settings *s,
                                                             const struct part *part,
                                                             struct now now, int32_t t,
-                                                            uint32_t pins)
+                                                            uint32_t pins, int edition)
 {
     uint32_t bank = bank_of(pins);
     uint32_t command = command_of(pins);
@@ -299,218 +311,26 @@ __attribute__((cold, noinline)) static uint32_t lowest_rule(const struct setting
         return after_read ? 12 : 13;
     if (wants_idle && t < part->from[0])
         return 12;
-    if (command == TERMINATE && t < terminable(part, now, s->wtr))
+    if (command == TERMINATE && t < terminable(s, part, now, edition))
         return 13;
     return last_rule;
 }
 
-/* The number of events if they are clean, else the first broken rule and its event. */
-static uint64_t walk(const struct settings *settings, const uint8_t *events, uint32_t count)
+/* The walk over the events, once for each edition, so that neither pays for the other. */
+#define EDITION 0
+#define WALK walk_edition_0
+#include "walk.h"
+#undef WALK
+#undef EDITION
+#define EDITION 1
+#define WALK walk_edition_1
+#include "walk.h"
+#undef WALK
+#undef EDITION
+
+static inline uint64_t walk(const struct capture *c)
 {
-    /* Every handler jumps to the next itself, which branch predictors like better than one
-     * shared jump. Labels as values are an extension that gcc and clang have.
-     *
-     * By pins 16-20: the first 16 with CKE high, then those with CKE low. A table for each
-     * state of sleep, so that what is awake pays nothing for it: awake, asleep, and awake
-     * with no command since sleep, whose wait may not be over. */
-    static const void *const awake[32] = {
-        &&mode_set, &&idle,  &&access, &&idle,  &&precharge, &&idle,  &&terminate,  &&idle,
-        &&refresh,  &&idle,  &&access, &&idle,  &&active,    &&idle,  &&idle,       &&idle,
-        &&breaks,   &&enter, &&breaks, &&enter, &&breaks,    &&enter, &&breaks,     &&enter,
-        &&retire,   &&enter, &&breaks, &&enter, &&breaks,    &&enter, &&enter,      &&enter,
-    };
-    static const void *const asleep[32] = {
-        &&breaks, &&leave, &&breaks, &&leave, &&breaks, &&leave, &&breaks, &&leave,
-        &&breaks, &&leave, &&breaks, &&leave, &&breaks, &&leave, &&leave,  &&leave,
-        &&breaks, &&stay,  &&breaks, &&stay,  &&breaks, &&stay,  &&breaks, &&stay,
-        &&breaks, &&stay,  &&breaks, &&stay,  &&breaks, &&stay,  &&stay,   &&stay,
-    };
-    static const void *const waking[32] = {
-        &&woken,  &&rest,  &&woken,  &&rest,  &&woken,  &&rest,  &&woken,  &&rest,
-        &&woken,  &&rest,  &&woken,  &&rest,  &&woken,  &&rest,  &&rest,   &&rest,
-        &&breaks, &&enter, &&breaks, &&enter, &&breaks, &&enter, &&breaks, &&enter,
-        &&retire, &&enter, &&breaks, &&enter, &&breaks, &&enter, &&enter,  &&enter,
-    };
-    const struct settings s = *settings;
-    const int32_t highest_row = (1 << s.row_bits) - 1;
-    struct part part = {
-        .active = {NEVER, NEVER, NEVER, NEVER},
-        .turn = {1 + s.wtr, latency_of(s.mode)},
-        .settle = {1 + s.wr, 0},
-    };
-    struct now now = {
-        .due = due_from(&s, 0),
-        .last = READ_SLOT,
-        .pairs = pairs_of(s.mode),
-        .latency = latency_of(s.mode),
-    };
-    const uint8_t *at = events;
-    const uint8_t *end = events + EVENT_BYTES * (size_t)count;
-    int32_t t;
-    uint32_t pins, bank;
-
-#define NEXT_IN(handlers)             \
-    do {                              \
-        if (at == end)                \
-            return count;             \
-        t = (int32_t)load(at);        \
-        pins = load(at + 4);          \
-        at += EVENT_BYTES;            \
-        bank = bank_of(pins);         \
-        goto *(handlers)[pins >> 16]; \
-    } while (0)
-#define NEXT NEXT_IN(awake)
-
-    NEXT;
-
-active: {
-    int32_t row = pins & 0x3fff;
-    int32_t is_open = (int32_t)(now.open << (31 - bank));
-    int32_t others = other_active(now, bank);
-    if (((t - part.precharged[bank]) | (t - others) | (t - now.busy) | (now.due - t)
-         | (highest_row - row) | is_open) < 0)
-        goto breaks;
-    now.open |= 1u << bank;
-    part.active[bank] = t;
-    part.recovered[bank] = 0;
-    now.spaced_same = others;
-    now.spaced = t + s.rrd;
-    now.active_bank = bank;
-    NEXT;
-}
-
-access: {
-    /* An open bank had its ACTIVE when the part was no longer busy: rule 4 is kept. */
-    uint32_t read = pins >> 19 & 1;
-    uint32_t automatic = pins >> 10 & 1;
-    int32_t is_idle = ~(int32_t)(now.open << (31 - bank));
-    int32_t active = part.active[bank];
-    if (((t - active - s.rcd) | (t - part.from[read]) | (now.due - t) | is_idle) < 0)
-        goto breaks;
-    int32_t over = t + now.pairs;
-    /* A cut write's data ends one cycle after the cut; a whole one's has ended by then. */
-    part.recovered[now.last] = sooner(now.recovered, t + 1 + s.wr);
-    now.last = bank | read << 2 | automatic << 3;
-    now.recovered = over + 1 + s.wr;
-    part.from[read] = t + (now.pairs & -(int32_t)automatic);
-    part.from[read ^ 1] = over + part.turn[read];
-    if (automatic) {
-        part.precharged[bank] = later(over + part.settle[read], active + s.ras) + s.rp;
-        now.open ^= 1u << bank;
-    }
-    NEXT;
-}
-
-precharge:
-    part.recovered[now.last] = now.recovered;
-    if (pins & A10)
-        goto precharge_all;
-    {
-        uint32_t is_open = now.open >> bank & 1;
-        int32_t early = (t - part.active[bank] - s.ras) | (t - part.recovered[bank]);
-        if (((early & -(int32_t)is_open) | (t - now.busy) | (now.due - t)) < 0)
-            goto breaks;
-        part.precharged[bank | (is_open ^ 1) << 2] = t + s.rp;
-        now.open &= ~(1u << bank);
-        if (now.last == (bank | READ_SLOT))
-            part.from[0] = sooner(part.from[0], t + now.latency);
-        NEXT;
-    }
-
-precharge_all: {
-    int32_t early = (t - now.busy) | (now.due - t);
-    for (uint32_t b = 0; b < BANKS; b++) {
-        int32_t wait = (t - part.active[b] - s.ras) | (t - part.recovered[b]);
-        early |= wait & -(int32_t)(now.open >> b & 1);
-    }
-    if (early < 0)
-        goto breaks;
-    for (uint32_t b = 0; b < BANKS; b++)
-        part.precharged[b] = now.open >> b & 1 ? t + s.rp : part.precharged[b];
-    now.open = 0;
-    if ((now.last & (READ_SLOT | AUTO_SLOT)) == READ_SLOT)
-        part.from[0] = sooner(part.from[0], t + now.latency);
-    NEXT;
-}
-
-terminate:
-    if (((t - now.busy) | (t - terminable(&part, now, s.wtr)) | (now.due - t)) < 0)
-        goto breaks;
-    /* A burst that must not be cut is over here, so its end is not moved. */
-    part.from[0] = sooner(part.from[0], t + now.latency);
-    NEXT;
-
-refresh:
-    if (((t - now.busy) | (t - all_precharged(&part)) | (t - part.from[0]) | (now.due - t)) < 0
-        || now.open != 0)
-        goto breaks;
-    now.busy = t + s.rfc;
-    now.due = due_after_refresh(&s, now.due, t);
-    NEXT;
-
-mode_set:
-    if (((t - now.busy) | (t - all_precharged(&part)) | (t - part.from[0]) | (now.due - t)) < 0
-        || now.open != 0 || !is_good_mode_set(pins))
-        goto breaks;
-    now.busy = t + s.mrd;
-    if (bank == 0) {
-        now.pairs = pairs_of(pins);
-        now.latency = latency_of(pins & 127);
-        part.turn[1] = now.latency;
-    }
-    NEXT;
-
-idle:
-    if (t > now.due)
-        goto breaks;
-    NEXT;
-
-enter:
-    if (((t - now.busy) | (t - data_over(&part, now, s.wtr)) | (t - now.ready) | (now.due - t))
-        < 0)
-        goto breaks;
-    now.wake = s.xp;
-    NEXT_IN(asleep);
-
-    /* By rule 5 the data of every write is over. */
-retire:
-    if (((t - now.busy) | (t - all_precharged(&part)) | (t - part.from[0]) | (t - now.ready)
-         | (now.due - t)) < 0 || now.open != 0)
-        goto breaks;
-    now.wake = s.xsr;
-    now.due = UNASKED;
-    NEXT_IN(asleep);
-
-stay:
-    if (t > now.due)
-        goto breaks;
-    NEXT_IN(asleep);
-
-leave:
-    if (t > now.due)
-        goto breaks;
-    now.ready = t + now.wake;
-    now.wake = 0;
-    if (now.due == UNASKED)
-        now.due = due_from(&s, t);
-    NEXT_IN(waking);
-
-rest:
-    if (t > now.due)
-        goto breaks;
-    NEXT_IN(waking);
-
-woken:
-    if (t < now.ready)
-        goto breaks;
-    goto *awake[pins >> 16];
-
-breaks:
-    part.recovered[now.last] = now.recovered;
-    return broken(lowest_rule(&s, &part, now, t, pins),
-                  (uint32_t)((at - events) / EVENT_BYTES - 1));
-#undef NEXT
-#undef NEXT_IN
+    return (c->edition == 0 ? walk_edition_0 : walk_edition_1)(&c->settings, c->events, c->count);
 }
 
 uint64_t c_judge(const uint8_t *bytes, size_t len)
@@ -519,7 +339,7 @@ uint64_t c_judge(const uint8_t *bytes, size_t len)
     uint64_t refusal = check_capture(bytes, len, &capture);
     if (refusal != 0)
         return refusal;
-    return walk(&capture.settings, capture.events, capture.count);
+    return walk(&capture);
 }
 
 static inline int cuts(uint32_t burst, uint32_t pins)
@@ -531,7 +351,8 @@ static inline int cuts(uint32_t burst, uint32_t pins)
         || (command == PRECHARGE && (pins & A10 || bank_of(pins) == bank_of(burst)));
 }
 
-/* The pairs that burst i keeps: the first event that cuts it cuts it shortest. */
+/* The pairs that burst i keeps in edition 0, and in edition 1 if it is a read: the first
+ * event that cuts it cuts it shortest. */
 static inline uint32_t kept_pairs(const uint8_t *events, uint32_t count, uint32_t i,
                                   uint32_t pairs)
 {
@@ -561,6 +382,64 @@ static uint32_t count_cells(uint32_t mode, const uint8_t *events, uint32_t count
     return needed;
 }
 
+/* A write that edition 1 may still cut: its place in the list of kept pairs, and its cycle. */
+struct cuttable {
+    uint8_t *pairs;
+    uint32_t given;
+};
+
+static inline void cut(struct cuttable write, uint32_t pairs)
+{
+    *write.pairs = pairs < *write.pairs ? (uint8_t)pairs : *write.pairs;
+}
+
+/* Edition 1: the pairs that the burst at each event keeps in the end, 0 where there is none.
+ * What cuts a write may come tWTR or tWR after its data, with any number of events between,
+ * so each event cuts what is before it. */
+static void keep_pairs(const struct settings *s, const uint8_t *events, uint32_t count,
+                       uint8_t *kept)
+{
+    uint8_t nothing = 0;
+    const struct cuttable none = {&nothing, 0};
+    struct cuttable last = none;                           /* of any bank */
+    struct cuttable row[BANKS] = {none, none, none, none}; /* of each open row */
+    uint32_t pairs = pairs_of(s->mode);
+    for (uint32_t i = 0; i < count; i++) {
+        uint32_t pins = pins_of(events, i);
+        uint32_t t = cycle_of(events, i);
+        uint32_t bank = bank_of(pins);
+        kept[i] = 0;
+        switch (command_of(pins)) {
+        case READ:
+            kept[i] = (uint8_t)kept_pairs(events, count, i, pairs);
+            cut(last, t - s->wtr - last.given - 1);
+            if (pins & A10)
+                row[bank] = none;
+            break;
+        case WRITE: {
+            struct cuttable write = {kept + i, t};
+            kept[i] = (uint8_t)pairs;
+            cut(last, t - last.given);
+            last = row[bank] = pins & A10 ? none : write;
+            break;
+        }
+        case PRECHARGE: {
+            uint32_t end = pins & A10 ? BANKS : bank + 1;
+            for (bank = pins & A10 ? 0 : bank; bank < end; bank++) {
+                cut(row[bank], t - s->wr - row[bank].given - 1);
+                row[bank] = none;
+            }
+            break;
+        }
+        case MODE_SET:
+            pairs = bank == 0 ? pairs_of(pins) : pairs;
+            break;
+        default:
+            break;
+        }
+    }
+}
+
 static inline uint32_t column_of(uint32_t pins, uint32_t column_bits)
 {
     return ((pins & 0x3ff) | (pins >> 1 & 0x400)) & ((1u << column_bits) - 1);
@@ -582,8 +461,10 @@ static inline uint32_t *put_beats(uint32_t *out, uint32_t row_start, uint32_t co
     return out + beats;
 }
 
-static uint32_t write_cells(const struct settings *s, const uint8_t *events, uint32_t count,
-                            uint32_t *out)
+/* With the pairs that bursts keep if they are known. */
+static inline __attribute__((always_inline)) uint32_t
+write_cells(const struct settings *s, const uint8_t *events, uint32_t count, const uint8_t *kept,
+            uint32_t *out)
 {
     uint32_t *end = out;
     uint32_t mode = s->mode;
@@ -597,7 +478,8 @@ static uint32_t write_cells(const struct settings *s, const uint8_t *events, uin
             break;
         case READ:
         case WRITE: {
-            uint32_t beats = 2 * kept_pairs(events, count, i, pairs_of(mode));
+            uint32_t pairs = kept ? kept[i] : kept_pairs(events, count, i, pairs_of(mode));
+            uint32_t beats = 2 * pairs;
             end = put_beats(end, row_start[bank], column_of(pins, s->column_bits), mode, beats);
             break;
         }
@@ -611,6 +493,18 @@ static uint32_t write_cells(const struct settings *s, const uint8_t *events, uin
     return (uint32_t)(end - out);
 }
 
+static uint64_t cells_edition_1(const struct capture *c, uint32_t *out, size_t out_len)
+{
+    uint8_t kept[MOST_EVENTS];
+    uint32_t needed = 0;
+    keep_pairs(&c->settings, c->events, c->count, kept);
+    for (uint32_t i = 0; i < c->count; i++)
+        needed += 2u * kept[i];
+    if (out_len < needed)
+        return refused(7, needed);
+    return write_cells(&c->settings, c->events, c->count, kept, out);
+}
+
 uint64_t c_cells(const uint8_t *bytes, size_t len, uint32_t *out, size_t out_len)
 {
     struct capture capture;
@@ -619,16 +513,18 @@ uint64_t c_cells(const uint8_t *bytes, size_t len, uint32_t *out, size_t out_len
         return refusal;
     const uint8_t *events = capture.events;
     uint32_t count = capture.count;
-    uint64_t answer = walk(&capture.settings, events, count);
+    uint64_t answer = walk(&capture);
     if (is_broken(answer))
         return refused(8, (uint32_t)answer);
+    if (capture.edition == 1)
+        return cells_edition_1(&capture, out, out_len);
     /* Room for whole bursts at every event needs no counting. */
     if (out_len < (size_t)count * LONGEST_BURST) {
         uint32_t needed = count_cells(capture.settings.mode, events, count);
         if (out_len < needed)
             return refused(7, needed);
     }
-    return write_cells(&capture.settings, events, count, out);
+    return write_cells(&capture.settings, events, count, NULL, out);
 }
 
 /* The part between requests: all banks idle, every burst with auto precharge. */

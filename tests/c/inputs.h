@@ -3,7 +3,15 @@
 
 #include "morgazell.h"
 
-enum { NOP = 0xE0000, ACTIVE = 0xC0000, READ = 0xA0000, WRITE = 0x20000, REFRESH = 0x80000, AUTO = 0x400 };
+enum {
+    NOP = 0xE0000,
+    ACTIVE = 0xC0000,
+    READ = 0xA0000,
+    WRITE = 0x20000,
+    REFRESH = 0x80000,
+    PRECHARGE = 0x40000,
+    AUTO = 0x400, /* all banks, of a PRECHARGE */
+};
 
 enum { MOST_EVENTS = 8000, LONGEST = 88 + 8 * MOST_EVENTS };
 
@@ -15,11 +23,11 @@ static void put(uint8_t *at, uint32_t word)
         at[i] = (uint8_t)(word >> 8 * i);
 }
 
-/* Room for n events with 14 or 16 settings; answers the length. */
-static size_t begin(uint8_t *capture, uint32_t settings, uint32_t n)
+/* Room for n events with 14 or 16 settings, in edition 0 or 1; answers the length. */
+static size_t begin(uint8_t *capture, uint32_t settings, uint32_t n, uint32_t edition)
 {
     uint32_t start = 24 + 4 * settings;
-    const uint32_t header[6] = {start + 8 * n, settings, 24, n, start, 0};
+    const uint32_t header[6] = {start + 8 * n, settings, 24, n, start, edition};
     for (int i = 0; i < 6; i++)
         put(capture + 4 * i, header[i]);
     for (uint32_t i = 0; i < settings; i++)

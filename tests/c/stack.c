@@ -53,15 +53,19 @@ static size_t most(size_t a, size_t b)
     return a > b ? a : b;
 }
 
-/* Bursts of both kinds, sleep, a mode set and refresh; and the same with its last event in every way wrong. */
-static void make(uint32_t settings, uint32_t last)
+/* Bursts of both kinds, sleep, a mode set and refresh; in edition 1 writes that a PRECHARGE cuts to one pair; and the same
+ * with its last event in every way wrong. */
+static void make(uint32_t settings, uint32_t edition, uint32_t last)
 {
     const uint32_t n = 4000;
-    len = begin(capture, settings, n);
+    len = begin(capture, settings, n, edition);
     for (uint32_t i = 0; i < n; i += 4) {
         event(capture, settings, i, 50 * i, ACTIVE | i % 8192);
-        event(capture, settings, i + 1, 50 * i + 10, (i % 8 == 0 ? READ : WRITE) | AUTO | i % 1024);
-        event(capture, settings, i + 2, 50 * i + 60, REFRESH);
+        event(capture, settings, i + 1, 50 * i + 10, (i % 8 == 0 ? READ : WRITE) | (edition ? 0 : AUTO) | i % 1024);
+        if (edition)
+            event(capture, settings, i + 2, 50 * i + 15, PRECHARGE | AUTO);
+        else
+            event(capture, settings, i + 2, 50 * i + 60, REFRESH);
         event(capture, settings, i + 3, 50 * i + 80, settings == 16 ? NOP | 0x100000 : NOP);
         if (settings == 16 && i != 0)
             event(capture, settings, i, 50 * i, NOP);
@@ -75,8 +79,8 @@ int main(void)
                                     0x32,    0x10000,    0x1E0000, REFRESH | 0x100000, ACTIVE | 0x100000, 0xFFFFFFFF};
     size_t judging = 0, listing = 0, scheduling;
     for (uint32_t settings = 14; settings <= 16; settings++)
-        for (size_t i = 0; i < sizeof LAST / sizeof LAST[0]; i++) {
-            make(settings, LAST[i]);
+        for (size_t i = 0; i < 2 * sizeof LAST / sizeof LAST[0]; i++) {
+            make(settings, i % 2, LAST[i / 2]);
             judging = most(judging, taken(judge));
             listing = most(listing, most(taken(list), taken(list_short)));
         }

@@ -34,15 +34,18 @@ static void call(const struct input *in, struct left *out)
     out->scheduled = morgazell_schedule(SETTINGS, 14, in->requests, REQUESTS, out->bytes, MOST_BYTES);
 }
 
-/* Rows opened and read to the end; in two of the four a read comes too soon at the end. Requests differ from input to
- * input. */
+/* Rows opened and read to the end; in two of the four an ACTIVE finds the row open at the end. Two are of edition 1, in
+ * which every second read is a write that the read behind it cuts to three pairs. Requests differ from input to input. */
 static void make(struct input *in, uint32_t number)
 {
     uint32_t settings = number % 2 == 0 ? 14 : 16, n = 2000 + 1000 * number;
-    in->len = begin(in->capture, settings, n);
+    uint32_t edition = number == 1 || number == 2;
+    in->len = begin(in->capture, settings, n, edition);
     event(in->capture, settings, 0, 0, ACTIVE | number);
-    for (uint32_t i = 1; i < n; i++)
-        event(in->capture, settings, i, 10 * i, READ | (i * (number + 3)) % 1024);
+    for (uint32_t i = 1; i < n; i++) {
+        uint32_t writes = edition == 1 && i % 2 == 0, cuts = edition == 1 && i % 2 == 1;
+        event(in->capture, settings, i, 10 * i - 5 * cuts, (writes ? WRITE : READ) | (i * (number + 3)) % 1024);
+    }
     if (number >= 2)
         event(in->capture, settings, n - 1, 10 * n, ACTIVE | number);
     for (uint32_t i = 0; i < REQUESTS; i++)

@@ -1,16 +1,17 @@
 #!/usr/bin/env python3
 """seeds.py FOLDER: writes the fuzzer's first inputs, small captures and request lists for every refusal and for many
-rules, by docs/RULES.md, of 14 settings and of 16. The first byte of each says what it is (src/lib.rs)."""
+rules, by docs/RULES.md, of 14 settings and of 16 and of both editions. The first byte of each says what it is (src/lib.rs)."""
 import os
 import sys
 
 sys.dont_write_bytecode = True
 sys.path.insert(0, os.path.join(os.path.dirname(os.path.abspath(__file__)), ".."))
 from captures import (A10, ACTIVE, AUTO_REFRESH, BURST_TERMINATE, DESELECT, LOW, MODE_REGISTER_SET, NOP, PRECHARGE, READ,
-                      SLEEPY, USUAL, WRITE, bank, capture, setting, words)
+                      SLEEPY, USUAL, WRITE, bank, capture, mode_word, setting, words)
 
 CAPTURE, SPELLED, LIST, SPELLED_LIST = 0, 1, 2, 3
 SPELLED_ASLEEP = SPELLED | 1 << 4
+NEWER = 1 << 5
 
 EVENTS = {
     "nothing": [],
@@ -50,9 +51,25 @@ ASLEEP = {
     "rule 14 after self refresh": [(5, AUTO_REFRESH | LOW), (5000, NOP), (14_000, NOP)],
 }
 
+# Of edition 1, with 14 settings and the burst length, tWR and tWTR that stand first.
+INTERRUPTED = {
+    "cut by a read": (4, 3, 1, [(0, ACTIVE), (3, WRITE), (6, READ)]),
+    "cut by a precharge": (4, 3, 1, [(0, ACTIVE), (3, WRITE), (8, PRECHARGE)]),
+    "cut twice": (16, 6, 1, [(0, ACTIVE), (3, WRITE), (9, READ), (12, PRECHARGE)]),
+    "cut by a read when closed": (4, 3, 20, [(0, ACTIVE), (2, ACTIVE | bank(1)), (3, WRITE), (9, PRECHARGE), (25, READ | bank(1))]),
+    "spared when idle": (16, 6, 1, [(0, ACTIVE), (3, WRITE), (9, READ | A10), (12, PRECHARGE | A10)]),
+    "spared when opened again": (8, 30, 2, [(0, ACTIVE), (3, WRITE), (10, READ | A10), (17, ACTIVE), (35, PRECHARGE)]),
+    "cut and ended": (16, 6, 1, [(0, ACTIVE), (3, WRITE), (9, READ), (10, BURST_TERMINATE), (20, WRITE)]),
+    "two writes": (8, 10, 1, [(0, ACTIVE), (2, ACTIVE | bank(1)), (5, WRITE), (14, WRITE | bank(1)), (17, PRECHARGE)]),
+    "after auto precharge": (4, 3, 1, [(0, ACTIVE), (2, ACTIVE | bank(1)), (5, WRITE | A10), (8, READ | bank(1))]),
+    "rule 10 of edition 1": (4, 3, 1, [(0, ACTIVE), (3, WRITE), (7, PRECHARGE)]),
+    "rule 11 of edition 1": (4, 3, 1, [(0, ACTIVE), (3, WRITE), (5, READ)]),
+}
+
 REFUSED = {
     "refusal 1": capture([])[:79],
     "refusal 2": capture([], header=[80, 15, 24, 0, 80, 0]),
+    "another edition": capture([(0, NOP)], edition=2),
     "refusal 3": capture([], setting(3, 0x42)),
     "contradiction": capture([(0, ACTIVE), (3, READ | A10), (10, ACTIVE)], setting(7, 11)),
     "refusal 4": capture([(0, NOP), (1, NOP | 1 << 20)]),
@@ -102,6 +119,12 @@ def seeds():
         yield name, CAPTURE, capture(events, SLEEPY)
         if all(cycle < 256 for cycle, _ in events):
             yield "spelled " + name, SPELLED_ASLEEP, spelled(events, SLEEPY)
+    for name, (length, twr, twtr, events) in INTERRUPTED.items():
+        settings = setting(3, mode_word(length, False, 3), setting(9, twr, setting(10, twtr)))
+        yield name, CAPTURE, capture(events, settings, edition=1)
+        yield "spelled " + name, SPELLED | NEWER, spelled(events, settings)
+    asleep = [(0, ACTIVE), (5, WRITE), (8, PRECHARGE), (9, NOP | LOW)]
+    yield "asleep when cut", SPELLED_ASLEEP | NEWER, spelled(asleep, setting(3, mode_word(16, False, 3), setting(9, 1, SLEEPY)))
     yield "spelled rule 14", SPELLED, spelled([(99, NOP)], setting(13, 11))
     yield "too short a buffer", SPELLED | 2 << 2, spelled(EVENTS["read"])
     for name, data in REFUSED.items():

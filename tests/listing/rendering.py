@@ -16,17 +16,21 @@ COMMANDS = {getattr(captures, name.replace(" ", "_")): name for name in
             ["ACTIVE", "READ", "WRITE", "BURST TERMINATE", "PRECHARGE", "AUTO REFRESH", "MODE REGISTER SET", "NOP"]}
 
 
-def sentences():
-    """The tables of sentences in docs/LISTING.md, whose numbers are the settings of document 01's cases: of fourteen settings,
-    and of sixteen, where those of the second table stand for some of the first."""
+def tables():
+    """The tables of sentences in docs/LISTING.md, whose numbers are the settings of document 01's cases: of every capture,
+    and those that stand for some of them with sixteen settings and in edition 1."""
     with open(os.path.join(ROOT, "docs", "LISTING.md")) as f:
-        always, asleep = f.read().split("| rule, with sixteen settings |")
-    def table(text):
-        return dict(re.findall(r"^\| (\d+) \| `([^`]+)` \|$", text, re.M))
-    return {14: table(always), 16: {**table(always), **table(asleep)}}
+        text = f.read()
+    always, others = text.split("| rule, with sixteen settings |")
+    asleep, newer = others.split("| rule, in edition 1 |")
+    return [dict(re.findall(r"^\| (\d+) \| `([^`]+)` \|$", part, re.M)) for part in (always, asleep, newer)]
 
 
-SENTENCES = sentences()
+ALWAYS, ASLEEP, NEWER = tables()
+
+
+def sentence(rule, settings, edition):
+    return {**ALWAYS, **(ASLEEP if len(settings) == 16 else {}), **(NEWER if edition == 1 else {})}[str(rule)]
 
 
 def with_settings(sentence, settings):
@@ -41,12 +45,12 @@ def setting_line(i, word):
     return f"setting {i} {NAMES[i]} " + (f"0x{word:02x}" if i == 3 else str(word))
 
 
-def setting_lines(settings):
+def setting_lines(settings, edition):
     lines = [setting_line(i, word) for i, word in enumerate(settings)]
     mode = settings[3]
     order = "interleaved" if is_interleaved(mode) else "sequential"
     lines[3] += f", burst length {burst_length(mode)}, {order}, CAS latency {cas_latency(mode)}"
-    return lines
+    return lines + (["edition 1: READ and PRECHARGE may cut a write short"] if edition == 1 else [])
 
 
 def name_of(pins):
@@ -102,13 +106,14 @@ def text(lines):
     return "".join(line + "\n" for line in lines)
 
 
-def clean(events, settings):
-    return text(setting_lines(settings) + clean_lines(events))
+def clean(events, settings, edition=0):
+    return text(setting_lines(settings, edition) + clean_lines(events))
 
 
-def broken(events, settings, rule, at):
-    asks = f"rule {rule}: {with_settings(SENTENCES[len(settings)][str(rule)], settings)}"
-    return text(setting_lines(settings) + broken_lines(events, rule, at) + event_lines(events, settings, at) + [asks])
+def broken(events, settings, rule, at, edition=0):
+    asks = f"rule {rule}: {with_settings(sentence(rule, settings, edition), settings)}"
+    lines = setting_lines(settings, edition) + broken_lines(events, rule, at)
+    return text(lines + event_lines(events, settings, at) + [asks])
 
 
 def refused_setting(place, settings):

@@ -45,6 +45,29 @@ FAULTS = [
     (13, USUAL, [(0, ACTIVE), (2, ACTIVE | bank(1)), (5, READ | A10), (6, READ | bank(1))]),
 ]
 
+# The same in edition 1: events that break a rule there, those that edition 0 breaks sooner, and those that either breaks.
+FAULTS_NEWER = [
+    (3, USUAL, [(0, WRITE | bank(2))]),
+    (9, USUAL, [(0, ACTIVE), (3, WRITE), (6, PRECHARGE)]),
+    (10, USUAL, [(0, ACTIVE), (3, WRITE), (7, PRECHARGE)]),
+    (10, setting(9, 12), [(0, ACTIVE), (3, WRITE), (16, PRECHARGE | A10)]),
+    (11, USUAL, [(0, ACTIVE), (3, WRITE), (5, READ)]),
+    (11, setting(10, 12), [(0, ACTIVE), (2, ACTIVE | bank(1)), (5, WRITE | column(8)), (18, READ | bank(1))]),
+    (11, USUAL, [(0, ACTIVE), (2, ACTIVE | bank(1)), (5, WRITE | A10), (8, READ | bank(1))]),
+    (12, USUAL, [(0, ACTIVE), (3, WRITE), (6, READ), (10, WRITE)]),
+    (13, USUAL, [(0, ACTIVE), (3, WRITE), (5, BURST_TERMINATE)]),
+    (10, SLEEPY, [(0, ACTIVE), (3, WRITE), (7, PRECHARGE)]),
+    (11, SLEEPY, [(0, ACTIVE), (3, WRITE), (5, READ)]),
+    (15, SLEEPY, [(0, ACTIVE), (3, WRITE), (5, NOP | LOW)]),
+]
+
+# Clean in edition 1 alone: writes cut short by READ and by PRECHARGE.
+CLEAN_NEWER = [
+    [(0, ACTIVE), (3, WRITE), (6, READ)],
+    [(0, ACTIVE), (3, WRITE), (8, PRECHARGE)],
+    [(0, ACTIVE), (3, WRITE), (6, READ), (9, PRECHARGE | A10)],
+]
+
 # The same with sleep, under the usual settings with tXP 2 and tXSR 20.
 FAULTS_ASLEEP = [
     (1, [(0, NOP | LOW), (5, ACTIVE | LOW | 1 << 13)]),
@@ -119,6 +142,23 @@ def fault_cases_asleep(chance):
             yield capture(events, SLEEPY), rendering.broken(events, SLEEPY, rule, at)
 
 
+def cases_newer(chance):
+    """Of edition 1, whose traffic is clean in either."""
+    for rule, settings, fault in FAULTS_NEWER:
+        for before in (0, 1, 8, 9, 16):
+            start = traffic(before) if len(settings) == 14 else traffic_asleep(before)
+            events = start + [(APART * before + cycle, pins) for cycle, pins in fault]
+            at = len(events) - 1
+            events += anything(chance, before % 6, events[-1][0], settings)
+            yield capture(events, settings, edition=1), rendering.broken(events, settings, rule, at, edition=1)
+    for events in [traffic(n) for n in (0, 1, 9, 100)] + CLEAN_NEWER:
+        for settings in (USUAL, SLEEPY):
+            yield capture(events, settings, edition=1), rendering.clean(events, settings, edition=1)
+    for number in range(30):
+        settings = any_settings(chance, 16 if number % 3 == 2 else 14)
+        yield capture([(0, NOP)], settings, edition=1), rendering.clean([(0, NOP)], settings, edition=1)
+
+
 def late_cases(chance):
     """Rule 14, at the first cycle at which nine refreshes are owed."""
     for before in (0, 3, 4, 5, 7, 8, 9, 40):
@@ -171,7 +211,9 @@ def refused_cases(chance):
              (quiet(8001), 1, 0), (capture([], header=[80, 14, 24, 1, 80, 0]), 2, 0),
              (capture([], header=[80, 14, 25, 0, 80, 0]), 2, 0), (capture([], SLEEPY)[:87], 1, 0),
              (capture([], header=[80, 16, 24, 0, 80, 0]), 1, 0), (capture([], SLEEPY, [88, 16, 24, 0, 80, 0]), 2, 0),
-             (capture([], SLEEPY, [88, 15, 24, 0, 88, 0]), 2, 0), (quiet(8000, SLEEPY) + b"\0", 1, 0)]
+             (capture([], SLEEPY, [88, 15, 24, 0, 88, 0]), 2, 0), (quiet(8000, SLEEPY) + b"\0", 1, 0),
+             (capture([(0, NOP)], edition=2), 2, 0), (capture([], SLEEPY, edition=0xFFFF_FFFF), 2, 0),
+             (capture([], setting(1, 15), edition=1), 3, 1), (capture([(0, NOP | 1 << 20)], edition=1), 4, 0)]
     below_and_above = [(0, 3), (11, 15), (7, 12), (0x30, 0x42)] + [(0, 10_001)] * 9 + [(0, 1_000_001)] + [(0, 10_001)] * 2
     for i, words in enumerate(below_and_above):
         words += (0xFFFF_FFFF,)
@@ -222,7 +264,7 @@ def main():
     if wrong:
         print("WRONG the crate's stdin and stdout")
     cases = [stored_case(), *fault_cases(chance), *fault_cases_asleep(chance), *late_cases(chance), *command_cases(chance),
-             *longest_cases(), *clean_cases(chance), *refused_cases(chance)]
+             *longest_cases(), *clean_cases(chance), *refused_cases(chance), *cases_newer(chance)]
     for number, (data, expected) in enumerate(cases):
         runs = [from_file("listing", data)] + ([from_pipe("listing", data, 100, 0.001)] if number % 50 == 0 else [])
         for run in runs:

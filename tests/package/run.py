@@ -23,7 +23,7 @@ sys.dont_write_bytecode = True
 sys.path[:0] = [HERE, os.path.join(HERE, "..")]
 import elf
 import frames
-from captures import ACTIVE, LOW, NOP, READ, SLEEPY, capture, quiet, setting
+from captures import ACTIVE, LOW, NOP, READ, SLEEPY, WRITE, capture, quiet, setting
 
 X86 = os.path.join(ROOT, "tests", "x86")
 STRICT = ["-O2", "-Wall", "-Wextra", "-Wpedantic", "-Wconversion", "-Werror"]
@@ -109,11 +109,15 @@ def hold_header(folder):
 
 # ---- 3: the example
 
+READ_BACK = [(0, ACTIVE), (3, WRITE), (6, READ)]
+
 CASES = [
     ("case b at cycle 3", capture([(0, ACTIVE), (3, READ)]), 0, "clean, 2 events judged"),
     ("case a: no events", capture([]), 0, "clean, 0 events judged"),
     ("64,080 bytes, the longest capture", quiet(8000), 0, "clean, 8000 events judged"),
     ("64,088 bytes, the longest with 16 settings", quiet(8000, SLEEPY), 0, "clean, 8000 events judged"),
+    ("case h at cycle 6 in edition 1", capture(READ_BACK, edition=1), 0, "clean, 3 events judged"),
+    ("case h at cycle 6", capture(READ_BACK), 1, "breaks rule 11 at event 2, cycle 6: tWTR is not over"),
     ("case b at cycle 2", capture([(0, ACTIVE), (2, READ)]), 1, "breaks rule 8 at event 1, cycle 2: tRCD is not over"),
     ("case j at cycle 9000", capture([(9000, NOP)]), 1,
      "breaks rule 14 at event 0, cycle 9000: more than eight refreshes are owed"),
@@ -122,6 +126,7 @@ CASES = [
     ("an empty file", b"", 2, "refused (1): it is not as long as it says, or no capture is so long"),
     ("a megabyte", quiet(8000) * 16, 2, "refused (1): it is not as long as it says, or no capture is so long"),
     ("thirteen settings", capture([], header=[80, 13, 24, 0, 80, 0]), 2, "refused (2): its header is wrong"),
+    ("edition 2", capture(READ_BACK, edition=2), 2, "refused (2): its header is wrong"),
     ("a mode word of latency 4", capture([], setting(3, 0x42)), 2, "refused (3): setting 3, mode word, is out of its range"),
     ("tRC 11 beside tRAS 7 and tRP 3", capture([], setting(7, 11)), 2,
      "refused (3): setting 7, tRC, is out of its range or above tRAS + tRP"),
@@ -156,7 +161,8 @@ def hold_cases(program, folder):
         lines.append("%s: %s\n" % (path, said))
         hold(name, output(program, [path]), (status, lines[-1], ""))
     hold("all cases in one call", output(program, names), (2, "".join(lines), ""))
-    hold("those that are not refused", output(program, names[:7]), (1, "".join(lines[:7]), ""))
+    judged = sum(status < 2 for _, _, status, _ in CASES)
+    hold("those that are not refused", output(program, names[:judged]), (1, "".join(lines[:judged]), ""))
     hold("the worst first", output(program, names[::-1]), (2, "".join(lines[::-1]), ""))
     missing = os.path.join(folder, "no such file")
     there = "%s: cannot be read: No such file or directory\n" % missing

@@ -5,8 +5,10 @@ import os
 import sys
 
 sys.path.insert(0, os.path.join(os.path.dirname(os.path.abspath(__file__)), ".."))
-from captures import ACTIVE, AUTO_REFRESH, LOW, NOP, READ, SLEEPY, capture, quiet, setting
+from captures import ACTIVE, AUTO_REFRESH, LOW, NOP, PRECHARGE, READ, SLEEPY, WRITE, capture, quiet, setting, with_edition
 from running import from_file, from_pipe, unreadable
+
+READ_BACK = [(0, ACTIVE), (3, WRITE), (6, READ)]
 
 CASES = [
     ("case b at cycle 2: tRCD is 3", capture([(0, ACTIVE), (2, READ)]),
@@ -22,6 +24,10 @@ CASES = [
     ("not of its stated total", capture([]) + b"\0", "refused 1 place 0\n"),
     ("a settings count of 15", capture([], header=[80, 15, 24, 0, 80, 0]), "refused 2 place 0\n"),
     ("N does not fit the total", capture([], header=[80, 14, 24, 1, 80, 0]), "refused 2 place 0\n"),
+    ("edition 2", capture([], edition=2), "refused 2 place 0\n"),
+    ("edition 1 in the highest byte", capture([], edition=1 << 24), "refused 2 place 0\n"),
+    ("edition 2, and row bits 15", capture([], setting(1, 15), edition=2), "refused 2 place 0\n"),
+    ("edition 1, and row bits 15", capture([], setting(1, 15), edition=1), "refused 3 place 1\n"),
     ("row bits 15", capture([], setting(1, 15)), "refused 3 place 1\n"),
     ("a mode word of latency 4", capture([], setting(3, 0x42)), "refused 3 place 3\n"),
     ("a tRC of 100 for 10", capture([(0, ACTIVE)], setting(7, 100)), "refused 3 place 7\n"),
@@ -53,6 +59,16 @@ CASES = [
     ("64,089 bytes", quiet(8000, SLEEPY) + b"\0", "refused 1 place 0\n"),
     ("64,084 bytes that count 16 settings",
      capture([], SLEEPY, [64_084, 16, 24, 8000, 88, 0]) + bytes(63_996), "refused 2 place 0\n"),
+    ("edition 1: no events", capture([], edition=1), "events 0\njudged 0\nclean\n"),
+    ("edition 1: READ three cycles after WRITE", capture(READ_BACK, edition=1), "events 3\njudged 3\nclean\n"),
+    ("edition 0: the same", capture(READ_BACK), "events 3\njudged 2\nbroken rule 11 event 2 cycle 6\n"),
+    ("edition 1: PRECHARGE four cycles after WRITE", capture([(0, ACTIVE), (3, WRITE), (7, PRECHARGE)], edition=1),
+     "events 3\njudged 2\nbroken rule 10 event 2 cycle 7\n"),
+    ("edition 1 of 16 settings: asleep when the pair that is kept is in",
+     capture([(0, ACTIVE), (5, WRITE), (8, PRECHARGE), (9, NOP | LOW)], setting(3, 0x34, setting(9, 1, SLEEPY)), edition=1),
+     "events 4\njudged 4\nclean\n"),
+    ("edition 2 of 16 settings", capture([], SLEEPY, edition=2), "refused 2 place 0\n"),
+    ("edition 1: 64,080 bytes", with_edition(quiet(8000), 1), "events 8000\njudged 8000\nclean\n"),
     ("64,084 bytes that count 14 settings", capture([], header=[64_084, 14, 24, 8000, 80, 0]) + bytes(64_004), "refused 1 place 0\n"),
 ]
 

@@ -11,7 +11,8 @@ HERE = os.path.dirname(os.path.abspath(__file__))
 ROOT = os.path.join(HERE, "..", "..")
 sys.path.insert(0, os.path.join(HERE, ".."))
 import captures
-from captures import A10, LOW, SLEEPY, USUAL, bank, broken_lines, capture, clean_lines, column
+from captures import (A10, LOW, SLEEPY, USUAL, bank, broken_lines, capture, cas_latency, clean_lines, column, is_interleaved,
+                      mode_word)
 from running import from_file
 
 NAMES = ["tRCD", "tRP", "tRAS", "tRC", "tRRD", "tWR", "tWTR", "tRFC", "tMRD", "tREFI", "tXP", "tXSR"]
@@ -41,18 +42,23 @@ def event(text):
 
 def settings_with(changes, events):
     """Sixteen where tXP or tXSR is named or CKE is low."""
-    sleeps = any(pins & LOW for _, pins in events) or any(change.startswith("tX") for change in changes)
+    sleeps = any(pins & LOW for _, pins in events) or any(name.startswith("tX") for name in changes)
     settings = list(SLEEPY if sleeps else USUAL)
-    for change in changes:
-        name, value = change.split()
-        settings[4 + NAMES.index(name)] = int(value)
+    for name, value in changes.items():
+        if name == "BL":
+            settings[3] = mode_word(value, is_interleaved(settings[3]), cas_latency(settings[3]))
+        else:
+            settings[4 + NAMES.index(name)] = value
     return settings
 
 
 def example(text):
-    changes, _, list_ = text.rpartition(": ")
+    """Its events, settings and edition."""
+    named, _, list_ = text.rpartition(": ")
+    changes = {name: int(value) for name, value in (change.split() for change in named.split(", ") if change)}
+    edition = changes.pop("edition", 0)
     events = [event(words) for words in list_.split(", ")]
-    return events, settings_with(changes.split(", ") if changes else [], events)
+    return events, settings_with(changes, events), edition
 
 
 def said_lines(events, clean, rule, number, place):
@@ -65,8 +71,9 @@ def said_lines(events, clean, rule, number, place):
 def examples(page):
     """Each example with what the report has to print."""
     for text, *said in EXAMPLE.findall(page):
-        events, settings = example(text)
-        yield text, capture(events, settings), "".join(line + "\n" for line in said_lines(events, *said))
+        events, settings, edition = example(text)
+        data = capture(events, settings, edition=edition)
+        yield text, data, "".join(line + "\n" for line in said_lines(events, *said))
 
 
 def definitions():

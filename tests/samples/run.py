@@ -1,6 +1,7 @@
 #!/usr/bin/env python3
 """Holds the samples to each other: samples/make.py makes the captures that are there and the table of samples/README.md,
-tools/judge-samples prints what the table says, and the clean samples stand at the limits of the rules."""
+tools/judge-samples prints what the table says, the clean samples stand at the limits of the rules, and the board that
+interrupts writes is the same in both editions."""
 import os
 import re
 import subprocess
@@ -9,7 +10,7 @@ import tempfile
 
 HERE = os.path.dirname(os.path.abspath(__file__))
 sys.path.insert(0, os.path.join(HERE, ".."))
-from captures import setting, settings_in, with_settings
+from captures import edition_in, setting, settings_in, with_edition, with_settings
 from running import from_file
 
 ROOT = os.path.join(HERE, "..", "..")
@@ -65,6 +66,13 @@ def longest_trc(name, data):
     return [] if said[0] == said[1] and said[2] == "refused 3 place 7\n" else [f"{name} with tRC at {most} and a cycle more: {said}"]
 
 
+def of_two_editions(samples):
+    """What is wrong if one board does not stand there in edition 1 and in edition 0."""
+    newer, older = (samples[name] for name in ("clean-interrupted-writes.capture", "interrupted-writes-edition-0.capture"))
+    same = edition_in(newer) == 1 and with_edition(newer, 0) == older
+    return [] if same else ["the samples of interrupted writes differ in more than their edition"]
+
+
 def said_with(data, settings):
     return from_file("report", with_settings(data, settings)).stdout.decode()
 
@@ -83,6 +91,7 @@ def main():
     for name, data in here.items():
         if name.startswith("clean-"):
             wrong += longer(name, data) + longest_trc(name, data)
+    wrong += of_two_editions(here)
     for line in wrong:
         print("WRONG", line)
     print(f"samples: {len(here)} captures, {len(wrong)} wrong")

@@ -20,8 +20,9 @@ fn main() {
     run(Command::new("ar").arg("crs").args([&library, &object]));
     println!("cargo:rustc-link-search=native={}", out.display());
     println!("cargo:rustc-link-lib=static=c_judge");
-    for file in [source, manifest.join("../bench/judge.h")] {
-        rerun_if_changed(&file);
+    let included = ["judge.h", "walk.h"].map(|name| manifest.join("../bench").join(name));
+    for file in [source].iter().chain(&included) {
+        rerun_if_changed(file);
     }
 }
 

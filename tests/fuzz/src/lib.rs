@@ -6,7 +6,8 @@
 //!                2 words of settings and requests, 3 those spelled in few bytes
 //!     bits 2-3   the length of the lent buffer, around what is needed
 //!     bits 4-7   of words, how many of them are settings, 0 for 14;
-//!                of a spelled capture, 0 for 14 settings, else 16
+//!                of a spelled capture, bit 4 0 for 14 settings, 1 for 16, and bit 5 the
+//!                edition
 
 mod spelled;
 
@@ -48,8 +49,9 @@ fn compare_input(archive: &mut Archive, input: &[u8]) {
     match how & 3 {
         0 => compare_captures(archive, rest, room),
         1 => {
-            let settings = if how < 16 { SETTINGS } else { SLEEP_SETTINGS };
-            compare_captures(archive, &spelled::capture(rest, settings), room);
+            let settings = [SETTINGS, SLEEP_SETTINGS][usize::from(how >> 4 & 1)];
+            let edition = u32::from(how >> 5 & 1);
+            compare_captures(archive, &spelled::capture(rest, settings, edition), room);
         }
         2 => {
             let words: Vec<u32> = spelled::words(rest).collect();

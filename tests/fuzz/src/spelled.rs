@@ -2,11 +2,11 @@
 //! in range, tRC is at most tRAS + tRP and cycles rise, so that the fuzzer gets past the
 //! refusals.
 
-use second::capture::{bytes_of, Event, SETTINGS, SLEEP_SETTINGS};
+use second::capture::{bytes_of_edition, Event, SETTINGS, SLEEP_SETTINGS};
 
 /// So many settings, then four bytes an event: three of pins, and one of cycles since the
 /// event before.
-pub fn capture(bytes: &[u8], count: usize) -> Vec<u8> {
+pub fn capture(bytes: &[u8], count: usize, edition: u32) -> Vec<u8> {
     let (settings, rest) = settings(bytes, count);
     let pins = if count == SLEEP_SETTINGS {
         0x1f_ffff
@@ -24,7 +24,7 @@ pub fn capture(bytes: &[u8], count: usize) -> Vec<u8> {
             }
         })
         .collect();
-    bytes_of(&settings, &events)
+    bytes_of_edition(edition, &settings, &events)
 }
 
 /// Settings, then a word each request, of a cell that the part has.

@@ -6,6 +6,8 @@ use crate::command::Asked;
 pub const SETTINGS: usize = 14;
 pub const SLEEP_SETTINGS: usize = 16;
 pub const HEADER_BYTES: usize = 24;
+/// The byte at which the header's sixth word starts, the edition.
+pub const EDITION_AT: usize = 20;
 pub const EVENT_BYTES: usize = 8;
 pub const MOST_EVENTS: u32 = 8_000;
 pub const LAST_CYCLE: u32 = 2_000_000_000;
@@ -47,6 +49,32 @@ pub fn events_at(settings: usize) -> usize {
 /// The length of a capture with so many settings and events.
 pub fn total_bytes(settings: usize, events: u32) -> u64 {
     events_at(settings) as u64 + EVENT_BYTES as u64 * u64::from(events)
+}
+
+/// The rules that a capture is held to, by its sixth header word.
+#[derive(Clone, Copy, Debug, PartialEq, Eq, PartialOrd, Ord)]
+pub enum Edition {
+    /// Document 01's.
+    Zero,
+    /// The newer sheets': a READ or PRECHARGE may cut a write short.
+    One,
+}
+
+impl Edition {
+    pub fn read(word: u32) -> Option<Edition> {
+        match word {
+            0 => Some(Edition::Zero),
+            1 => Some(Edition::One),
+            _ => None,
+        }
+    }
+
+    pub fn word(self) -> u32 {
+        match self {
+            Edition::Zero => 0,
+            Edition::One => 1,
+        }
+    }
 }
 
 /// The settings that a capture is laid out for: 16 where its count word is 16, else 14.
@@ -212,6 +240,7 @@ impl Event {
 /// A capture that none of refusals 1 to 4 turns down.
 #[derive(Clone, Debug, PartialEq, Eq)]
 pub struct Capture {
+    pub edition: Edition,
     pub settings: Settings,
     pub events: Vec<Event>,
 }
@@ -219,11 +248,15 @@ pub struct Capture {
 impl Capture {
     pub fn read(bytes: &[u8]) -> Result<Capture, Refusal> {
         check_length(bytes)?;
-        check_header(bytes)?;
+        let edition = check_header(bytes)?;
         let events_at = events_at(settings_of_layout(bytes));
         let settings = Settings::read(&words(&bytes[HEADER_BYTES..events_at]))?;
         let events = read_events(&bytes[events_at..], pin_bits(&settings))?;
-        Ok(Capture { settings, events })
+        Ok(Capture {
+            edition,
+            settings,
+            events,
+        })
     }
 }
 
@@ -241,24 +274,22 @@ fn check_length(bytes: &[u8]) -> Result<(), Refusal> {
     Ok(())
 }
 
-/// Refusal 2.
-fn check_header(bytes: &[u8]) -> Result<(), Refusal> {
+/// Refusal 2, or the edition.
+fn check_header(bytes: &[u8]) -> Result<Edition, Refusal> {
     let header = words(&bytes[..HEADER_BYTES]);
-    let [total, settings_count, settings_at, events_count, events_at, last] = header[..] else {
+    let [total, settings_count, settings_at, events_count, events_at, edition] = header[..] else {
         unreachable!("the header is six words");
     };
     let settings = settings_of_layout(bytes);
     let as_stated = settings_count == settings as u32
         && settings_at == HEADER_BYTES as u32
         && events_count <= MOST_EVENTS
-        && events_at as usize == self::events_at(settings)
-        && last == 0;
+        && events_at as usize == self::events_at(settings);
     // In 64 bits, so that no event count wraps round to a fitting total.
     let total_fits = u64::from(total) == total_bytes(settings, events_count);
-    if as_stated && total_fits {
-        Ok(())
-    } else {
-        refused(2, 0)
+    match Edition::read(edition) {
+        Some(edition) if as_stated && total_fits => Ok(edition),
+        _ => refused(2, 0),
     }
 }
 
@@ -301,9 +332,14 @@ pub fn words(bytes: &[u8]) -> Vec<u32> {
     (0..bytes.len() / 4).map(|i| word(bytes, 4 * i)).collect()
 }
 
-/// The bytes of a capture, laid out for as many settings as there are. Nothing is checked,
-/// so bad captures can be written too.
+/// The bytes of a capture of edition 0, laid out for as many settings as there are. Nothing
+/// is checked, so bad captures can be written too.
 pub fn bytes_of(settings: &[u32], events: &[Event]) -> Vec<u8> {
+    bytes_of_edition(Edition::Zero.word(), settings, events)
+}
+
+/// The same with any sixth header word.
+pub fn bytes_of_edition(edition: u32, settings: &[u32], events: &[Event]) -> Vec<u8> {
     let count = events.len() as u32;
     let header = [
         total_bytes(settings.len(), count) as u32,
@@ -311,7 +347,7 @@ pub fn bytes_of(settings: &[u32], events: &[Event]) -> Vec<u8> {
         HEADER_BYTES as u32,
         count,
         events_at(settings.len()) as u32,
-        0,
+        edition,
     ];
     let events = events.iter().flat_map(|event| [event.cycle, event.pins]);
     header

@@ -1,6 +1,6 @@
 //! The part as document 01 tells it: banks, the mode word, and a record of every burst.
 
-use crate::capture::{Mode, Settings};
+use crate::capture::{Edition, Mode, Settings};
 use crate::command::{column_of, Asked, Command, Named, BANKS, MODE_REGISTER};
 use crate::refresh::Owed;
 use crate::sleep::{Sleep, State};
@@ -65,6 +65,30 @@ impl Burst {
             self.kept = self.kept.min(cycle - self.given);
         }
     }
+
+    /// Where a write's wait for a READ or PRECHARGE begins. In edition 1 one pair has to be
+    /// in, of a write that may be cut; the data end otherwise.
+    pub fn waited_from(&self, edition: Edition) -> u64 {
+        if self.may_be_interrupted(edition) {
+            self.given + 2
+        } else {
+            self.data_end()
+        }
+    }
+
+    /// Cuts a write to the pairs that are in before a wait that ends at a cycle.
+    fn interrupt_at(&mut self, cycle: u64, wait: u64, edition: Edition) {
+        if self.may_be_interrupted(edition) {
+            let pairs = cycle
+                .checked_sub(wait + self.given + 1)
+                .expect("rules 10 and 11 want a pair to be in");
+            self.kept = self.kept.min(pairs);
+        }
+    }
+
+    fn may_be_interrupted(&self, edition: Edition) -> bool {
+        edition == Edition::One && self.direction == Direction::Write && !self.auto_precharge
+    }
 }
 
 #[derive(Clone, Copy, Debug, Default, PartialEq, Eq)]
@@ -103,6 +127,7 @@ const LONGEST_RUN: u64 = 9;
 
 #[derive(Clone, Debug, PartialEq, Eq)]
 pub struct Part {
+    pub edition: Edition,
     pub settings: Settings,
     pub mode: Mode,
     pub banks: [Bank; BANKS],
@@ -118,8 +143,9 @@ pub struct Part {
 }
 
 impl Part {
-    pub fn new(settings: Settings, look_back: LookBack) -> Part {
+    pub fn new(edition: Edition, settings: Settings, look_back: LookBack) -> Part {
         Part {
+            edition,
             settings,
             mode: settings.mode,
             banks: [Bank::default(); BANKS],
@@ -151,20 +177,44 @@ impl Part {
     }
 
     pub fn last_burst(&self, direction: Direction) -> Option<&Burst> {
+        self.last_place(direction).map(|place| &self.bursts[place])
+    }
+
+    fn last_place(&self, direction: Direction) -> Option<usize> {
         self.bursts
             .iter()
-            .rev()
-            .find(|burst| burst.direction == direction)
+            .rposition(|burst| burst.direction == direction)
     }
 
     /// The last write to a bank since the bank's ACTIVE.
     pub fn last_write_of_row(&self, bank: usize) -> Option<&Burst> {
+        self.row_write_place(bank).map(|place| &self.bursts[place])
+    }
+
+    fn row_write_place(&self, bank: usize) -> Option<usize> {
         let active = self.banks[bank].active?;
-        self.bursts
-            .iter()
+        (0..self.bursts.len())
             .rev()
-            .take_while(|burst| burst.given > active)
-            .find(|burst| burst.direction == Direction::Write && burst.bank == bank)
+            .take_while(|&place| self.bursts[place].given > active)
+            .find(|&place| {
+                let burst = &self.bursts[place];
+                burst.direction == Direction::Write && burst.bank == bank
+            })
+    }
+
+    /// Whether some write keeps fewer pairs than the writes after it have left it.
+    pub fn has_interrupted_write(&self) -> bool {
+        let writes: Vec<&Burst> = self
+            .bursts
+            .iter()
+            .filter(|burst| burst.direction == Direction::Write)
+            .collect();
+        let pairs = |burst: &Burst| burst.mode.pairs();
+        let shorter = |pair: &[&Burst]| {
+            let until_next = pair[1].given - pair[0].given;
+            pair[0].kept < pairs(pair[0]).min(until_next)
+        };
+        writes.windows(2).any(shorter) || writes.last().is_some_and(|last| last.kept < pairs(last))
     }
 
     /// What an event does, once the rules have passed it.
@@ -181,6 +231,7 @@ impl Part {
 
     fn apply_awake(&mut self, cycle: u64, command: Command) {
         self.cut_bursts(cycle, command);
+        self.interrupt_writes(cycle, command);
         match command {
             Command::Deselect | Command::Nop | Command::BurstTerminate => {}
             Command::Active { bank, row } => {
@@ -224,6 +275,31 @@ impl Part {
         }
     }
 
+    /// In edition 1 a READ cuts the last write, of whatever bank, and a PRECHARGE the last
+    /// write of each row that it closes.
+    fn interrupt_writes(&mut self, cycle: u64, command: Command) {
+        let (places, wait) = match command {
+            Command::Read { .. } => {
+                let last = self.last_place(Direction::Write);
+                (Vec::from_iter(last), self.settings.t_wtr)
+            }
+            Command::Precharge { banks } => {
+                let closed = (0..BANKS).filter(|&bank| self.closes(banks, bank));
+                let last = closed.filter_map(|bank| self.row_write_place(bank));
+                (last.collect(), self.settings.t_wr)
+            }
+            _ => return,
+        };
+        for place in places {
+            self.bursts[place].interrupt_at(cycle, wait, self.edition);
+        }
+    }
+
+    /// Whether a PRECHARGE of the banks named closes a row of this one.
+    pub fn closes(&self, named: Named, bank: usize) -> bool {
+        named.names(bank) && self.banks[bank].is_open()
+    }
+
     fn start_burst(
         &mut self,
         cycle: u64,
@@ -261,9 +337,9 @@ impl Part {
     }
 
     fn precharge(&mut self, cycle: u64, named: Named) {
-        for (number, bank) in self.banks.iter_mut().enumerate() {
-            if named.names(number) && bank.is_open() {
-                bank.close(cycle);
+        for bank in 0..BANKS {
+            if self.closes(named, bank) {
+                self.banks[bank].close(cycle);
             }
         }
     }

@@ -127,7 +127,7 @@ fn rule_8(part: &Part, cycle: u64, asked: Asked) -> bool {
 fn precharged_banks_pass(part: &Part, command: Command, test: impl Fn(usize) -> bool) -> bool {
     match command {
         Command::Precharge { banks } => (0..BANKS)
-            .filter(|&bank| banks.names(bank) && part.banks[bank].is_open())
+            .filter(|&bank| part.closes(banks, bank))
             .all(test),
         _ => true,
     }
@@ -140,23 +140,36 @@ fn rule_9(part: &Part, cycle: u64, asked: Asked) -> bool {
     })
 }
 
-/// tWR from the data end of the row's last write to PRECHARGE.
+/// tWR from the row's last write to PRECHARGE.
 fn rule_10(part: &Part, cycle: u64, asked: Asked) -> bool {
     precharged_banks_pass(part, asked.command, |bank| {
-        let data_end = part.last_write_of_row(bank).map(Burst::data_end);
-        waited(cycle, part.settings.t_wr, data_end)
+        waited_after_write(
+            part,
+            cycle,
+            part.settings.t_wr,
+            part.last_write_of_row(bank),
+        )
     })
 }
 
-/// tWTR from the data end of the last write, whatever its bank, to READ.
+/// tWTR from the last write, whatever its bank, to READ.
 fn rule_11(part: &Part, cycle: u64, asked: Asked) -> bool {
     match asked.command {
         Command::Read { .. } => {
-            let data_end = part.last_burst(Direction::Write).map(Burst::data_end);
-            waited(cycle, part.settings.t_wtr, data_end)
+            let last = part.last_burst(Direction::Write);
+            waited_after_write(part, cycle, part.settings.t_wtr, last)
         }
         _ => true,
     }
+}
+
+/// From its data end, or in edition 1 from its first pair if it may be cut.
+fn waited_after_write(part: &Part, cycle: u64, time: u64, write: Option<&Burst>) -> bool {
+    waited(
+        cycle,
+        time,
+        write.map(|write| write.waited_from(part.edition)),
+    )
 }
 
 /// The last read has left the bus.

@@ -1,6 +1,6 @@
 //! The schedule of a request list, each command found by trying cycle after cycle.
 
-use crate::capture::{bytes_of, refused, Event, Refusal, Settings};
+use crate::capture::{bytes_of, refused, Edition, Event, Refusal, Settings};
 use crate::command::{address_of, Asked, Command};
 use crate::part::{LookBack, Part};
 use crate::refresh::MOST_OWED;
@@ -127,7 +127,7 @@ struct Plan {
 impl Plan {
     fn new(settings: Settings, look_back: LookBack) -> Plan {
         Plan {
-            part: Part::new(settings, look_back),
+            part: Part::new(Edition::Zero, settings, look_back),
             events: Vec::new(),
         }
     }

@@ -1,6 +1,6 @@
 //! The judge and the burst list.
 
-use crate::capture::{refused, Capture, Event, Refusal, Settings};
+use crate::capture::{refused, Capture, Event, Refusal};
 use crate::part::{LookBack, Part};
 use crate::rules::lowest_broken;
 
@@ -34,7 +34,7 @@ pub fn judge_literally(capture: &[u8]) -> Answer {
 fn judge_looking_back(capture: &[u8], look_back: LookBack) -> Answer {
     match Capture::read(capture) {
         Err(Refusal { number, place }) => Answer::Refused { number, place },
-        Ok(capture) => match walk(capture.settings, &capture.events, look_back) {
+        Ok(capture) => match walk(&capture, look_back) {
             Ok(_) => Answer::Clean {
                 judged: capture.events.len() as u32,
             },
@@ -61,9 +61,9 @@ impl Broken {
 }
 
 /// The part after all events, or where they first break a rule.
-fn walk(settings: Settings, events: &[Event], look_back: LookBack) -> Result<Part, Broken> {
-    let mut part = Part::new(settings, look_back);
-    for (number, event) in events.iter().enumerate() {
+fn walk(capture: &Capture, look_back: LookBack) -> Result<Part, Broken> {
+    let mut part = Part::new(capture.edition, capture.settings, look_back);
+    for (number, event) in capture.events.iter().enumerate() {
         let cycle = u64::from(event.cycle);
         let asked = event.asked();
         if let Some(rule) = lowest_broken(&part, cycle, asked) {
@@ -80,8 +80,7 @@ fn walk(settings: Settings, events: &[Event], look_back: LookBack) -> Result<Par
 /// The part after all events of a clean capture; refusals 1 to 4, then 8.
 pub fn part_after(capture: &[u8], look_back: LookBack) -> Result<Part, Refusal> {
     let capture = Capture::read(capture)?;
-    walk(capture.settings, &capture.events, look_back)
-        .or_else(|broken| refused(8, broken.event as u32))
+    walk(&capture, look_back).or_else(|broken| refused(8, broken.event as u32))
 }
 
 /// Writes the cells of all kept beats, and answers how many they are.

@@ -1,7 +1,9 @@
 //! Implementations held against each other on generated inputs: the literal one, the one
 //! that looks only at running bursts, and the C.
 
-use second::capture::{bytes_of, word, Capture, Refusal, HEADER_BYTES, SETTINGS};
+use second::capture::{
+    bytes_of_edition, word, Capture, Edition, Refusal, HEADER_BYTES, SETTINGS, SLEEP_SETTINGS,
+};
 use second::generate::{input, Dice, Input, Tally, NO_RULE};
 use second::schedule::schedule_literally;
 use second::verdict::{cells_literally, judge_literally};
@@ -61,7 +63,7 @@ fn everything_comes_up() {
                 let answer = judge(&capture);
                 tally.count_answer(&capture, answer);
                 full_and_clean += u32::from(answer == Answer::Clean { judged: 8_000 });
-                tally.count_cells(&capture, cells(&capture, &mut [0; 7]));
+                tally.count_cells(&capture, cells(&capture, &mut [0; 40]));
             }
             Input::Requests { settings, requests } => {
                 let answer = schedule(&settings, &requests, &mut [0; 2_000]);
@@ -71,12 +73,20 @@ fn everything_comes_up() {
     }
     println!("{tally}");
     assert_eq!(tally.missing(), [""; 0]);
-    for rules in [&tally.awake.rules[..14], &tally.sleeping.rules] {
-        for (rule, &count) in (1..).zip(rules) {
-            if rule == NO_RULE {
-                assert_eq!(count, 0, "there is no rule {rule}");
+    for edition in [Edition::Zero, Edition::One] {
+        for (settings, rules) in [(SETTINGS, 14), (SLEEP_SETTINGS, 15)] {
+            let counts = tally.of((settings, Some(edition)));
+            for (rule, &count) in (1..).zip(&counts.rules[..rules]) {
+                if rule == NO_RULE {
+                    assert_eq!(count, 0, "there is no rule {rule}");
+                } else {
+                    assert!(count >= 30, "rule {rule} came up {count} times");
+                }
+            }
+            if edition == Edition::Zero {
+                assert_eq!(counts.interrupted, 0, "only edition 1 cuts writes so");
             } else {
-                assert!(count >= 30, "rule {rule} came up {count} times");
+                assert!(counts.interrupted >= 100, "too few writes are cut short");
             }
         }
     }
@@ -201,7 +211,7 @@ fn two_settings_more_change_nothing_while_cke_is_high() {
         if capture.settings.wake.is_none() {
             let settings = (0..SETTINGS).map(|place| word(&bytes, HEADER_BYTES + 4 * place));
             let list: Vec<u32> = settings.chain([1, 1]).collect();
-            let sleepy = bytes_of(&list, &capture.events);
+            let sleepy = bytes_of_edition(capture.edition.word(), &list, &capture.events);
             assert_eq!(judge(&sleepy), judge(&bytes));
             let written = tried_cells(
                 &|c, out| packed::of_count(cells(c, out)),

@@ -3,7 +3,7 @@
 mod common;
 
 use common::*;
-use second::capture::{bytes_of, Event, SETTINGS};
+use second::capture::{bytes_of, bytes_of_edition, Event, SETTINGS};
 use second::command::Command::{self, Nop};
 use second::{cells, schedule, Refusal};
 
@@ -56,9 +56,8 @@ fn the_other_refusals_of_a_capture() {
     refuses(3, 7, &bytes_of(&T_RC_11, &[SPARE_PIN]));
     let sleepy = with_wake(T_RC_11, [2, 20]);
     refuses(3, 7, &bytes_of(&sleepy, &[SPARE_PIN]));
-    let mut last_word = bytes_of(&T_RC_11, &[]);
-    last_word[20] = 1;
-    refuses(2, 0, &last_word);
+    refuses(2, 0, &bytes_of_edition(2, &T_RC_11, &[]));
+    refuses(3, 7, &bytes_of_edition(1, &T_RC_11, &[]));
     refuses(1, 0, &bytes_of(&T_RC_11, &[])[..79]);
 }
 

@@ -341,7 +341,8 @@ fn header_refusals() {
     refuses(2, 0, &changed(3, 1));
     refuses(2, 0, &changed(3, 1 << 29)); // 8 x 2^29 would wrap to 0 in 32 bits
     refuses(2, 0, &changed(4, 88));
-    refuses(2, 0, &changed(5, 1));
+    refuses(2, 0, &changed(5, 2));
+    refuses(2, 0, &changed(5, u32::MAX));
 }
 
 #[test]

@@ -251,7 +251,8 @@ fn header_refusals() {
     refuses(2, 0, &changed(&good, 2, 28));
     refuses(2, 0, &changed(&good, 3, 1));
     refuses(2, 0, &changed(&good, 4, 80));
-    refuses(2, 0, &changed(&good, 5, 1));
+    refuses(2, 0, &changed(&good, 5, 2));
+    refuses(2, 0, &changed(&good, 5, u32::MAX));
 }
 
 #[test]

@@ -7,7 +7,8 @@
 use std::path::Path;
 use std::{env, fs, io};
 
-use second::capture::{bytes_of, Event, Settings, SETTINGS};
+use second::capture::Edition::{self, One, Zero};
+use second::capture::{bytes_of_edition, Event, Settings, SETTINGS};
 use second::command::Named::All;
 use second::command::{Asked, Command};
 use second::generate::{busy_capture, Dice};
@@ -17,6 +18,7 @@ use second::{judge, schedule, Answer};
 
 /// A real part: 64M x 16 at 6 ns.
 const PART: [u32; SETTINGS] = [1, 14, 10, 0x32, 3, 3, 7, 10, 2, 3, 1, 12, 2, 1_300];
+const BL_2: u32 = 0x31;
 const BL_16: u32 = 0x34;
 /// Its tXP and tXSR.
 const WAKE: [u32; 2] = [2, 20];
@@ -56,21 +58,33 @@ fn first_of(capture: &[u8], events: u32) -> Vec<u8> {
 fn captures() -> Vec<(&'static str, Vec<u8>)> {
     let mut dice = Dice::new(1);
     vec![
-        ("NOP alone", repeated(&PART, &[], &[Command::Nop.into()])),
-        ("one open row, reads", streaming(PART, false)),
+        (
+            "NOP alone",
+            repeated(Zero, &PART, &[], &[Command::Nop.into()]),
+        ),
+        ("one open row, reads", streaming(Zero, PART, false)),
         (
             "one open row, reads and writes",
-            streaming(with_mode(BL_16), true),
+            streaming(Zero, with_mode(BL_16), true),
         ),
         ("a schedule", schedule_capture()),
-        ("random commands", busy_capture(&mut dice, &PART)),
+        ("random commands", busy_capture(&mut dice, Zero, &PART)),
         (
             "random commands, BL 16",
-            busy_capture(&mut dice, &with_mode(BL_16)),
+            busy_capture(&mut dice, Zero, &with_mode(BL_16)),
         ),
         ("power-down between frames", power_down()),
         ("self refresh between frames", self_refresh()),
         ("asleep, NOP alone", asleep()),
+        (
+            "edition 1, reads and writes",
+            streaming(One, with_mode(BL_16), true),
+        ),
+        (
+            "edition 1, random, BL 16",
+            busy_capture(&mut dice, One, &with_mode(BL_16)),
+        ),
+        ("edition 1, writes in one tWR", writes_within_t_wr()),
     ]
 }
 
@@ -85,9 +99,9 @@ fn that_sleeps() -> Vec<u32> {
 }
 
 /// Some events, then others over and over, each as early as it may be.
-fn repeated(settings: &[u32], first: &[Asked], then: &[Asked]) -> Vec<u8> {
+fn repeated(edition: Edition, settings: &[u32], first: &[Asked], then: &[Asked]) -> Vec<u8> {
     let read = Settings::read(settings).expect("valid settings");
-    let mut part = Part::new(read, LookBack::Running);
+    let mut part = Part::new(edition, read, LookBack::Running);
     let mut events = Vec::new();
     let mut next = 0;
     for &asked in first.iter().chain(then.iter().cycle()).take(8_000) {
@@ -99,7 +113,7 @@ fn repeated(settings: &[u32], first: &[Asked], then: &[Asked]) -> Vec<u8> {
         });
         next = cycle + 1;
     }
-    bytes_of(settings, &events)
+    bytes_of_edition(edition.word(), settings, &events)
 }
 
 /// A few reads of one row, which is closed again.
@@ -123,7 +137,7 @@ fn power_down() -> Vec<u8> {
         Command::Nop.low(),
         Command::Nop.into(),
     ]);
-    repeated(&that_sleeps(), &[], &events)
+    repeated(Zero, &that_sleeps(), &[], &events)
 }
 
 fn self_refresh() -> Vec<u8> {
@@ -133,16 +147,17 @@ fn self_refresh() -> Vec<u8> {
         Command::Nop.low(),
         Command::Nop.into(),
     ]);
-    repeated(&that_sleeps(), &[], &events)
+    repeated(Zero, &that_sleeps(), &[], &events)
 }
 
 fn asleep() -> Vec<u8> {
     let entry = Command::AutoRefresh.low();
-    repeated(&that_sleeps(), &[entry], &[Command::Nop.low()])
+    repeated(Zero, &that_sleeps(), &[entry], &[Command::Nop.low()])
 }
 
-/// Bursts in one row, closed and refreshed now and then.
-fn streaming(settings: [u32; SETTINGS], with_writes: bool) -> Vec<u8> {
+/// Bursts in one row, closed and refreshed now and then. In edition 1 each read comes as soon
+/// as one pair of the write before it is in, and so does the PRECHARGE.
+fn streaming(edition: Edition, settings: [u32; SETTINGS], with_writes: bool) -> Vec<u8> {
     let mut commands = vec![Command::Active { bank: 1, row: 77 }];
     for column in 0..60 {
         let address = 16 * column;
@@ -164,7 +179,25 @@ fn streaming(settings: [u32; SETTINGS], with_writes: bool) -> Vec<u8> {
     }
     commands.extend([Command::Precharge { banks: All }, Command::AutoRefresh]);
     let events: Vec<Asked> = commands.into_iter().map(Asked::from).collect();
-    repeated(&settings, &[], &events)
+    repeated(edition, &settings, &[], &events)
+}
+
+/// A write at every cycle, of four rows in turn, with a tWR that none of them sees the end
+/// of: a burst list that looks ahead for a PRECHARGE as long as one could cut looks through
+/// all of them from each.
+fn writes_within_t_wr() -> Vec<u8> {
+    let mut settings = with_mode(BL_2);
+    settings[9] = 10_000;
+    let open = [0, 1, 2, 3].map(|bank| Command::Active { bank, row: 77 }.into());
+    let write = |bank| {
+        Command::Write {
+            bank,
+            address: 0,
+            auto_precharge: false,
+        }
+        .into()
+    };
+    repeated(One, &settings, &open, &[0, 1, 2, 3].map(write))
 }
 
 fn requests() -> Vec<u32> {

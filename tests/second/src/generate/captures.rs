@@ -2,9 +2,11 @@
 
 use super::settings::{self, Kind};
 use super::{Dice, NO_RULE};
-use crate::capture::{bytes_of, Event, Settings, LAST_CYCLE, MOST_EVENTS, T_REFI_SETTING};
+use crate::capture::{
+    bytes_of_edition, Edition, Event, Settings, LAST_CYCLE, MOST_EVENTS, T_REFI_SETTING,
+};
 use crate::command::{Asked, Command, Named, BANKS, EXTENDED_REGISTER, LOW, MODE_REGISTER};
-use crate::part::{LookBack, Part};
+use crate::part::{Burst, Direction, LookBack, Part};
 use crate::refresh::MOST_OWED;
 use crate::rules::lowest_broken;
 use crate::schedule::earliest;
@@ -16,25 +18,26 @@ const PINS: u32 = 0xf_ffff;
 /// How many events are tried in search of one that breaks the rule drawn.
 const FAULT_TRIES: u32 = 16;
 
-/// A capture that no refusal turns down: clean, or broken somewhere.
+/// A capture that no refusal turns down, of either edition: clean, or broken somewhere.
 pub fn guided_capture(dice: &mut Dice) -> Vec<u8> {
+    let edition = dice.pick(&[Edition::Zero, Edition::One]);
     match dice.below(1_000) {
-        0..=29 => random_capture(dice),
-        30..=32 => late_capture(dice),
-        33..=36 => full_capture(dice),
-        37..=299 => hasty_capture(dice),
-        _ => usual_capture(dice),
+        0..=29 => random_capture(dice, edition),
+        30..=32 => late_capture(dice, edition),
+        33..=36 => full_capture(dice, edition),
+        37..=299 => hasty_capture(dice, edition),
+        _ => usual_capture(dice, edition),
     }
 }
 
 /// A full, clean capture with given settings, whose tREFI must leave room for refreshes.
-pub fn busy_capture(dice: &mut Dice, list: &[u32]) -> Vec<u8> {
-    build(dice, list, MOST_EVENTS, 0)
+pub fn busy_capture(dice: &mut Dice, edition: Edition, list: &[u32]) -> Vec<u8> {
+    build(dice, edition, list, MOST_EVENTS, 0)
 }
 
-fn usual_capture(dice: &mut Dice) -> Vec<u8> {
+fn usual_capture(dice: &mut Dice, edition: Edition) -> Vec<u8> {
     let kind = settings::kind(dice);
-    let list = settings::capture_settings(dice, kind);
+    let list = settings::capture_settings(dice, edition, kind);
     let wanted = match (kind, dice.below(40)) {
         (Kind::Limits, _) => dice.below(10),
         (_, 0) => 0,
@@ -43,62 +46,75 @@ fn usual_capture(dice: &mut Dice) -> Vec<u8> {
         _ => dice.between(1, 40),
     };
     let fault_once_in = dice.pick(&[0, 0, 1, 2, 3, 5, 10, 20]);
-    build(dice, &list, wanted, fault_once_in)
+    build(dice, edition, &list, wanted, fault_once_in)
 }
 
 /// As many events as a capture may hold.
-fn full_capture(dice: &mut Dice) -> Vec<u8> {
+fn full_capture(dice: &mut Dice, edition: Edition) -> Vec<u8> {
     let kind = dice.pick(&[Kind::Short, Kind::RealPart]);
-    let mut list = settings::capture_settings(dice, kind);
+    // Edition 1 may draw waits of thousands of cycles, which take too long to try so often.
+    let mut list = settings::capture_settings(dice, Edition::Zero, kind);
     list[T_REFI_SETTING] = dice.between(200, 10_000);
     let fault_once_in = dice.pick(&[0, 0, 2_000]);
-    build(dice, &list, MOST_EVENTS, fault_once_in)
+    build(dice, edition, &list, MOST_EVENTS, fault_once_in)
 }
 
 /// Refreshes up to the last cycles that a capture may name, and some commands there.
-fn late_capture(dice: &mut Dice) -> Vec<u8> {
+fn late_capture(dice: &mut Dice, edition: Edition) -> Vec<u8> {
     let kind = dice.pick(&[Kind::Short, Kind::RealPart, Kind::Limits]);
-    let mut list = settings::capture_settings(dice, kind);
+    let mut list = settings::capture_settings(dice, edition, kind);
     let t_refi = 1_000_000;
     list[T_REFI_SETTING] = t_refi;
     let multiples = LAST_CYCLE / t_refi - 1;
     let fault_once_in = dice.pick(&[0, 5]);
     let wanted = multiples + dice.between(2, 20);
-    let mut builder = Builder::new(dice, &list);
+    let mut builder = Builder::new(dice, edition, &list);
     builder.refresh_before_multiples(multiples);
     builder.go_to_the_end();
     builder.fill(wanted, fault_once_in);
-    bytes_of(&list, &builder.events)
+    builder.bytes(&list)
 }
 
-fn build(dice: &mut Dice, list: &[u32], wanted: u32, fault_once_in: u32) -> Vec<u8> {
-    let mut builder = Builder::new(dice, list);
+fn build(
+    dice: &mut Dice,
+    edition: Edition,
+    list: &[u32],
+    wanted: u32,
+    fault_once_in: u32,
+) -> Vec<u8> {
+    let mut builder = Builder::new(dice, edition, list);
     builder.fill(wanted, fault_once_in);
-    bytes_of(list, &builder.events)
+    builder.bytes(list)
 }
 
 /// Commands a few cycles apart, whether or not the rules have them wait longer. What breaks
 /// a rule is mostly put right, and else ends the capture.
-fn hasty_capture(dice: &mut Dice) -> Vec<u8> {
-    let list = settings::capture_settings(dice, Kind::Tight);
+fn hasty_capture(dice: &mut Dice, edition: Edition) -> Vec<u8> {
+    let list = settings::capture_settings(dice, edition, Kind::Tight);
     let wanted = dice.between(1, 80);
-    let mut builder = Builder::new(dice, &list);
+    let mut builder = Builder::new(dice, edition, &list);
     while builder.events.len() < wanted as usize {
-        if !builder.add_hasty() {
+        let spares = edition == Edition::One && builder.dice.percent(10);
+        let added = if spares {
+            builder.add_spared_write()
+        } else {
+            builder.add_hasty()
+        };
+        if !added {
             builder.add_random_tail(wanted);
             break;
         }
     }
-    bytes_of(&list, &builder.events)
+    builder.bytes(&list)
 }
 
 /// Any pins on rising cycles.
-fn random_capture(dice: &mut Dice) -> Vec<u8> {
+fn random_capture(dice: &mut Dice, edition: Edition) -> Vec<u8> {
     let kind = settings::kind(dice);
-    let list = settings::capture_settings(dice, kind);
-    let mut builder = Builder::new(dice, &list);
+    let list = settings::capture_settings(dice, edition, kind);
+    let mut builder = Builder::new(dice, edition, &list);
     builder.add_random_tail(40);
-    bytes_of(&list, &builder.events)
+    builder.bytes(&list)
 }
 
 /// What makes one capture differ from the next in manner.
@@ -192,10 +208,10 @@ struct Builder<'a> {
 }
 
 impl<'a> Builder<'a> {
-    fn new(dice: &'a mut Dice, list: &[u32]) -> Builder<'a> {
+    fn new(dice: &'a mut Dice, edition: Edition, list: &[u32]) -> Builder<'a> {
         let settings = Settings::read(list).expect("the generated settings are valid");
         let style = Style::new(dice, settings.wake.is_some());
-        let part = Part::new(settings, LookBack::Running);
+        let part = Part::new(edition, settings, LookBack::Running);
         Builder {
             dice,
             style,
@@ -204,6 +220,10 @@ impl<'a> Builder<'a> {
             next: 0,
             paying_back: false,
         }
+    }
+
+    fn bytes(&self, list: &[u32]) -> Vec<u8> {
+        bytes_of_edition(self.part.edition.word(), list, &self.events)
     }
 
     /// A refresh before each of so many multiples of tREFI but the first, some of which
@@ -304,6 +324,9 @@ impl<'a> Builder<'a> {
         if refreshes && soonest <= self.due() && self.dice.percent(40) {
             cycle = self.telling_cycle(soonest);
         }
+        if self.part.edition == Edition::One && self.dice.percent(40) {
+            cycle = self.cutting_cycle(asked.command, cycle);
+        }
         if cycle > self.due() || cycle > u64::from(LAST_CYCLE) {
             return false;
         }
@@ -318,6 +341,58 @@ impl<'a> Builder<'a> {
         self.dice.pick(&cycles).min(self.due())
     }
 
+    /// From the soonest on, a cycle at which a READ leaves the last write some of its pairs, or a
+    /// PRECHARGE the last one of a bank, whether or not that has been closed since.
+    fn cutting_cycle(&mut self, command: Command, soonest: u64) -> u64 {
+        let settings = &self.part.settings;
+        let (named, wait) = match command {
+            Command::Read { .. } => (Named::All, settings.t_wtr),
+            Command::Precharge { banks } => (banks, settings.t_wr),
+            _ => return soonest,
+        };
+        let written =
+            |burst: &&Burst| burst.direction == Direction::Write && named.names(burst.bank);
+        let Some(write) = self.part.bursts.iter().rev().find(written) else {
+            return soonest;
+        };
+        let (one_pair, pairs) = (write.given + 2 + wait, write.mode.pairs() as u32);
+        soonest.max(one_pair + u64::from(self.dice.below(pairs)))
+    }
+
+    /// Closes a row that has been written by a READ with auto precharge, perhaps opens it
+    /// again, and precharges it when that would cut the write. False where the capture must
+    /// end.
+    fn add_spared_write(&mut self) -> bool {
+        let bank = self.bank();
+        let written = self.part.banks[bank].is_open()
+            && self.part.sleep.is_awake()
+            && self.part.last_write_of_row(bank).is_some();
+        if !written {
+            return self.add_hasty();
+        }
+        let close = Command::Read {
+            bank,
+            address: 0,
+            auto_precharge: true,
+        };
+        let mut commands = vec![close];
+        if self.dice.percent(60) {
+            commands.push(self.active(bank));
+        }
+        let one = Named::One(bank);
+        let banks = self.dice.pick(&[one, one, Named::All]);
+        commands.push(Command::Precharge { banks });
+        for command in commands {
+            let soonest = earliest(&self.part, self.next, command.into());
+            let cycle = self.cutting_cycle(command, soonest);
+            if cycle > self.due() {
+                return false;
+            }
+            self.push_applied(cycle, command.into());
+        }
+        true
+    }
+
     /// Adds an event soon after the one before. False where the capture must end.
     fn add_hasty(&mut self) -> bool {
         let asked = self.usual_event();
@@ -330,6 +405,9 @@ impl<'a> Builder<'a> {
                 return false;
             }
             cycle = earliest(&self.part, self.next, asked);
+        }
+        if self.part.edition == Edition::One && self.dice.percent(40) {
+            cycle = self.cutting_cycle(asked.command, cycle);
         }
         if cycle > self.due() {
             return false;

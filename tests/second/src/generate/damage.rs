@@ -3,8 +3,8 @@
 use super::settings::{most_t_rc, t_rc_beside};
 use super::{guided_capture, Dice};
 use crate::capture::{
-    events_at, settings_of_layout, total_bytes, word, words, EVENT_BYTES, HEADER_BYTES, LAST_CYCLE,
-    LIMITS, MODE_SETTING, MOST_EVENTS, SETTINGS, T_RC_SETTING,
+    events_at, settings_of_layout, total_bytes, word, words, EDITION_AT, EVENT_BYTES, HEADER_BYTES,
+    LAST_CYCLE, LIMITS, MODE_SETTING, MOST_EVENTS, SETTINGS, T_RC_SETTING,
 };
 
 pub fn damaged_capture(dice: &mut Dice) -> Vec<u8> {
@@ -62,7 +62,7 @@ fn extreme_length(dice: &mut Dice) -> Vec<u8> {
 }
 
 fn damage(dice: &mut Dice, bytes: &mut Vec<u8>) {
-    match dice.below(15) {
+    match dice.below(16) {
         0 => shorten(dice, bytes),
         1 => lengthen(dice, bytes),
         2 => change_header(dice, bytes),
@@ -73,6 +73,7 @@ fn damage(dice: &mut Dice, bytes: &mut Vec<u8>) {
         9..=10 => set_spare_pin(dice, bytes),
         11..=12 => change_layout(dice, bytes),
         13 => change_t_rc(dice, bytes),
+        14 => change_edition(dice, bytes),
         _ => scribble(dice, bytes),
     }
 }
@@ -132,6 +133,13 @@ fn change_layout(dice: &mut Dice, bytes: &mut Vec<u8>) {
         let events = bytes.len().saturating_sub(start) / EVENT_BYTES;
         put(bytes, 12, events as u32);
     }
+}
+
+/// An edition that there is not, or the other one.
+fn change_edition(dice: &mut Dice, bytes: &mut [u8]) {
+    let any = dice.word();
+    let value = dice.pick(&[0, 1, 2, 2, 3, 1 << 16, 1 << 31, u32::MAX, any]);
+    put(bytes, EDITION_AT, value);
 }
 
 fn change_event_count(dice: &mut Dice, bytes: &mut [u8]) {

@@ -3,7 +3,8 @@
 
 use super::Dice;
 use crate::capture::{
-    LIMITS, MODE_SETTING, SETTINGS, T_RAS_SETTING, T_RC_SETTING, T_REFI_SETTING, T_RP_SETTING,
+    Edition, LIMITS, MODE_SETTING, SETTINGS, T_RAS_SETTING, T_RC_SETTING, T_REFI_SETTING,
+    T_RP_SETTING,
 };
 
 const PARTS: &str = include_str!("../../../data/part-settings.csv");
@@ -11,6 +12,7 @@ const PARTS: &str = include_str!("../../../data/part-settings.csv");
 const FIRST_COLUMN: usize = 3;
 const TIMES: std::ops::Range<usize> = 4..13;
 const T_WR: usize = 9;
+const T_WTR: usize = 10;
 
 #[derive(Clone, Copy, Debug, PartialEq, Eq)]
 pub enum Kind {
@@ -31,12 +33,31 @@ pub fn kind(dice: &mut Dice) -> Kind {
 }
 
 /// The settings of a capture: in half of them tXP and tXSR follow, and it may sleep.
-pub fn capture_settings(dice: &mut Dice, kind: Kind) -> Vec<u32> {
+pub fn capture_settings(dice: &mut Dice, edition: Edition, kind: Kind) -> Vec<u32> {
     let mut list = settings(dice, kind).to_vec();
+    if edition == Edition::One && kind != Kind::Limits {
+        lengthen_write_waits(dice, &mut list);
+    }
     if dice.percent(50) {
         list.extend(wake(dice, kind));
     }
     list
+}
+
+/// tWR and tWTR that differ from each other and often outlast a burst, so that a write is
+/// cut twice, or when its data has long been on the bus.
+fn lengthen_write_waits(dice: &mut Dice, list: &mut [u32]) {
+    if dice.once_in(60) {
+        for place in [T_WR, T_WTR] {
+            list[place] = dice.between(1_000, LIMITS[place].1);
+        }
+        list[T_REFI_SETTING] = dice.between(10_000, LIMITS[T_REFI_SETTING].1);
+        return;
+    }
+    for place in [T_WR, T_WTR] {
+        let (usual, some, many) = (list[place], dice.between(1, 12), dice.between(1, 40));
+        list[place] = dice.pick(&[usual, usual, 1, some, many]);
+    }
 }
 
 /// tXP and tXSR.

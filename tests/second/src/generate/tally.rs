@@ -5,10 +5,11 @@ use std::collections::BTreeMap;
 use std::fmt;
 
 use crate::capture::{
-    events_at, settings_of_layout, words, Refusal, HEADER_BYTES, LIMITS, SETTINGS, SLEEP_SETTINGS,
-    T_RC_SETTING,
+    events_at, settings_of_layout, word, words, Edition, Refusal, EDITION_AT, HEADER_BYTES, LIMITS,
+    SETTINGS, SLEEP_SETTINGS, T_RC_SETTING,
 };
-use crate::verdict::Answer;
+use crate::part::LookBack;
+use crate::verdict::{part_after, Answer};
 
 pub const RULES: usize = 15;
 /// A number below them that no rule has any more.
@@ -18,6 +19,8 @@ pub const NO_RULE: u32 = 6;
 const OF_JUDGE: [u32; 4] = [1, 2, 3, 4];
 const OF_CELLS: [u32; 6] = [1, 2, 3, 4, 8, 7];
 const OF_SCHEDULE: [u32; 5] = [2, 3, 5, 6, 7];
+/// Those of a capture whose sixth word is no edition.
+const OF_NO_EDITION: [u32; 1] = [2];
 
 /// How often a question was answered, refused with each number, and refused for settings
 /// that contradict each other.
@@ -44,24 +47,42 @@ impl Answers {
     }
 }
 
+/// What a capture is laid out for: so many settings, and its edition if its sixth word is one.
+type Layout = (usize, Option<Edition>);
+
 #[derive(Clone, Debug, Default)]
 pub struct Tally {
-    pub awake: OfCaptures,
-    pub sleeping: OfCaptures,
+    captures: BTreeMap<Layout, OfCaptures>,
     pub schedules: Answers,
 }
 
-/// Of captures laid out for one number of settings.
+/// Of captures of one layout.
 #[derive(Clone, Debug, Default)]
 pub struct OfCaptures {
     pub rules: [u64; RULES],
-    pub verdicts: Answers,
-    pub cell_lists: Answers,
+    verdicts: Answers,
+    cell_lists: Answers,
+    /// Of the burst lists written, those with a write cut short by READ or PRECHARGE.
+    pub interrupted: u64,
 }
 
 impl OfCaptures {
-    /// Rule 15 cannot be broken with 14 settings.
-    fn counts(&self, settings: usize) -> Vec<(String, u64)> {
+    fn counts(&self, (settings, edition): Layout) -> Vec<(String, u64)> {
+        let (name, counts) = match edition {
+            Some(edition) => (
+                format!("edition {}", edition.word()),
+                self.accepted_counts(settings, edition),
+            ),
+            None => ("another edition".to_string(), self.refused_counts()),
+        };
+        counts
+            .into_iter()
+            .map(|(what, count)| (format!("{settings} settings, {name}, {what}"), count))
+            .collect()
+    }
+
+    /// Rule 15 cannot be broken with 14 settings, and only edition 1 has interrupted writes.
+    fn accepted_counts(&self, settings: usize, edition: Edition) -> Vec<(String, u64)> {
         let rules = if settings == SETTINGS { 14 } else { RULES };
         let mut counts = vec![("judge: clean".to_string(), self.verdicts.given)];
         for (rule, &count) in (1..).zip(&self.rules[..rules]) {
@@ -70,25 +91,35 @@ impl OfCaptures {
             }
         }
         counts.extend(refusals("judge", &self.verdicts, &OF_JUDGE));
+        counts.push(contradictions("judge", &self.verdicts));
         counts.push(("cells: written".to_string(), self.cell_lists.given));
+        if edition == Edition::One {
+            counts.push(("cells: a write cut short".to_string(), self.interrupted));
+        }
         counts.extend(refusals("cells", &self.cell_lists, &OF_CELLS));
+        counts.push(contradictions("cells", &self.cell_lists));
         counts
-            .into_iter()
-            .map(|(name, count)| (format!("{settings} settings, {name}"), count))
-            .collect()
+    }
+
+    fn refused_counts(&self) -> Vec<(String, u64)> {
+        let mut counts = refusals("judge", &self.verdicts, &OF_NO_EDITION);
+        counts.extend(refusals("cells", &self.cell_lists, &OF_NO_EDITION));
+        counts
     }
 }
 
 impl Tally {
-    fn of_layout(&mut self, capture: &[u8]) -> &mut OfCaptures {
-        match settings_of_layout(capture) {
-            SLEEP_SETTINGS => &mut self.sleeping,
-            _ => &mut self.awake,
-        }
+    /// What was counted of captures of a layout.
+    pub fn of(&self, layout: Layout) -> OfCaptures {
+        self.captures.get(&layout).cloned().unwrap_or_default()
+    }
+
+    fn of_capture(&mut self, capture: &[u8]) -> &mut OfCaptures {
+        self.captures.entry(layout_of(capture)).or_default()
     }
 
     pub fn count_answer(&mut self, capture: &[u8], answer: Answer) {
-        let counts = self.of_layout(capture);
+        let counts = self.of_capture(capture);
         let settings = first_settings(capture);
         match answer {
             Answer::Clean { .. } => counts.verdicts.count(None, &settings),
@@ -101,9 +132,14 @@ impl Tally {
     }
 
     pub fn count_cells(&mut self, capture: &[u8], answer: Result<u32, Refusal>) {
-        self.of_layout(capture)
+        let interrupted = answer.is_ok()
+            && part_after(capture, LookBack::Running)
+                .is_ok_and(|part| part.has_interrupted_write());
+        let counts = self.of_capture(capture);
+        counts
             .cell_lists
             .count(answer.err(), &first_settings(capture));
+        counts.interrupted += u64::from(interrupted);
     }
 
     pub fn count_schedule(&mut self, settings: &[u32], answer: Result<u32, Refusal>) {
@@ -112,10 +148,16 @@ impl Tally {
 
     /// What was counted, by name.
     fn counts(&self) -> Vec<(String, u64)> {
-        let mut counts = self.awake.counts(SETTINGS);
-        counts.extend(self.sleeping.counts(SLEEP_SETTINGS));
+        let mut counts = Vec::new();
+        for settings in [SETTINGS, SLEEP_SETTINGS] {
+            for edition in [Some(Edition::Zero), Some(Edition::One), None] {
+                let layout = (settings, edition);
+                counts.extend(self.of(layout).counts(layout));
+            }
+        }
         counts.push(("schedule: written".to_string(), self.schedules.given));
         counts.extend(refusals("schedule", &self.schedules, &OF_SCHEDULE));
+        counts.push(contradictions("schedule", &self.schedules));
         counts
     }
 
@@ -127,6 +169,16 @@ impl Tally {
             .map(|(name, _)| name)
             .collect()
     }
+}
+
+/// Bytes that end before the sixth word have edition 0: they are refused for their length.
+fn layout_of(capture: &[u8]) -> Layout {
+    let edition = if capture.len() < HEADER_BYTES {
+        Some(Edition::Zero)
+    } else {
+        Edition::read(word(capture, EDITION_AT))
+    };
+    (settings_of_layout(capture), edition)
 }
 
 /// The 14 settings that every capture has; none where the bytes end before.
@@ -142,15 +194,16 @@ fn is_contradiction(refusal: Refusal, settings: &[u32]) -> bool {
     of_t_rc && (least..=most).contains(&settings[T_RC_SETTING])
 }
 
+fn contradictions(question: &str, answers: &Answers) -> (String, u64) {
+    let name = format!("{question}: settings that contradict each other");
+    (name, answers.contradictions)
+}
+
 fn refusals(question: &str, answers: &Answers, numbers: &[u32]) -> Vec<(String, u64)> {
-    let mut counts = vec![(
-        format!("{question}: settings that contradict each other"),
-        answers.contradictions,
-    )];
-    for &number in numbers {
-        counts.push((format!("{question}: refusal {number}"), answers.of(number)));
-    }
-    counts
+    numbers
+        .iter()
+        .map(|&number| (format!("{question}: refusal {number}"), answers.of(number)))
+        .collect()
 }
 
 impl fmt::Display for Tally {
