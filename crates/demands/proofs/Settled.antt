@@ -16,7 +16,7 @@ use Rattle.settings.proofs.setting_fits.Reads as settings-setting-fits
 use Rattle.settings.proofs.lowest_bad.Reads as settings-lowest-bad
 use Rattle.settings.proofs.check.Reads as settings-check
 use Rattle.capture.proofs.event_count.Reads as capture-event-count
-use Rattle.capture.proofs.setting_words.Reads as capture-setting-words
+use Rattle.capture.proofs.settings_in.Reads as capture-settings-in
 use Rattle.capture.proofs.cycle_at.Reads as capture-cycle-at
 use Rattle.capture.proofs.pins_at.Reads as capture-pins-at
 use Rattle.capture.proofs.open.Reads as capture-open
@@ -119,9 +119,9 @@ pub capture-event-count-settles : (κs : _) (a : _) (z z′ : _) (e e′ : _) �
     z ≡ z′
 capture-event-count-settles κs a z z′ e e′ p q = p ∙ sym q
 
-pub capture-setting-words-settles : (κs : _) (a : _) (z z′ : _) (e e′ : _) → capture-setting-words.Post κs a z e → capture-setting-words.Post κs a z′ e′ →
+pub capture-settings-in-settles : (κs : _) (a : _) (z z′ : _) (e e′ : _) → capture-settings-in.Post κs a z e → capture-settings-in.Post κs a z′ e′ →
     z ≡ z′
-capture-setting-words-settles κs a z z′ e e′ p q = p ∙ sym q
+capture-settings-in-settles κs a z z′ e e′ p q = p ∙ sym q
 
 pub capture-cycle-at-settles : (κs : _) (a : _) (z z′ : _) (e e′ : _) → capture-cycle-at.Post κs a z e → capture-cycle-at.Post κs a z′ e′ → z ≡ z′
 capture-cycle-at-settles κs a z z′ e e′ p q = p ∙ sym q

@@ -18,7 +18,7 @@ const EVENTS_COUNT: u32 = 12;
 
 const EVENTS_OFFSET: u32 = 16;
 
-const LAST_WORD: u32 = 20;
+const EDITION: u32 = 20;
 
 const LANE: u32 = 24;
 
@@ -109,7 +109,7 @@ fn store_header(out: &mut [u8], size: u32, count: u32) {
     store(out, SETTINGS_OFFSET, 24);
     store(out, EVENTS_COUNT, room(size, events_at(count)));
     store(out, EVENTS_OFFSET, events_at(count));
-    store(out, LAST_WORD, 0);
+    store(out, EDITION, 0);
 }
 
 fn store_settings(out: &mut [u8]) {
@@ -217,8 +217,9 @@ fn header_words() {
     changed(80, SETTINGS_OFFSET, 25, 2, 0);
     changed(80, EVENTS_OFFSET, 79, 2, 0);
     changed(80, EVENTS_OFFSET, 81, 2, 0);
-    changed(80, LAST_WORD, 1, 2, 0);
-    changed(80, LAST_WORD, 0x8000_0000, 2, 0);
+    changed(80, EDITION, 1, 0, 0); // the newer edition
+    changed(80, EDITION, 2, 2, 0);
+    changed(80, EDITION, 0x8000_0000, 2, 0);
 }
 
 fn event_counts() {
@@ -278,7 +279,8 @@ fn numbers_in_order() {
     changed(79, SETTINGS_COUNT, 13, 1, 0);
     twice_changed(80, TOTAL, 81, SETTINGS_COUNT, 13, 1, 0);
     twice_changed(64_088, LANE, 0, PINS_0, 0x0010_0000, 1, 0);
-    twice_changed(80, LAST_WORD, 1, LANE, 0, 2, 0);
+    twice_changed(80, EDITION, 2, LANE, 0, 2, 0);
+    twice_changed(80, EDITION, 1, LANE, 0, 3, 0);
     twice_changed(104, EVENTS_COUNT, 2, PINS_0, 0x0010_0000, 2, 0);
     twice_changed(104, LANE, 3, PINS_0, 0x0010_0000, 3, 0);
     twice_changed(104, T_REFI, 0, PINS_0, 0x0010_0000, 3, 13);
@@ -435,6 +437,8 @@ fn sleeping_headers() {
     sleeping(88, SETTINGS_COUNT, 15, 2, 0); // the lengths are those of 14 settings
     sleeping(88, SETTINGS_COUNT, 17, 2, 0);
     sleeping(64_088, SETTINGS_COUNT, 15, 1, 0);
+    sleeping(88, EDITION, 1, 0, 0);
+    sleeping(88, EDITION, 2, 2, 0);
 }
 
 // tXP and tXSR from 1 to 10,000.
@@ -536,7 +540,7 @@ fn contradictions_and_other_faults() {
     together_with(14, times, PINS_0, 0x0010_0000, 3, 7);
     together_with(14, times, CYCLE_1, 0, 3, 7);
     together_with(16, times, PINS_1, 0x0020_0000, 3, 7); // behind 16 settings those of event 0
-    together_with(14, times, LAST_WORD, 1, 2, 0);
+    together_with(14, times, EDITION, 2, 2, 0);
     together_with(14, times, TOTAL, 0, 1, 0);
 }
 

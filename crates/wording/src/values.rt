@@ -116,11 +116,15 @@ fn shown_count(settings: &Settings) -> usize
     if sleeps(settings) { SLEEPING } else { COUNT }
 }
 
-pub fn print_settings(out: &mut Out, settings: &Settings) {
+fn print_each(out: &mut Out, settings: &Settings) {
     let n = shown_count(settings);
     for i in 0..n {
         print_setting(out, i as u32, settings[i]);
     }
+}
+
+pub fn print_settings(out: &mut Out, settings: &Settings) {
+    print_each(out, settings);
     if newer(settings) {
         say(
             out,

@@ -1,7 +1,7 @@
 use Prim.Native.Nat.{_≤_, _-_}
 use native.Mathlib.Omega.{arith}
-use Rattle.wording.proofs.values.print_settings.Statement.{statement}
-use Rattle.wording.proofs.values.print_settings.Tie as tie
+use Rattle.wording.proofs.values.print_each.Statement.{statement}
+use Rattle.wording.proofs.values.print_each.Tie as tie
 
 abbrev Inv-loop : tie.InvT-loop
 Inv-loop out₀ settings n i₀ out i = (i ≤ n) × (n ≤ 16)
@@ -39,8 +39,8 @@ loop-again c = omega arith
 returns : tie.Need-returns Inv-loop μ-loop
 returns c = tt
 
-pub print-settings-spec : {M : Type 1} → statement M
-print-settings-spec =
+pub print-each-spec : {M : Type 1} → statement M
+print-each-spec =
     tie.close
     (tie.spec
     Inv-loop
