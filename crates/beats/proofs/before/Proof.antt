@@ -6,7 +6,7 @@ use Rattle.beats.proofs.before.Statement.{statement}
 use Rattle.beats.proofs.before.Tie as tie
 
 returns : tie.Need-returns
-returns c = 
+returns c =
     let a = c .before .args in
     none-before (a .pairs) (a .t) (a .from) (c .if1 .taken)
 

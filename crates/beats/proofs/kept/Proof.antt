@@ -18,7 +18,7 @@ gives-burst-requires : tie.Need-gives-burst-requires
 gives-burst-requires c κs = search needs
 
 returns : tie.Need-returns
-returns c = 
+returns c =
     let asked = c .before in
     let read = asked .before in
     let start = read .before .before in

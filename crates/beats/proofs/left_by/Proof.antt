@@ -17,7 +17,7 @@ before-requires : tie.Need-before-requires
 before-requires c κs = search needs
 
 returns : tie.Need-returns
-returns c = 
+returns c =
     let asked = c .before .before .before .before in
     c .before2 .ensures ∙ rw (c .before .after2 .ensures, ← asked .code .ensures, eq-eqb _ 10 (c .before .before .before .if1 .taken))
 

@@ -19,7 +19,7 @@ bank-requires : tie.Need-bank-requires
 bank-requires c κs = search needs
 
 returns-3 : tie.Need-returns-3
-returns-3 c = 
+returns-3 c =
     let asked = c .before .before .before in
     rw (
       ← asked .before .code .ensures,

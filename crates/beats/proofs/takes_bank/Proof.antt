@@ -13,12 +13,12 @@ code-requires : tie.Need-code-requires
 code-requires c κs = search needs
 
 returns-2 : tie.Need-returns-2
-returns-2 c = 
+returns-2 c =
     let own = c .before .before in
     rw (← own .before .bank .ensures .0, eq-eqb _ _ (own .if1 .left), ← c .before .code .ensures, eq-eqb _ 12 (c .if2 .taken))
 
 returns-3 : tie.Need-returns-3
-returns-3 c = 
+returns-3 c =
     let asked = c .before .before in
     let own = asked .before in
     rw (
@@ -30,7 +30,7 @@ returns-3 c =
     )
 
 returns-4 : tie.Need-returns-4
-returns-4 c = 
+returns-4 c =
     let asked = c .before .before .before in
     let own = asked .before in
     rw (
@@ -46,7 +46,7 @@ ten-requires : tie.Need-ten-requires
 ten-requires c κs = search needs
 
 returns-5 : tie.Need-returns-5
-returns-5 c = 
+returns-5 c =
     let asked = c .before .before .before .before in
     let own = asked .before in
     rw (
