@@ -2,7 +2,7 @@
 use Prim.Native.Nat.{ℕ, suc, _+_, _-_, _≤_, _<_}
 use mathlib.Core.Bool.{Bool, true, false, cond}
 use mathlib.Core.List.{List, [], _∷_}
-use mathlib.Core.Path.{_≡_, refl, sym, ap, _∙_}
+use mathlib.Core.Path.{_≡_, refl, sym, _∙_}
 use native.Mathlib.Nat.{le-refl}
 use native.Mathlib.Omega.{arith}
 use borrow.Author.Tests.{le-leb, leb-true}
@@ -11,7 +11,7 @@ use Rattle.reading.specs.Search.{lesser}
 use Rattle.reading.specs.Settings.{Settings}
 use Rattle.reading.specs.Capture.{Event, eventAt}
 use Rattle.pins.specs.Pins.{codeOf, bankOf}
-use Rattle.beats.specs.Kept.{Fit, eventsFrom, gives, shutsBank, takesBank, leftBy, nextLeaves, rowLeaves}
+use Rattle.beats.specs.Kept.{Fit, eventsFrom, gives, shutsBank, takesBank, nextLeaves, rowLeaves}
 use Rattle.beats.proofs.Events.{Rises, next-event, no-event, rise-behind}
 
 -- what is left where no cycle has gone by

@@ -20,7 +20,7 @@ use Rattle.reading.specs.Commands.{ACTIVE, READ, WRITE, BURST-TERMINATE, PRECHA
 use Rattle.reading.specs.Bursts.{Burst, reads, dataEnd, restsFrom}
 use Rattle.reading.specs.Part.{Part, Bank, openOn, idleFrom, cuts, cutBy, burstGiven, clockAfter, partAfter, bankWrite, lastBankWrite}
 use Rattle.reading.proofs.Cuts.{All, nil, cons, auto-uncut, spent-uncut}
-use Rattle.deadlines.specs.Deadlines.{LAST, FAR, at, paceOf, overdueAfter, quietAfter, lowAfter, selfAfter, cutWrite, newWrite, autoWrite, earlyRest, restAfter, restAll}
+use Rattle.deadlines.specs.Deadlines.{LAST, at, paceOf, overdueAfter, quietAfter, lowAfter, selfAfter, cutWrite, newWrite, autoWrite, earlyRest, restAfter, restAll}
 use Rattle.deadlines.specs.Deadlines.{activeAfter, readAfter, writeAfter, cutRead, closeAfter, closeAllAfter, refreshAfter, modeSetAfter}
 use Rattle.bridge.specs.Summary.{BankHeld, SleepHeld, Held, Timed, laid, summary, bankHeld, writeHeld, sleepHeld, from, ended, cleared, lastOf, writerOf}
 use Rattle.bridge.proofs.Laid.{same, same-read, same-write, banked, readGiven, newGiven, timed, restsEarly}

@@ -13,7 +13,7 @@ use Rattle.reading.specs.Bursts.{reads, restsFrom}
 use Rattle.reading.specs.Part.{Part, bankWrite}
 use Rattle.reading.specs.Rules.{everyBank, rules, lowestBroken}
 use Rattle.reading.proofs.Cuts.{All}
-use Rattle.deadlines.specs.Deadlines.{FAR, unmet, quietBreaks, activeBreaks, readBreaks, writeBreaks, terminateBreaks, closeBreaks, closeAllBreaks, refreshBreaks, modeBreaks}
+use Rattle.deadlines.specs.Deadlines.{unmet, quietBreaks, activeBreaks, readBreaks, writeBreaks, terminateBreaks, closeBreaks, closeAllBreaks, refreshBreaks, modeBreaks}
 use Rattle.deadlines.proofs.Waits.{both, unasked}
 use Rattle.bridge.specs.Summary.{Timed, heldBy, laid, summary}
 use Rattle.bridge.proofs.Laid.{stands}

@@ -8,14 +8,14 @@ use mathlib.Core.Path.{_≡_, refl, sym, ap, _∙_}
 use native.Mathlib.Nat.{mod-eq-of-lt}
 use native.Mathlib.Omega.{arith}
 use lib.Dec.{leb, ltb, eqb}
-use borrow.Author.Tests.{le-leb, lt-ltb, le-ltb, eq-eqb, ne-eqb}
+use borrow.Author.Tests.{le-leb, lt-ltb, le-ltb, ne-eqb}
 use Rattle.reading.specs.Search.{implies, find}
 use Rattle.reading.specs.Mode.{h}
 use Rattle.reading.specs.Settings.{Settings, newer}
 use Rattle.reading.specs.Bursts.{Burst, dataEnd, restsFrom}
-use Rattle.reading.specs.Part.{Part, bankWrite, lastBankWrite}
+use Rattle.reading.specs.Part.{Part, lastBankWrite}
 use Rattle.reading.proofs.Cuts.{All, cons}
-use Rattle.deadlines.specs.Deadlines.{WRITER, OPENED, WRITTEN, LAST, at, gone, taken}
+use Rattle.deadlines.specs.Deadlines.{OPENED, WRITTEN, at, taken}
 use Rattle.bridge.specs.Summary.{ended, lastOf, writerOf, laid, summary}
 use Rattle.bridge.proofs.Laid.{stands}
 use Rattle.bridge.proofs.Bursts.{Given, leb-add, firstOver}

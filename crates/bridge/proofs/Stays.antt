@@ -1,7 +1,7 @@
 -- What is known of a write that is the last burst, after a command that gives no burst.
 use Prim.Native.Nat.{ℕ, zero, suc, _+_, _≤_, _<_}
 use mathlib.Core.Bool.{Bool, true, false, cond, not, _&&_, _||_, and-false}
-use mathlib.Core.List.{List, [], _∷_, map}
+use mathlib.Core.List.{[], _∷_, map}
 use mathlib.Core.Logic.{_⊎_, inl, inr}
 use mathlib.Core.Option.{Option, none, some, Option·map}
 use mathlib.Core.Path.{_≡_, refl, sym, ap, _∙_}
@@ -9,11 +9,10 @@ use native.Mathlib.Omega.{arith}
 use lib.Dec.{leb, eqb}
 use borrow.Author.Tests.{leb-true, eqb-true, eq-eqb}
 use Rattle.reading.specs.Search.{implies, ever, find}
-use Rattle.reading.specs.Mode.{h}
 use Rattle.reading.specs.Settings.{Settings, newer}
 use Rattle.reading.specs.Commands.{Command, ACTIVE, READ, WRITE, is, among}
 use Rattle.reading.specs.Bursts.{Burst, dataEnd, restsFrom}
-use Rattle.reading.specs.Part.{Part, Bank, openOn, idleFrom, closes, isThat, interrupts, cuts, cutBy, bankWrite, lastBankWrite, partAfter}
+use Rattle.reading.specs.Part.{Part, Bank, openOn, idleFrom, closes, interrupts, cuts, cutBy, bankWrite, lastBankWrite, partAfter}
 use Rattle.reading.specs.Rules.{everyBank, rule3, rule10, afterWrite}
 use Rattle.reading.proofs.Cuts.{All, cut-lowers, auto-uncut}
 use Rattle.bridge.proofs.Tests.{first-of}

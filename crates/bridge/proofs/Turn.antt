@@ -4,7 +4,7 @@ use mathlib.Core.Bool.{Bool, true, false, cond, not, _&&_}
 use mathlib.Core.List.{List, _∷_, List·Memᴰ}
 use mathlib.Core.Option.{none}
 use mathlib.Core.Path.{_≡_, refl, sym, ap, _∙_, subst}
-use native.Mathlib.Nat.{add-zero, zero-add}
+use native.Mathlib.Nat.{zero-add}
 use native.Mathlib.Omega.{arith}
 use lib.Dec.{leb, eqb}
 use borrow.Author.Tests.{leb-true, eqb-false, not-false}
@@ -16,7 +16,7 @@ use Rattle.reading.specs.Part.{Part, start, partAfter}
 use Rattle.reading.specs.Rules.{keepsRule, rules, lowestBroken}
 use Rattle.reading.proofs.Cuts.{nil}
 use Rattle.reading.proofs.Found.{find-none}
-use Rattle.deadlines.specs.Deadlines.{FAR, paceOf, startOf, closeBreaks, closeAllBreaks}
+use Rattle.deadlines.specs.Deadlines.{paceOf, startOf, closeBreaks, closeAllBreaks}
 use Rattle.pins.specs.Pins.{codeOf, bankOf, addressOf, tenOf, lowOf, quietCode}
 use Rattle.steps.specs.Steps.{unlessLower, highBreaks, Quiet, stepBreaks, stepAfter, paceAfter}
 use Rattle.steps.proofs.Codes as codes
@@ -134,7 +134,8 @@ module _ (s : Settings) (wide : s .rowBits < 32) (p : Part) (from₀ t : ℕ) (l
   unfolding b a ten
   turn-active n e =
       turn 12 (does ACTIVE b a ten) (carries w 12 false n e) (codes.active s (laid X) (paceOf (p .mode)) t w refl refl n e) (active-agrees s p t timed b a ten small wide)
-      (λ z. active-next s p from₀ t l g (awake _ (kept (does ACTIVE b a ten) z 15 fifteenth)) b a ten small) refl (λ z. kept-plain s p from₀ t l g (does ACTIVE b a ten) refl refl (kept (does ACTIVE b a ten) z 3 third) (kept (does ACTIVE b a ten) z 10 tenth))
+      (λ z. active-next s p from₀ t l g (awake _ (kept (does ACTIVE b a ten) z 15 fifteenth)) b a ten small) refl
+      (λ z. kept-plain s p from₀ t l g (does ACTIVE b a ten) refl refl (kept (does ACTIVE b a ten) z 3 third) (kept (does ACTIVE b a ten) z 10 tenth))
 
   turn-read : lowOf w ≡ false → codeOf w ≡ 10 → Turned (commandOf w)
   unfolding b a ten
@@ -193,7 +194,8 @@ module _ (s : Settings) (wide : s .rowBits < 32) (p : Part) (from₀ t : ℕ) (l
   unfolding b a ten
   turn-refresh n e =
       turn 8 c (carries w 8 false n e) (codes.refresh s (laid X) (paceOf (p .mode)) t w n e) (refresh-agrees s p t timed b a ten)
-      (λ z. refresh-next s p from₀ t l g (timed .ticks) (awake _ (kept c z 15 fifteenth)) b a ten (both-after (kept c z 4 fourth))) refl (λ z. kept-plain s p from₀ t l g c refl refl (kept c z 3 third) (kept c z 10 tenth))
+      (λ z. refresh-next s p from₀ t l g (timed .ticks) (awake _ (kept c z 15 fifteenth)) b a ten (both-after (kept c z 4 fourth))) refl
+      (λ z. kept-plain s p from₀ t l g c refl refl (kept c z 3 third) (kept c z 10 tenth))
     where
       c : Command
       c = does AUTO-REFRESH b a ten

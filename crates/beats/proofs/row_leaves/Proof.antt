@@ -1,13 +1,11 @@
 -- The invariant: what is found from j on is what is found at all (Searching).
 use Prim.Native.Nat.{ℕ, _+_, _-_}
-use mathlib.Core.Bool.{Bool, true, false}
-use mathlib.Core.Path.{_≡_, sym, ap, _∙_}
+use mathlib.Core.Path.{sym, ap, _∙_}
 use native.Mathlib.Omega.{arith}
 use borrow.Author.Needs.{needs}
 use borrow.Author.Tests.{leb-true}
 use Rattle.reading.specs.Search.{lesser}
-use Rattle.reading.specs.Settings.{Settings, settingsOf}
-use Rattle.reading.specs.Capture.{eventAt}
+use Rattle.reading.specs.Settings.{settingsOf}
 use Rattle.pins.specs.Pins.{bankOf}
 use Rattle.beats.specs.Kept.{shutsBank, takesBank}
 use Rattle.beats.proofs.Searching.{Sought, row, begins, goes-on, row-far, row-shut, row-taken, row-passes, row-ends}
