@@ -23,6 +23,7 @@ mod Schedules
 mod Memories
 mod Sleeping
 mod Tables
+mod Blanking
 
 -- pin words, put together by adding: a command, a bank, A10, column or row pins
 abbrev ACTIVE : ℕ
