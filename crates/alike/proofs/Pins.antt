@@ -61,10 +61,10 @@ module _ (w : ℕ) where
 
     -- ---- a pin word blanked, by what it names
 
-    abbrev made : Bool → Bool → ℕ
+    abbrev pub made : Bool → Bool → ℕ
     made column row = cond column (2 ^ 14 * above w + 2 ^ 10 * bit 10 w) (cond row (2 ^ 14 * above w) w)
 
-    as-made : {column row : Bool} → namesColumn w ≡ column → namesRow s w ≡ row → blankPins s w ≡ made column row
+    pub as-made : {column row : Bool} → namesColumn w ≡ column → namesRow s w ≡ row → blankPins s w ≡ made column row
     unfolding blankPins
     as-made e f = λ i. made (e i) (f i)
 

@@ -8,15 +8,9 @@ use lib.ListN.{length, set, getD, take, drop, replicate, length-set, length-take
 use lib.Seq.{sets, length-sets, take-suc, drop-cons}
 use Rattle.reading.specs.Words.{wordBytes, bytesOf}
 use Rattle.reading.specs.Settings.{settingsCount, sleepingCount}
-use Rattle.words.proofs.Runs.{front}
+use Rattle.words.proofs.Runs.{none-behind, front}
 use Rattle.words.proofs.Words.{sets-words}
 use Rattle.settings.specs.Meaning.{padded}
-
-pub none-behind : {A : Type 0} (l : List A) (i : ℕ) → length l ≤ i → drop i l ≡ []
-none-behind [] zero h = refl
-none-behind [] (suc i) h = refl
-none-behind (x ∷ l) zero h = absurd (omega arith)
-none-behind (x ∷ l) (suc i) h = none-behind l i (omega arith)
 
 -- ---- the settings as an array
 

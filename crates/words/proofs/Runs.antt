@@ -52,6 +52,13 @@ getD-sets-in (v ∷ vs) l i (suc j) h f =
     ap (λ (k : ℕ). getD (sets (set l i v) (suc i) vs) k 0) (next-place i j)
     ∙ getD-sets-in vs (set l i v) (suc i) j (omega arith) (simp length-set (omega arith))
 
+-- behind the last there is nothing
+pub none-behind : {A : Type 0} (l : List A) (i : ℕ) → length l ≤ i → drop i l ≡ []
+none-behind [] zero h = refl
+none-behind [] (suc i) h = refl
+none-behind (x ∷ l) zero h = absurd (omega arith)
+none-behind (x ∷ l) (suc i) h = none-behind l i (omega arith)
+
 -- a run from the front on
 pub front : (vs l : List ℕ) → length vs ≤ length l → sets l 0 vs ≡ vs ++ drop (length vs) l
 front vs l h = sets-eq vs l 0 (omega arith) ∙ ap (λ (k : ℕ). vs ++ drop k l) (zero-add (length vs))
