@@ -5,7 +5,7 @@ use mathlib.Core.List.{List, _++_}
 use mathlib.Core.Path.{_≡_, refl, sym, ap, _∙_}
 use native.Mathlib.Nat.{zero-add}
 use native.Mathlib.Omega.{arith}
-use borrow.Author.Tests.{lt-ltb, le-ltb}
+use borrow.Author.Tests.{lt-ltb, le-ltb, ltb-false}
 use lib.Dec.{ltb}
 use lib.ListN.{length, getD, take, drop, length-drop, length-take}
 use lib.Seq.{sets, length-sets}
@@ -101,3 +101,23 @@ module _ (c out : List ℕ) (o : Checked) (opened : check.means o ≡ accepted c
             meets
             (on-capture ∙ ap (λ (b : Bool). leaves (unless 7 (given (length (blanked c)) b) (answered (blanked c))) out) enough
             ∙ (λ i. record { answer = answered (needed i); buffer = sym whole i }))
+
+-- ---- what is written fits
+
+within : (out xs : List ℕ) {n : ℕ} → answered n ≡ leaves (fitting out xs) out .answer → n ≤ length out
+within out xs {n} e = go (ltb (length out) (length xs)) refl e
+  where
+    go : (v : Bool) → ltb (length out) (length xs) ≡ v → answered n ≡ leaves (unless 7 (given (length xs) v) (answered xs)) out .answer → n ≤ length out
+    go true f h = let z : _≡_ {A = ℕ} 0 1 = cc in absurd (omega arith)
+    go false f h = let k : n ≡ length xs = cc in omega (arith, ltb-false (length out) (length xs) f)
+
+pub written-within : (c out : List ℕ) {n : ℕ} → answered n ≡ blankOutcome c out .answer → n ≤ length out
+unfolding blankOutcome
+written-within c out {n} e = go (accepted c (answered (tt {0}))) refl
+  where
+    told : {x : Answer (List ℕ)} → accepted c (fitting out (blanked c)) ≡ x → answered n ≡ leaves x out .answer
+    told f = e ∙ ap (λ (x : Answer (List ℕ)). leaves x out .answer) f
+
+    go : (x : Answer (Unit {0})) → accepted c (answered tt) ≡ x → n ≤ length out
+    go (refused number place) f = let h = told (refused-rest c _ f) in let z : _≡_ {A = ℕ} 0 1 = cc in absurd (omega arith)
+    go (answered tt) f = within out (blanked c) (told (accepted-rest c _ f))

@@ -4,5 +4,6 @@ pub mod Listing
 pub mod Refusing
 pub mod Scheduling
 pub mod WithoutSix
+pub mod Blanking
 mod Finding
 mod Settled

@@ -10,10 +10,11 @@ use lib.Dec.{eqb}
 use Rattle.reading.specs.Capture.{Event, eventCount, eventBytes, eventAt, eventsOf}
 use Rattle.reading.specs.Verdict as is
 use Rattle.reading.specs.Answers.{Answer, Report, refused, answered, verdictIn, judgeAnswer, cellsOutcome, scheduleOutcome}
+use Rattle.reading.specs.Blank.{blankOutcome}
 use Rattle.reading.proofs.Meaning.{eventOf}
 use Rattle.words.proofs.Counting.{at-count}
 use Rattle.morgazell.specs.Packing.{Told, refusal, count, breach, word, packed, told, numberIn, ruleIn, valueIn, unpacked, verdictTold, judgeTold, countTold, judgeAnswerOf, countAnswerOf}
-use Rattle.morgazell.proofs.Fitting.{Number, Value, Fits, on-accepted, events-length, broken-at, judge-fits, cells-fits, schedule-fits}
+use Rattle.morgazell.proofs.Fitting.{Number, Value, Fits, on-accepted, events-length, broken-at, judge-fits, cells-fits, schedule-fits, blank-fits}
 
 word-back : (number rule value : ℕ) → number < 2 ^ 8 → rule < 2 ^ 8 → Value value → unpacked (word number rule value) ≡ told number rule value
 unfolding unpacked
@@ -101,3 +102,10 @@ module _ (settings requests buffer : List ℕ) where
 pub schedule-tells : (a b q r x y : List ℕ) → packed (countTold (scheduleAnswer a q x)) ≡ packed (countTold (scheduleAnswer b r y)) →
     scheduleAnswer a q x ≡ scheduleAnswer b r y
 schedule-tells a b q r x y = count-tells (scheduleAnswer a q x) (scheduleAnswer b r y) (schedule-fits a q x) (schedule-fits b r y)
+
+pub blank-back : (capture buffer : List ℕ) → countAnswerOf (unpacked (packed (countTold (blankOutcome capture buffer .answer)))) ≡ blankOutcome capture buffer .answer
+blank-back capture buffer = count-back (blankOutcome capture buffer .answer) (blank-fits capture buffer)
+
+pub blank-tells : (a b x y : List ℕ) → packed (countTold (blankOutcome a x .answer)) ≡ packed (countTold (blankOutcome b y .answer)) →
+    blankOutcome a x .answer ≡ blankOutcome b y .answer
+blank-tells a b x y = count-tells (blankOutcome a x .answer) (blankOutcome b y .answer) (blank-fits a x) (blank-fits b y)
