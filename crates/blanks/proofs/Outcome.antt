@@ -5,9 +5,9 @@ use mathlib.Core.List.{List, _++_}
 use mathlib.Core.Path.{_≡_, refl, sym, ap, _∙_}
 use native.Mathlib.Nat.{zero-add}
 use native.Mathlib.Omega.{arith}
-use borrow.Author.Tests.{lt-ltb, le-ltb, ltb-false}
+use borrow.Author.Tests.{lt-ltb, le-ltb}
 use lib.Dec.{ltb}
-use lib.ListN.{length, getD, take, drop, length-drop, length-take}
+use lib.ListN.{length, getD, take, drop, length-append, length-drop, length-take}
 use lib.Seq.{sets, length-sets}
 use Rattle.reading.specs.Search.{given}
 use Rattle.reading.specs.Settings.{settingsOf}
@@ -102,22 +102,15 @@ module _ (c out : List ℕ) (o : Checked) (opened : check.means o ≡ accepted c
             (on-capture ∙ ap (λ (b : Bool). leaves (unless 7 (given (length (blanked c)) b) (answered (blanked c))) out) enough
             ∙ (λ i. record { answer = answered (needed i); buffer = sym whole i }))
 
--- ---- what is written fits
+-- ---- what was written stands in the buffer
 
-within : (out xs : List ℕ) {n : ℕ} → answered n ≡ leaves (fitting out xs) out .answer → n ≤ length out
-within out xs {n} e = go (ltb (length out) (length xs)) refl e
-  where
-    go : (v : Bool) → ltb (length out) (length xs) ≡ v → answered n ≡ leaves (unless 7 (given (length xs) v) (answered xs)) out .answer → n ≤ length out
-    go true f h = let z : _≡_ {A = ℕ} 0 1 = cc in absurd (omega arith)
-    go false f h = let k : n ≡ length xs = cc in omega (arith, ltb-false (length out) (length xs) f)
+within : (x : Answer (List ℕ)) (out : List ℕ) {n : ℕ} → answered n ≡ leaves x out .answer → n ≤ length (leaves x out .buffer)
+within (refused number place) out e = let z : _≡_ {A = ℕ} 0 1 = cc in absurd (omega arith)
+within (answered xs) out {n} e =
+    let same : n ≡ length xs = cc in
+    omega (arith, length-append xs (drop (length xs) out))
 
-pub written-within : (c out : List ℕ) {n : ℕ} → answered n ≡ blankOutcome c out .answer → n ≤ length out
+pub written-within : (c out : List ℕ) {n : ℕ} {left : List ℕ} → answered n ≡ blankOutcome c out .answer → left ≡ blankOutcome c out .buffer →
+    n ≤ length left
 unfolding blankOutcome
-written-within c out {n} e = go (accepted c (answered (tt {0}))) refl
-  where
-    told : {x : Answer (List ℕ)} → accepted c (fitting out (blanked c)) ≡ x → answered n ≡ leaves x out .answer
-    told f = e ∙ ap (λ (x : Answer (List ℕ)). leaves x out .answer) f
-
-    go : (x : Answer (Unit {0})) → accepted c (answered tt) ≡ x → n ≤ length out
-    go (refused number place) f = let h = told (refused-rest c _ f) in let z : _≡_ {A = ℕ} 0 1 = cc in absurd (omega arith)
-    go (answered tt) f = within out (blanked c) (told (accepted-rest c _ f))
+written-within c out e f = omega (arith, within (accepted c (fitting out (blanked c))) out e, ap length f)
