@@ -1,6 +1,7 @@
 //! Seeded inputs: captures that are clean or break a chosen kind of rule, captures that are
 //! damaged, and settings with request lists.
 
+mod addresses;
 mod captures;
 mod damage;
 mod dice;
@@ -8,6 +9,7 @@ mod requests;
 mod settings;
 mod tally;
 
+pub use addresses::other_addresses;
 pub use captures::{busy_capture, guided_capture};
 pub use damage::damaged_capture;
 pub use dice::Dice;

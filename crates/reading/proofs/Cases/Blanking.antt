@@ -1,9 +1,9 @@
 -- Addresses blanked: which pins of each command, whole captures, two that differ only in addresses, and what is not alike.
 use Prim.Native.Nat.{ℕ, zero, suc, _+_, _^_, _<_}
 use mathlib.Core.List.{List, [], _∷_, _++_, map}
-use mathlib.Core.Path.{_≡_, refl}
+use mathlib.Core.Path.{_≡_, refl, ap}
 use native.Mathlib.Omega.{arith}
-use lib.ListN.{set, replicate}
+use lib.ListN.{getD, set, replicate}
 use Rattle.reading.specs.Search.{count}
 use Rattle.reading.specs.Settings.{settingsOf}
 use Rattle.reading.specs.Capture.{Event, eventBytes, eventAt}
@@ -207,6 +207,30 @@ unlike-deselect : Unlike (DESELECT + READ) (DESELECT + READ + 1)
 unlike-deselect (same e) = omega arith
 unlike-deselect (columns c a b) = let z : _≡_ {A = ℕ} 0 1 = cc in omega arith
 unlike-deselect (rows r q a) = let z : _≡_ {A = ℕ} 0 1 = cc in omega arith
+
+-- ---- captures that differ in something else
+
+abbrev first : List Event
+first = at 0 ACTIVE ∷ at 3 READ ∷ []
+
+abbrev NotOnly : List ℕ → Type 0
+NotOnly b = OnlyAddressesDiffer (captureOf usual first) b → ⊥
+
+longer : NotOnly (captureOf usual first ++ (0 ∷ []))
+unfolding said
+longer k = omega (arith, k .size)
+
+other-setting : NotOnly (captureOf (set usual 13 999) first)
+unfolding said
+other-setting k = omega (arith, ap (λ (l : List ℕ). getD l 76 0) (k .front))
+
+other-cycle : NotOnly (captureOf usual (at 0 ACTIVE ∷ at 4 READ ∷ []))
+unfolding said
+other-cycle k = omega (arith, k .cycles 1 (omega arith))
+
+other-pins : NotOnly (captureOf usual (at 0 ACTIVE ∷ at 3 (READ + A10) ∷ []))
+unfolding said
+other-pins k = unlike-ten (k .pins 1 (omega arith))
 
 -- ---- the call: refusals 1 to 4, then 7; bytes behind the capture stay
 

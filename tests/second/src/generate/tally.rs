@@ -4,10 +4,12 @@
 use std::collections::BTreeMap;
 use std::fmt;
 
+use crate::blank::hidden;
 use crate::capture::{
-    events_at, settings_of_layout, words, Refusal, HEADER_BYTES, LIMITS, SETTINGS, SLEEP_SETTINGS,
-    T_RC_SETTING,
+    events_at, settings_of_layout, words, Capture, Refusal, HEADER_BYTES, LIMITS, SETTINGS,
+    SLEEP_SETTINGS, T_RC_SETTING,
 };
+use crate::command::{Asked, Command, A10, ADDRESS_PINS};
 use crate::verdict::Answer;
 
 pub const RULES: usize = 15;
@@ -18,6 +20,17 @@ pub const NO_RULE: u32 = 6;
 const OF_JUDGE: [u32; 4] = [1, 2, 3, 4];
 const OF_CELLS: [u32; 6] = [1, 2, 3, 4, 8, 7];
 const OF_SCHEDULE: [u32; 5] = [2, 3, 5, 6, 7];
+const OF_BLANK: [u32; 5] = [1, 2, 3, 4, 7];
+
+/// What captures that are blanked have to show.
+const SHOWN: [&str; 6] = [
+    "a column",
+    "a row",
+    "a row that the part lacks",
+    "DESELECT that looks like ACTIVE, READ or WRITE",
+    "an address on another command",
+    "a column or a row with CKE low",
+];
 
 /// How often a question was answered, refused with each number, and refused for settings
 /// that contradict each other.
@@ -57,6 +70,10 @@ pub struct OfCaptures {
     pub rules: [u64; RULES],
     pub verdicts: Answers,
     pub cell_lists: Answers,
+    pub blanks: Answers,
+    pub shown: [u64; SHOWN.len()],
+    /// Clean captures whose burst cells are others under other addresses.
+    pub other_cells: u64,
 }
 
 impl OfCaptures {
@@ -72,6 +89,14 @@ impl OfCaptures {
         counts.extend(refusals("judge", &self.verdicts, &OF_JUDGE));
         counts.push(("cells: written".to_string(), self.cell_lists.given));
         counts.extend(refusals("cells", &self.cell_lists, &OF_CELLS));
+        counts.push(("blank: written".to_string(), self.blanks.given));
+        counts.extend(refusals("blank", &self.blanks, &OF_BLANK));
+        // CKE is never low with 14 settings.
+        let shown = SHOWN.len() - usize::from(settings == SETTINGS);
+        for (name, &count) in SHOWN.iter().zip(&self.shown).take(shown) {
+            counts.push((format!("blank: {name}"), count));
+        }
+        counts.push(("blank: other burst cells".to_string(), self.other_cells));
         counts
             .into_iter()
             .map(|(name, count)| (format!("{settings} settings, {name}"), count))
@@ -106,6 +131,26 @@ impl Tally {
             .count(answer.err(), &first_settings(capture));
     }
 
+    pub fn count_blank(&mut self, capture: &[u8], answer: Result<u32, Refusal>) {
+        self.of_layout(capture)
+            .blanks
+            .count(answer.err(), &first_settings(capture));
+    }
+
+    /// What the events of an accepted capture show of blanking.
+    pub fn count_hidden(&mut self, bytes: &[u8], capture: &Capture) {
+        let counts = self.of_layout(bytes);
+        for event in &capture.events {
+            for (count, shows) in counts.shown.iter_mut().zip(shows(capture, event.pins)) {
+                *count += u64::from(shows);
+            }
+        }
+    }
+
+    pub fn count_other_cells(&mut self, capture: &[u8]) {
+        self.of_layout(capture).other_cells += 1;
+    }
+
     pub fn count_schedule(&mut self, settings: &[u32], answer: Result<u32, Refusal>) {
         self.schedules.count(answer.err(), settings);
     }
@@ -127,6 +172,23 @@ impl Tally {
             .map(|(name, _)| name)
             .collect()
     }
+}
+
+/// What a pin word shows of blanking, in the order of SHOWN.
+fn shows(capture: &Capture, pins: u32) -> [bool; SHOWN.len()] {
+    let asked = Asked::of_pins(pins);
+    let names_column = |pins| matches!(Command::of_pins(pins), Command::Read { .. } | Command::Write { .. });
+    let names_row = |pins| matches!(Command::of_pins(pins), Command::Active { .. });
+    let hides = hidden(&capture.settings, pins) & pins != 0;
+    let selected = pins & !Command::Deselect.pins();
+    [
+        names_column(pins) && hides,
+        names_row(pins) && hides,
+        names_row(pins) && hidden(&capture.settings, pins) == 0,
+        asked.command == Command::Deselect && (names_column(selected) || names_row(selected)),
+        !names_column(pins) && !names_row(pins) && pins & ADDRESS_PINS & !A10 != 0,
+        asked.low && hides,
+    ]
 }
 
 /// The 14 settings that every capture has; none where the bytes end before.
