@@ -14,7 +14,7 @@ pub use captures::{busy_capture, guided_capture};
 pub use damage::damaged_capture;
 pub use dice::Dice;
 pub use requests::request_list;
-pub use tally::{Tally, NO_RULE};
+pub use tally::{Tally, MOST_CELLS, NO_RULE};
 
 #[derive(Clone, Debug)]
 pub enum Input {

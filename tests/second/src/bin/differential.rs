@@ -10,15 +10,14 @@ use std::{env, fmt, io};
 
 use second::archive::Archive;
 use second::capture::{Capture, Refusal};
-use second::generate::{input, other_addresses, Dice, Input, Tally};
+use second::generate::{input, other_addresses, Dice, Input, Tally, MOST_CELLS};
 use second::{blank, cells, judge, packed, schedule};
 
 /// What fills buffers beforehand, so that an element written by mistake shows.
 const UNTOUCHED: u32 = 0xa5c3_965a;
 /// Elements behind every lent buffer that nothing may touch either.
 const FENCE: usize = 32;
-/// The most that any answer needs, in elements of its buffer.
-const MOST_CELLS: usize = 16 * 8_000;
+/// The most bytes that any answer needs.
 const MOST_BYTES: usize = 64_088;
 
 fn main() -> ExitCode {
@@ -159,7 +158,6 @@ impl Comparison {
         let Ok(read) = Capture::read(capture) else {
             return Ok(());
         };
-        self.tally.count_hidden(capture, &read);
         let other = other_addresses(&mut self.dice, capture, &read);
         let shown = || format!("{} and {}", hex(capture), hex(&other));
         let judged = |archive: &mut Archive, capture: &[u8]| {
@@ -176,12 +174,25 @@ impl Comparison {
         let archive = &mut self.archive;
         let verdict = judged(archive, capture).map_err(|error| ended("judge", &error, shown()))?;
         let bytes = blanked(archive, capture).map_err(|error| ended("blank", &error, shown()))?;
-        same("judge, other addresses", &verdict, judged(archive, &other), shown)?;
-        same("judge, blanked", &verdict, judged(archive, &bytes.buffer), shown)?;
-        same("blank, other addresses", &bytes, blanked(archive, &other), shown)?;
-        if burst_list(capture) != burst_list(&other) {
-            self.tally.count_other_cells(capture);
-        }
+        same(
+            "judge, other addresses",
+            &verdict,
+            judged(archive, &other),
+            shown,
+        )?;
+        same(
+            "judge, blanked",
+            &verdict,
+            judged(archive, &bytes.buffer),
+            shown,
+        )?;
+        same(
+            "blank, other addresses",
+            &bytes,
+            blanked(archive, &other),
+            shown,
+        )?;
+        self.tally.count_addresses(capture, &read, &other);
         Ok(())
     }
 
@@ -230,14 +241,6 @@ impl Comparison {
             }
         }
     }
-}
-
-/// The cells of a clean capture.
-fn burst_list(capture: &[u8]) -> Vec<u32> {
-    let mut list = vec![0; MOST_CELLS];
-    let written = cells(capture, &mut list).unwrap_or(0);
-    list.truncate(written as usize);
-    list
 }
 
 fn needed(answer: Result<u32, Refusal>) -> Option<usize> {

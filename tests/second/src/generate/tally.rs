@@ -10,9 +10,11 @@ use crate::capture::{
     SLEEP_SETTINGS, T_RC_SETTING,
 };
 use crate::command::{Asked, Command, A10, ADDRESS_PINS};
-use crate::verdict::Answer;
+use crate::verdict::{cells, Answer};
 
 pub const RULES: usize = 15;
+/// The most cells that a burst list has.
+pub const MOST_CELLS: usize = 16 * 8_000;
 /// A number below them that no rule has any more.
 pub const NO_RULE: u32 = 6;
 
@@ -137,18 +139,16 @@ impl Tally {
             .count(answer.err(), &first_settings(capture));
     }
 
-    /// What the events of an accepted capture show of blanking.
-    pub fn count_hidden(&mut self, bytes: &[u8], capture: &Capture) {
+    /// What the events of an accepted capture show of blanking, and whether it has other
+    /// burst cells with other addresses.
+    pub fn count_addresses(&mut self, bytes: &[u8], capture: &Capture, other: &[u8]) {
         let counts = self.of_layout(bytes);
         for event in &capture.events {
             for (count, shows) in counts.shown.iter_mut().zip(shows(capture, event.pins)) {
                 *count += u64::from(shows);
             }
         }
-    }
-
-    pub fn count_other_cells(&mut self, capture: &[u8]) {
-        self.of_layout(capture).other_cells += 1;
+        counts.other_cells += u64::from(burst_list(bytes) != burst_list(other));
     }
 
     pub fn count_schedule(&mut self, settings: &[u32], answer: Result<u32, Refusal>) {
@@ -177,7 +177,12 @@ impl Tally {
 /// What a pin word shows of blanking, in the order of SHOWN.
 fn shows(capture: &Capture, pins: u32) -> [bool; SHOWN.len()] {
     let asked = Asked::of_pins(pins);
-    let names_column = |pins| matches!(Command::of_pins(pins), Command::Read { .. } | Command::Write { .. });
+    let names_column = |pins| {
+        matches!(
+            Command::of_pins(pins),
+            Command::Read { .. } | Command::Write { .. }
+        )
+    };
     let names_row = |pins| matches!(Command::of_pins(pins), Command::Active { .. });
     let hides = hidden(&capture.settings, pins) & pins != 0;
     let selected = pins & !Command::Deselect.pins();
@@ -189,6 +194,14 @@ fn shows(capture: &Capture, pins: u32) -> [bool; SHOWN.len()] {
         !names_column(pins) && !names_row(pins) && pins & ADDRESS_PINS & !A10 != 0,
         asked.low && hides,
     ]
+}
+
+/// The cells of a clean capture.
+fn burst_list(capture: &[u8]) -> Vec<u32> {
+    let mut list = vec![0; MOST_CELLS];
+    let written = cells(capture, &mut list).unwrap_or(0);
+    list.truncate(written as usize);
+    list
 }
 
 /// The 14 settings that every capture has; none where the bytes end before.
