@@ -2,25 +2,24 @@
 use Prim.Native.Nat.{ℕ, zero, suc, _+_, _-_, _*_, _^_, _≤_, _<_}
 use mathlib.Core.Bool.{Bool, true, false, cond, not, _&&_, _||_}
 use mathlib.Core.List.{List, _∷_, map}
-use mathlib.Core.Option.{Option}
 use mathlib.Core.Path.{_≡_, refl, sym, ap, _∙_, subst}
 use native.Mathlib.Omega.{arith}
 use lib.Dec.{leb, ltb, eqb}
-use lib.ListN.{length, take}
+use lib.ListN.{take}
 use borrow.Author.Tests.{ltb-true, ltb-false, lt-ltb, le-ltb}
 use Rattle.reading.specs.Search.{given, count}
 use Rattle.reading.specs.Words.{wordAt}
 use Rattle.reading.specs.Settings.{Settings, settingsOf, badSetting}
-use Rattle.reading.specs.Capture.{Event, settingsStart, eventsStart, captureSize, mostEvents, headerWord, countIn, eventCount, settingWords, eventBytes, eventAt, eventsOf, lengthFits, headerFits, pinLimit, lastCycle, eventFits, badEvent}
+use Rattle.reading.specs.Capture.{settingsStart, eventsStart, captureSize, mostEvents, headerWord, countIn, eventCount, settingWords, eventBytes, eventAt, eventsOf, lengthFits, headerFits, pinLimit, lastCycle, eventFits, badEvent}
 use Rattle.reading.specs.Verdict.{Verdict, verdictOf, judgedOf}
 use Rattle.reading.specs.Answers.{Answer, Report, refused, answered, unless, accepted, settingsIn, verdictIn, judgeAnswer}
-use Rattle.reading.specs.Blank.{above, Alike, OnlyAddressesDiffer}
+use Rattle.reading.specs.Blank.{above, OnlyAddressesDiffer}
 use Rattle.words.proofs.Words.{word-take}
 use Rattle.words.proofs.Counting.{same-counted, same-lowest}
 use Rattle.settings.specs.Meaning.{padded}
 use Rattle.settings.specs.declared.Checked.the-variants as checked
 use Rattle.settings.proofs.Padded.{padded-settings}
-use Rattle.capture.proofs.Accepted.{count-range, cycle-fits, cycle-rises, accepted-rest, refused-rest}
+use Rattle.capture.proofs.Accepted.{count-range, cycle-fits, cycle-rises, refused-rest}
 use Rattle.bridge.specs.Summary.{Timed}
 use Rattle.judge.specs.Meaning.{Fit}
 use Rattle.judge.proofs.Judging as judging

@@ -10,7 +10,7 @@ use borrow.Author.Tests.{eqb-true, eq-eqb, ltb-true, lt-ltb}
 use Rattle.reading.specs.Words.{bit}
 use Rattle.reading.specs.Settings.{Settings}
 use Rattle.reading.specs.Blank.{namesColumn, namesRow, above, Alike, same, columns, rows, blankPins}
-use Rattle.pins.specs.Pins.{codeOf, bankOf, addressOf, tenOf, lowOf}
+use Rattle.pins.specs.Pins.{codeOf, bankOf, addressOf, lowOf}
 use Rattle.pins.proofs.Commands.{active-is, read-is, write-is}
 use Rattle.capture.proofs.Accepted.{both}
 

@@ -4,7 +4,7 @@ use Prim.Native.Nat.{ℕ, _%_, _^_, _<_}
 use mathlib.Core.Bool.{true}
 use mathlib.Core.List.{List}
 use mathlib.Core.Logic.{_⊎_, inl, inr}
-use mathlib.Core.Path.{_≡_, refl, sym, ap, _∙_}
+use mathlib.Core.Path.{_≡_, sym, ap, _∙_}
 use native.Mathlib.Nat.{mod-eq-of-lt}
 use lib.Dec.{eqb, ltb}
 use borrow.Author.Tests.{lt-ltb}
@@ -12,7 +12,7 @@ use Rattle.reading.specs.Words.{bit}
 use Rattle.reading.specs.Settings.{Settings}
 use Rattle.reading.specs.Blank.{above, Alike, same, columns, rows}
 use Rattle.deadlines.specs.Deadlines.{activeBreaks}
-use Rattle.pins.specs.Pins.{codeOf, bankOf, addressOf, tenOf, lowOf}
+use Rattle.pins.specs.Pins.{codeOf, bankOf, addressOf, tenOf}
 use Rattle.steps.specs.Steps.{stepBreaks, stepAfter, paceAfter}
 use Rattle.alike.proofs.Pins.{same-code, same-bank, same-low, column-code, row-code}
 

@@ -8,14 +8,14 @@ use Rattle.reading.specs.Capture.{Event}
 use Rattle.reading.specs.Commands.{commandOf}
 use Rattle.reading.specs.Part.{Part, start, step}
 use Rattle.reading.specs.Rules.{brokenBy}
-use Rattle.reading.specs.Verdict.{Verdict, broken, brokenOr, judgeBy, judgeFrom, verdictBy, verdictOf}
+use Rattle.reading.specs.Verdict.{Verdict, brokenOr, judgeBy, judgeFrom, verdictBy, verdictOf}
 use Rattle.reading.specs.Blank.{Alike}
 use Rattle.deadlines.specs.Deadlines.{paceOf}
 use Rattle.steps.specs.Steps.{stepBreaks, stepAfter, paceAfter}
 use Rattle.bridge.specs.Summary.{Timed, laid, summary}
 use Rattle.bridge.proofs.Tests.{num}
 use Rattle.bridge.proofs.Next.{Sound}
-use Rattle.bridge.proofs.Turn.{Turned, Onward, turned-event, start-sound}
+use Rattle.bridge.proofs.Turn.{Turned, turned-event, start-sound}
 use Rattle.judge.proofs.Walking.{positive}
 use Rattle.alike.proofs.Steps.{Steps, steps-alike}
 

@@ -1,9 +1,8 @@
 -- From a capture's bytes to the answer and the buffer.
-use Prim.Native.Nat.{ℕ, _+_, _*_, _≤_, _<_}
+use Prim.Native.Nat.{ℕ, _+_, _≤_, _<_}
 use mathlib.Core.Bool.{Bool, true, false}
 use mathlib.Core.List.{List, _++_}
-use mathlib.Core.Path.{_≡_, refl, sym, ap, _∙_}
-use native.Mathlib.Nat.{zero-add}
+use mathlib.Core.Path.{_≡_, sym, ap, _∙_}
 use native.Mathlib.Omega.{arith}
 use borrow.Author.Tests.{lt-ltb, le-ltb}
 use lib.Dec.{ltb}
@@ -12,7 +11,7 @@ use lib.Seq.{sets, length-sets}
 use Rattle.reading.specs.Search.{given}
 use Rattle.reading.specs.Settings.{settingsOf}
 use Rattle.reading.specs.Capture.{eventsStart, countIn, eventCount, settingWords, eventBytes, eventsOf}
-use Rattle.reading.specs.Answers.{Answer, refused, answered, unless, Outcome, accepted, leaves, fitting, settingsIn}
+use Rattle.reading.specs.Answers.{Answer, refused, answered, unless, Outcome, accepted, leaves, fitting}
 use Rattle.reading.specs.Blank.{blanked, blankOutcome}
 use Rattle.words.proofs.Runs.{sets-append, front}
 use Rattle.settings.proofs.Fitting.{at-most}
