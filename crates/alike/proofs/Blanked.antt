@@ -127,7 +127,7 @@ module _ (c : List ℕ) (open-to : accepted c (answered (tt {0})) ≡ answered t
         ap (wordAt (eventBytes (blanked c))) e
         ∙ word-is (2 * i) (omega arith) (omega (arith, cycle-stored, cycle-fits (eventBytes c) i (sound .events i l))) ∙ cycle-stored
 
-    blanked-pins : eventAt (eventBytes (blanked c)) i .pins ≡ blankPins s w
+    pub blanked-pins : eventAt (eventBytes (blanked c)) i .pins ≡ blankPins s w
     blanked-pins =
         let e : 8 * i + 4 ≡ 4 * (2 * i + 1) = omega arith in
         ap (wordAt (eventBytes (blanked c))) e

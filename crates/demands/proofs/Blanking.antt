@@ -1,20 +1,23 @@
 -- Captures that differ only in addresses, and what `blanks::blank` writes: about whatever the contracts allow.
-use Prim.Native.Nat.{ℕ}
+use Prim.Native.Nat.{ℕ, _+_, _*_, _<_}
 use mathlib.Core.Bool.{Bool, true, false}
 use mathlib.Core.List.{List, _++_}
 use mathlib.Core.Logic.{_↔_}
 use mathlib.Core.Path.{_≡_, refl, sym, ap, _∙_, subst}
 use native.Mathlib.Omega.{arith}
 use lib.Dec.{ltb}
-use lib.ListN.{length, take, drop}
+use lib.ListN.{length, getD, take, drop}
 use lib.Seq.{take-at, drop-at}
 use Rattle.reading.specs.Search.{given}
-use Rattle.reading.specs.Answers.{Answer, refused, answered, unless, accepted, fitting, leaves}
-use Rattle.reading.specs.Blank.{OnlyAddressesDiffer, blanked, blankOutcome}
+use Rattle.reading.specs.Capture.{eventsStart, countIn, eventCount, eventBytes, eventAt}
+use Rattle.reading.specs.Answers.{Answer, refused, answered, unless, accepted, settingsIn, fitting, leaves}
+use Rattle.reading.specs.Blank.{namesColumn, namesRow, OnlyAddressesDiffer, blanked, blankOutcome}
 use Rattle.capture.proofs.Accepted.{accepted-rest, refused-rest}
 use Rattle.judge.specs.declared.Verdict.{Verdict}
 use Rattle.alike.proofs.Captures.{same-accepted, judged-alike}
-use Rattle.alike.proofs.Blanked.{same-blanked, blanked-length, blanked-differs, differ-blanked}
+use Rattle.alike.proofs.Pins.{as-made}
+use Rattle.alike.proofs.Blanked.{same-blanked, blanked-length, blanked-pins, blanked-differs, differ-blanked}
+use Rattle.alike.proofs.Bytes.{Bytes, front-bytes, cycle-bytes, pin-bytes, blanked-bytes}
 use Rattle.blanks.specs.declared.Blanked.{Blanked}
 use Rattle.blanks.specs.declared.Blanked.the-variants.{Refused, Written}
 use Rattle.blanks.specs.Meaning.{means}
@@ -60,6 +63,26 @@ module _ (capture : List ℕ) (open-to : Accepted capture) where
   -- To blank it once more changes nothing.
   pub blanked-twice : blanked (blanked capture) ≡ blanked capture
   blanked-twice = sym (blanked-same capture (blanked capture) blanked-related)
+
+-- ---- of bytes, nothing else is touched
+
+module _ (capture : List ℕ) (open-to : Accepted capture) (bytes : Bytes capture) where
+  -- header and settings
+  pub front-kept : (j : ℕ) → j < eventsStart (countIn capture) → getD capture j 0 ≡ getD (blanked capture) j 0
+  front-kept = front-bytes capture (blanked capture) bytes (blanked-bytes capture bytes) (blanked-related capture open-to)
+
+  module _ (i : ℕ) (l : i < eventCount capture) where
+    -- the four bytes of every cycle
+    pub cycle-kept : (j : ℕ) → j < 4 → getD (eventBytes capture) (8 * i + j) 0 ≡ getD (eventBytes (blanked capture)) (8 * i + j) 0
+    cycle-kept = cycle-bytes capture (blanked capture) bytes (blanked-bytes capture bytes) (blanked-related capture open-to) i l
+
+    -- the four bytes of the pins of an event that names neither a column nor a row of the part
+    pub pins-kept : namesColumn (eventAt (eventBytes capture) i .pins) ≡ false →
+        namesRow (settingsIn capture) (eventAt (eventBytes capture) i .pins) ≡ false → (j : ℕ) → j < 4 →
+        getD (eventBytes capture) (8 * i + 4 + j) 0 ≡ getD (eventBytes (blanked capture)) (8 * i + 4 + j) 0
+    pins-kept c r =
+        pin-bytes capture (blanked capture) bytes (blanked-bytes capture bytes) (blanked-related capture open-to) i l
+        (sym (blanked-pins capture open-to i l ∙ as-made (eventAt (eventBytes capture) i .pins) (settingsIn capture) c r))
 
 -- ---- what `blank` answers and leaves
 
