@@ -1,5 +1,5 @@
 /* Morgazell for C and C++ programs on x86-64 Linux: judging captures of Mobile DDR commands, listing the cells of their
- * bursts, writing schedules. Valid C99 and C++17.
+ * bursts, writing schedules, blanking addresses. Valid C99 and C++17.
  *
  * Every call but morgazell_version answers one number:
  *
@@ -30,7 +30,7 @@
  *        7     the buffer is shorter than the answer                          the length needed, in its elements
  *
  * They are tried in this order and the first that applies is given. morgazell_judge can give 1 to 4, morgazell_cells
- * 1 to 4, 8 and 7, morgazell_schedule 2, 3, 5, 6 and 7.
+ * 1 to 4, 8 and 7, morgazell_schedule 2, 3, 5, 6 and 7, morgazell_blank 1 to 4 and 7.
  *
  * A capture is words of 32 bits, lowest byte first: six of header (its length in bytes; 14 or 16, the settings count; 24,
  * where they start; the number of events, at most 8,000; 80 or 88, where these start; 0 or 1, the edition), the settings,
@@ -75,7 +75,7 @@
  * call at the same time, each with buffers of its own; inputs may be shared.
  *
  * Stack. The most that a call takes, in bytes, the return address included: morgazell_judge 1024, morgazell_cells 1280,
- * morgazell_schedule 49152, morgazell_version 136; besides, what memcpy and memset of the C library take. The archive wants
+ * morgazell_schedule 49152, morgazell_blank 512, morgazell_version 136; besides, what memcpy and memset of the C library take. The archive wants
  * nothing of anyone but these two, and not even these where it is built for the smallest size. */
 #ifndef MORGAZELL_H
 #define MORGAZELL_H
@@ -103,6 +103,12 @@ uint64_t morgazell_cells(const uint8_t *capture, size_t len, uint32_t *out, size
 uint64_t morgazell_schedule(const uint32_t *settings, size_t settings_len,
                             const uint32_t *requests, size_t requests_len,
                             uint8_t *out, size_t out_len);
+
+/* The capture with its addresses blanked, from out[0] on, as long as it was; bytes behind it stay. 64,088 bytes are always
+ * enough. At 0 are A0-A9 and A11-A13 of READ and WRITE, and A0-A13 of an ACTIVE whose row is one of the part's, with CKE
+ * high or low; all else is as it was: A10, banks, cycles, settings, rows that the part lacks, and all pins of every other
+ * event, whatever stands on them. morgazell_judge says of what was written what it says of the capture. */
+uint64_t morgazell_blank(const uint8_t *capture, size_t len, uint8_t *out, size_t out_len);
 
 static inline unsigned morgazell_refusal(uint64_t answer) { return (unsigned)(answer >> 56); }
 

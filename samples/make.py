@@ -11,8 +11,8 @@ import sys
 HERE = os.path.dirname(os.path.abspath(__file__))
 TESTS = os.path.join(HERE, "..", "tests")
 sys.path.insert(0, TESTS)
-from captures import (A10, ACTIVE, AUTO_REFRESH, LOW, NOP, PRECHARGE, READ, bank, broken_lines, capture, cas_latency,
-                      clean_lines, column, mode_word, nine_owed)
+from captures import (A10, ACTIVE, AUTO_REFRESH, LOW, NOP, PRECHARGE, READ, bank, blanked, broken_lines, capture,
+                      cas_latency, clean_lines, column, mode_word, nine_owed)
 from controller import Controller
 
 # The columns that are settings, in the order of document 01's table.
@@ -285,6 +285,15 @@ def power_down_before_trfc(part, seed):
     return frames_with_fault(part, seed, fault, 4)
 
 
+def blanked_one(name):
+    """Another sample, of the same part, with its addresses blanked."""
+    def make(part, _):
+        seed, of = next((seed, of) for seed, (known, _, of, _) in enumerate(SAMPLES, 1) if known == name)
+        data, lines = of(part, seed)
+        return blanked(data), lines
+    return make
+
+
 def case_b(part, seed):
     events = [(0, ACTIVE), (2, READ)]
     return capture(events), broken_lines(events, 8, 1)
@@ -330,6 +339,7 @@ SAMPLES = [
      "edition 1: READ a cycle too soon after a WRITE to another bank to leave it one pair"),
     ("tWR-edition-1", ("MT46H32M32LF", "-75 CL3"), precharge_before_a_pair_is_in,
      "edition 1: PRECHARGE a cycle too soon after a WRITE to leave it one pair"),
+    ("tWTR-blanked", ("MT46H64M16LF", "-5 CL3"), blanked_one("tWTR"), "the sample tWTR, rows and columns blanked"),
 ]
 
 

@@ -26,6 +26,9 @@ MODE_REGISTER_SET = _code(0, 0, 0)
 NOP = _code(1, 1, 1)
 DESELECT = 1 << 16
 
+# A0 to A13.
+ADDRESS = 0x3FFF
+
 # Auto precharge on READ and WRITE, all banks on PRECHARGE.
 A10 = 1 << 10
 
@@ -98,6 +101,21 @@ def event_in(data, i):
 def with_settings(data, settings):
     """The same capture under other settings, as many as it has."""
     return data[:SETTINGS_AT] + words(settings) + data[events_at(data):]
+
+
+def blanked(data):
+    """An accepted capture with the pins at 0 that may be hidden: of READ and WRITE all address pins but A10, of an ACTIVE
+    whose row the part has all of them."""
+    changed, rows = bytearray(data), 1 << settings_in(data)[1]
+    for at in range(events_at(data) + 4, len(data), 8):
+        pins, = struct.unpack_from("<I", data, at)
+        command = pins & 0xF0000
+        if command in (READ, WRITE):
+            pins &= ~(ADDRESS & ~A10)
+        elif command == ACTIVE and pins & ADDRESS < rows:
+            pins &= ~ADDRESS
+        struct.pack_into("<I", changed, at, pins)
+    return bytes(changed)
 
 
 def setting(number, word, settings=USUAL):

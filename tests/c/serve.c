@@ -1,7 +1,7 @@
 /* The archive behind standard input and output, so that a program on any processor can ask it.
  *
  * A question is five words and what they count:
- *     0      1 morgazell_judge, 2 morgazell_cells, 3 morgazell_schedule
+ *     0      1 morgazell_judge, 2 morgazell_cells, 3 morgazell_schedule, 4 morgazell_blank
  *     1, 2   elements of the inputs: bytes of a capture and 0; words of settings and of requests
  *     3      elements of the lent buffer
  *     4      elements behind it that the call must not touch
@@ -16,7 +16,7 @@
 
 #include "morgazell.h"
 
-enum { JUDGE = 1, CELLS = 2, SCHEDULE = 3 };
+enum { JUDGE = 1, CELLS = 2, SCHEDULE = 3, BLANK = 4 };
 
 #define PAGE 4096
 /* Room for any question of the tests: captures somewhat over the longest, buffers for any answer. */
@@ -76,6 +76,8 @@ static uint64_t call(const uint32_t *question, uint8_t *inputs[2], uint8_t *buff
         return morgazell_cells(first, question[1], out, question[3]);
     case SCHEDULE:
         return morgazell_schedule(first, question[1], second, question[2], out, question[3]);
+    case BLANK:
+        return morgazell_blank(first, question[1], out, question[3]);
     default:
         fail("no such function");
         return 0;

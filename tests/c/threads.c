@@ -1,4 +1,4 @@
-/* threads: two threads that judge, list and schedule different inputs at the same time, many times over. What each call
+/* threads: two threads that judge, list, schedule and blank different inputs at the same time, many times over. What each call
  * answers and leaves has to be what the same call answered and left when it was made alone. */
 #define _POSIX_C_SOURCE 200809L
 #include <inttypes.h>
@@ -10,9 +10,10 @@
 enum { ROUNDS = 300, INPUTS = 4, MOST_CELLS = 128000, MOST_BYTES = 48080, REQUESTS = 500 };
 
 struct left {
-    uint64_t judged, listed, scheduled;
+    uint64_t judged, listed, scheduled, blanked;
     uint32_t cells[MOST_CELLS];
     uint8_t bytes[MOST_BYTES];
+    uint8_t capture[LONGEST];
 };
 
 struct input {
@@ -32,6 +33,7 @@ static void call(const struct input *in, struct left *out)
     out->judged = morgazell_judge(in->capture, in->len);
     out->listed = morgazell_cells(in->capture, in->len, out->cells, MOST_CELLS);
     out->scheduled = morgazell_schedule(SETTINGS, 14, in->requests, REQUESTS, out->bytes, MOST_BYTES);
+    out->blanked = morgazell_blank(in->capture, in->len, out->capture, LONGEST);
 }
 
 /* Rows opened and read to the end; in two of the four an ACTIVE finds the row open at the end. Two are of edition 1, in
@@ -77,8 +79,8 @@ int main(void)
     for (uint32_t i = 0; i < INPUTS; i++) {
         make(&inputs[i], i);
         call(&inputs[i], &inputs[i].alone);
-        printf("%#" PRIx64 " %#" PRIx64 " %#" PRIx64 "\n", inputs[i].alone.judged, inputs[i].alone.listed,
-               inputs[i].alone.scheduled);
+        printf("%#" PRIx64 " %#" PRIx64 " %#" PRIx64 " %#" PRIx64 "\n", inputs[i].alone.judged, inputs[i].alone.listed,
+               inputs[i].alone.scheduled, inputs[i].alone.blanked);
     }
     pthread_barrier_init(&together, NULL, 2);
     if (pthread_create(&other, NULL, work, &odd) != 0)

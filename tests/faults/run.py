@@ -1,7 +1,7 @@
 #!/usr/bin/env python3
-"""Runs the report and the listing with reads and writes that fail. Where all can be read and written, they have to print
-the right text and no complaint; where standard input fails, nothing and a complaint; where standard output fails, the right
-text up to some byte, and a complaint.
+"""Runs the report, the listing and blank with reads and writes that fail. Where all can be read and written, they have to
+print the right text, or write the right capture, and no complaint; where standard input fails, nothing and a complaint;
+where standard output fails, what is right up to some byte, and a complaint.
 
 `stub.c` fails each read and each write in turn, in every way; the rest are failures that systems have: a connection that is
 reset, a pipe that is nearly full, a disk that is, and streams that are closed."""
@@ -19,7 +19,7 @@ HERE = os.path.dirname(os.path.abspath(__file__))
 ROOT = os.path.join(HERE, "..", "..")
 sys.path[:0] = [os.path.join(HERE, ".."), os.path.join(HERE, "..", "listing")]
 import rendering
-from captures import ACTIVE, LOW, NOP, READ, SLEEPY, USUAL, capture, setting
+from captures import ACTIVE, LOW, NOP, READ, SLEEPY, USUAL, blanked, capture, setting
 from running import program
 
 STUB = os.path.join(ROOT, "target", "faults", "stub.so")
@@ -28,18 +28,23 @@ INPUT, OUTPUT, ERRORS = 0, 1, 2
 CLEAN = [(0, ACTIVE), (3, READ)]
 BROKEN = [(12, ACTIVE), (13, READ), (20, NOP)]
 ASLEEP = [(0, NOP | LOW), (5, NOP), (6, ACTIVE)]
+ADDRESSED = capture([(0, ACTIVE | 77), (3, READ | 5)])
 REFUSED = capture([], setting(1, 15))
 
-# Each program on each capture, and the right text.
+# Each program on each capture, and what is right.
 RUNS = [
-    ("report", capture(CLEAN), "events 2\njudged 2\nclean\n"),
-    ("report", capture(BROKEN), "events 3\njudged 1\nbroken rule 8 event 1 cycle 13\n"),
-    ("report", REFUSED, "refused 3 place 1\n"),
-    ("listing", capture(CLEAN), rendering.clean(CLEAN, USUAL)),
-    ("listing", capture(BROKEN), rendering.broken(BROKEN, USUAL, 8, 1)),
-    ("listing", capture(ASLEEP, SLEEPY), rendering.broken(ASLEEP, SLEEPY, 15, 2)),
-    ("listing", REFUSED, rendering.refused(REFUSED, 3, 1)),
+    ("report", capture(CLEAN), b"events 2\njudged 2\nclean\n"),
+    ("report", capture(BROKEN), b"events 3\njudged 1\nbroken rule 8 event 1 cycle 13\n"),
+    ("report", REFUSED, b"refused 3 place 1\n"),
+    ("listing", capture(CLEAN), rendering.clean(CLEAN, USUAL).encode()),
+    ("listing", capture(BROKEN), rendering.broken(BROKEN, USUAL, 8, 1).encode()),
+    ("listing", capture(ASLEEP, SLEEPY), rendering.broken(ASLEEP, SLEEPY, 15, 2).encode()),
+    ("listing", REFUSED, rendering.refused(REFUSED, 3, 1).encode()),
+    ("blank", ADDRESSED, blanked(ADDRESSED)),
 ]
+
+# What each program does with its input and its output.
+DONE = {"report": ("judged", "printed"), "listing": ("judged", "printed"), "blank": ("written", "written")}
 
 # How a call fails: with what, how often in a row, and whether the program has to go on. 0 is a call that moves one byte.
 WAYS = [
@@ -60,13 +65,14 @@ def expect(holds, what, run):
 
 
 def complaint(name, descriptor):
+    judged, printed = DONE[name]
     if descriptor == INPUT:
-        return f"{name}: standard input could not be read to its end; nothing was judged\n".encode()
-    return f"{name}: standard output could not be written to its end; what was printed is not whole\n".encode()
+        return f"{name}: standard input could not be read to its end; nothing was {judged}\n".encode()
+    return f"{name}: standard output could not be written to its end; what was {printed} is not whole\n".encode()
 
 
 def expect_right(what, text, run):
-    expect(run.stdout == text.encode() and run.stderr == b"", what, run)
+    expect(run.stdout == text and run.stderr == b"", what, run)
 
 
 def expect_nothing(what, name, run):
@@ -75,12 +81,12 @@ def expect_nothing(what, name, run):
 
 def expect_start(what, name, text, run):
     """Some of the text and not all."""
-    starts = run.stdout != text.encode() and text.encode().startswith(run.stdout)
+    starts = run.stdout != text and text.startswith(run.stdout)
     expect(starts and run.stderr == complaint(name, OUTPUT), what, run)
 
 
 def expect_start_or_all(what, name, text, run):
-    if run.stdout == text.encode():
+    if run.stdout == text:
         expect_right(what, text, run)
     else:
         expect_start(what, name, text, run)
@@ -236,7 +242,7 @@ def main():
     subprocess.run([os.path.join(ROOT, "tests", "x86"), "library", "-o", STUB, os.path.join(HERE, "stub.c")], check=True)
     for name, data, text in RUNS:
         everything(name, data, text)
-    for name in ("report", "listing"):
+    for name in DONE:
         complaint_goes_on(name)
     print(f"faults: {len(held)} expectations, {held.count(False)} wrong")
     return 0 if all(held) else 1

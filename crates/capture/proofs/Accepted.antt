@@ -63,6 +63,7 @@ pub record Sound (capture : List ℕ) : Type 0 where
   pub sized : Sized capture
   pub settings : (i : ℕ) → i < countIn capture → settingFits i (getD (settingWords capture) i 0) ≡ true
   pub events : (i : ℕ) → i < eventCount capture → cycleFits (eventBytes capture) i ≡ true
+  pub pins : (i : ℕ) → i < eventCount capture → eventAt (eventBytes capture) i .pins < pinLimit capture
 
 nothing-wrong : (o1 o2 o3 o4 : Option ℕ) →
     unless 1 o1 (unless 2 o2 (unless 3 o3 (unless 4 o4 (answered (tt {0}))))) ≡ answered tt →
@@ -152,6 +153,7 @@ module _ (capture : List ℕ) where
         sized = sized (not-false _ (not-given _ (clear .0))) (not-false _ (not-given _ (clear .1)));
         settings = λ i l. in-range (settingWords capture) (length (settingWords capture)) ranges i (omega (arith, words-count));
         events = λ i l. both (ltb (eventAt (eventBytes capture) i .pins) limit) _ (fits i l) .1;
+        pins = λ i l. ltb-true _ _ (both (ltb (eventAt (eventBytes capture) i .pins) limit) _ (fits i l) .0);
       }
 
 -- ---- events that fit

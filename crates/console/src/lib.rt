@@ -104,6 +104,14 @@ pub fn complain(text: &[u8]) {
     write_whole(STDERR_FILENO, text);
 }
 
+// With a number behind it.
+pub fn complain_number(text: &[u8], n: u32) {
+    let mut digits = [0u8; 20];
+    let size = io::decimal(n as u64, &mut digits);
+    complain(text);
+    complain(&digits[..size]);
+}
+
 // A text behind one that was not written would be read as something else, so it is not written either.
 pub fn say(out: &mut Out, text: &[u8])
     ensures { λ _. ⌜ Stays (now (out .entry)) (now (out .exit)) ⌝ }

@@ -5,5 +5,6 @@ pub mod Refusing
 pub mod Scheduling
 pub mod WithoutSix
 pub mod EditionZero
+pub mod Blanking
 mod Finding
 mod Settled

@@ -24,7 +24,7 @@ use Rattle.cells.specs.declared.Listed.{Listed}
 use Rattle.cells.specs.declared.Listed.the-variants as listed
 use Rattle.capture.proofs.Accepted.{length-count}
 use Rattle.cells.proofs.Unique.{one-answer}
-use Rattle.morgazell.proofs.Reversible.{at-count}
+use Rattle.words.proofs.Counting.{at-count}
 use Rattle.demands.specs.Allowed.{Lists}
 use Rattle.demands.specs.Beats.{beatsOf}
 use Rattle.demands.specs.Refused.{Accepted, Clean}

@@ -33,7 +33,7 @@ use Rattle.demands.specs.Refused.{opened, Accepted, ListRefused, unaccep
 use Rattle.demands.specs.Refused as case
 use Rattle.demands.proofs.Judging.{one-answer}
 
-other : {B : Type 0} {A : Type 0} {x : A} {number place : ℕ} → _≡_ {A = Answer A} (answered x) (refused number place) → B
+pub other : {B : Type 0} {A : Type 0} {x : A} {number place : ℕ} → _≡_ {A = Answer A} (answered x) (refused number place) → B
 other e = let z : _≡_ {A = ℕ} 0 1 = cc in absurd (omega arith)
 
 -- ---- the judge
@@ -56,13 +56,13 @@ judge-refused capture r a number place = (
 
 -- ---- buffers
 
-leaves-refused : (a : Answer (List ℕ)) (out : List ℕ) (number place : ℕ) → leaves a out .answer ≡ refused number place → leaves a out .buffer ≡ out
+pub leaves-refused : (a : Answer (List ℕ)) (out : List ℕ) (number place : ℕ) → leaves a out .answer ≡ refused number place → leaves a out .buffer ≡ out
 leaves-refused (refused number place) out k p e = refl
 leaves-refused (answered xs) out k p e = other e
 
 -- what is refused for want of room, and what is not
 module _ (out xs : List ℕ) where
-  room : (number place : ℕ) → leaves (fitting out xs) out .answer ≡ refused number place → (number ≡ 7) × (place ≡ length xs) × (length out < length xs)
+  pub room : (number place : ℕ) → leaves (fitting out xs) out .answer ≡ refused number place → (number ≡ 7) × (place ≡ length xs) × (length out < length xs)
   room number place e = go (ltb (length out) (length xs)) refl e
     where
       go : (v : Bool) → ltb (length out) (length xs) ≡ v → leaves (unless 7 (given (length xs) v) (answered xs)) out .answer ≡ refused number place →
@@ -70,7 +70,7 @@ module _ (out xs : List ℕ) where
       go true f k = (cc, cc, ltb-true (length out) (length xs) f)
       go false f k = other k
 
-  too-long : length out < length xs → leaves (fitting out xs) out .answer ≡ refused 7 (length xs)
+  pub too-long : length out < length xs → leaves (fitting out xs) out .answer ≡ refused 7 (length xs)
   too-long l = rw (lt-ltb (length out) (length xs) l)
 
 -- ---- burst lists

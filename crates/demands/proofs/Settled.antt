@@ -7,6 +7,7 @@ use Rattle.settings.proofs.Unique as settings
 use Rattle.part.proofs.Unique as part
 use Rattle.cells.proofs.Unique as cells
 use Rattle.schedule.proofs.Unique as schedule
+use Rattle.blanks.proofs.Unique as blanks
 use Rattle.demands.proofs.Finding as finding
 use Rattle.demands.proofs.Judging as judging
 use Rattle.words.proofs.word_at.Reads as words-word-at
@@ -57,6 +58,7 @@ use Rattle.effects.proofs.leave_after.Reads as effects-leave-after
 use Rattle.part.proofs.step.Reads as part-step
 use Rattle.judge.proofs.walk.Reads as judge-walk
 use Rattle.judge.proofs.judge.Reads as judge-judge
+use Rattle.blanks.proofs.blank.Reads as blanks-blank
 use Rattle.requests.proofs.asks_write.Reads as requests-asks-write
 use Rattle.requests.proofs.bank.Reads as requests-bank
 use Rattle.requests.proofs.active_pins.Reads as requests-active-pins
@@ -77,6 +79,7 @@ use Rattle.cells.proofs.burst_cells.Reads as cells-burst-cells
 use Rattle.morgazell.proofs.morgazell_judge.Reads as morgazell-morgazell-judge
 use Rattle.morgazell.proofs.morgazell_cells.Reads as morgazell-morgazell-cells
 use Rattle.morgazell.proofs.morgazell_schedule.Reads as morgazell-morgazell-schedule
+use Rattle.morgazell.proofs.morgazell_blank.Reads as morgazell-morgazell-blank
 use Rattle.morgazell.proofs.version.morgazell_version.Reads as morgazell-version-morgazell-version
 use Rattle.capture.proofs.event_bytes.Reads as capture-event-bytes
 use Rattle.capture.proofs.events_start.Reads as capture-events-start
@@ -383,6 +386,12 @@ pub cells-burst-cells-settles : (κs : _) (a : _) (z z′ : _) (e e′ : _) → 
     (z ≡ z′) × (now (e .1 .0) ≡ now (e′ .1 .0))
 cells-burst-cells-settles κs a z z′ e e′ p q = (cells.one-answer z z′ (p .0 ∙ sym (q .0)), p .1 ∙ sym (q .1))
 
+-- ---- blanks
+
+pub blanks-blank-settles : (κs : _) (a : _) (z z′ : _) (e e′ : _) → blanks-blank.Post κs a z e → blanks-blank.Post κs a z′ e′ →
+    (z ≡ z′) × (now (e .1 .0) ≡ now (e′ .1 .0))
+blanks-blank-settles κs a z z′ e e′ p q = (blanks.one-answer z z′ (p .0 ∙ sym (q .0)), p .1 ∙ sym (q .1))
+
 -- ---- morgazell
 
 pub morgazell-morgazell-judge-settles : (κs : _) (a : _) (z z′ : _) (e e′ : _) → morgazell-morgazell-judge.Post κs a z e → morgazell-morgazell-judge.Post κs a z′ e′ →
@@ -396,6 +405,10 @@ morgazell-morgazell-cells-settles κs a z z′ e e′ p q = (p .0 ∙ sym (q .0)
 pub morgazell-morgazell-schedule-settles : (κs : _) (a : _) (z z′ : _) (e e′ : _) → morgazell-morgazell-schedule.Post κs a z e → morgazell-morgazell-schedule.Post κs a z′ e′ →
     (z ≡ z′) × (now (e .1 .1 .0) ≡ now (e′ .1 .1 .0))
 morgazell-morgazell-schedule-settles κs a z z′ e e′ p q = (p .0 ∙ sym (q .0), p .1 ∙ sym (q .1))
+
+pub morgazell-morgazell-blank-settles : (κs : _) (a : _) (z z′ : _) (e e′ : _) → morgazell-morgazell-blank.Post κs a z e → morgazell-morgazell-blank.Post κs a z′ e′ →
+    (z ≡ z′) × (now (e .1 .0) ≡ now (e′ .1 .0))
+morgazell-morgazell-blank-settles κs a z z′ e e′ p q = (p .0 ∙ sym (q .0), p .1 ∙ sym (q .1))
 
 pub morgazell-version-morgazell-version-settles : (κs : _) (a : _) (z z′ : _) (e e′ : _) → morgazell-version-morgazell-version.Post κs a z e → morgazell-version-morgazell-version.Post κs a z′ e′ →
     z ≡ z′

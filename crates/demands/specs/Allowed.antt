@@ -3,12 +3,15 @@ use Prim.Native.Nat.{ℕ}
 use mathlib.Core.List.{List}
 use mathlib.Core.Path.{_≡_}
 use Rattle.reading.specs.Answers.{judgeAnswer, cellsOutcome, scheduleOutcome}
+use Rattle.reading.specs.Blank.{blankOutcome}
 use Rattle.judge.specs.declared.Verdict.{Verdict}
 use Rattle.judge.specs.Meaning.{means}
 use Rattle.cells.specs.declared.Listed.{Listed}
 use Rattle.cells.specs.Meaning as cells
 use Rattle.schedule.specs.declared.Scheduled.{Scheduled}
 use Rattle.schedule.specs.Meaning as schedule
+use Rattle.blanks.specs.declared.Blanked.{Blanked}
+use Rattle.blanks.specs.Meaning as blanks
 
 -- by `judge::judge`
 abbrev pub Judges : List ℕ → Verdict → Type 0
@@ -21,3 +24,7 @@ Lists capture out r left = (cells.means r ≡ cellsOutcome capture out .answer) 
 -- by `schedule::schedule`, lent `out`, which holds `left` afterwards
 abbrev pub Schedules : List ℕ → List ℕ → List ℕ → Scheduled → List ℕ → Type 0
 Schedules ws qs out r left = (schedule.means r ≡ scheduleOutcome ws qs out .answer) × (left ≡ scheduleOutcome ws qs out .buffer)
+
+-- by `blanks::blank`, lent `out`, which holds `left` afterwards
+abbrev pub Blanks : List ℕ → List ℕ → Blanked → List ℕ → Type 0
+Blanks capture out r left = (blanks.means r ≡ blankOutcome capture out .answer) × (left ≡ blankOutcome capture out .buffer)

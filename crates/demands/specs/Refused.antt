@@ -32,6 +32,13 @@ pub data ListRefused (capture out : List ℕ) (number place : ℕ) : Type 0 wher
   -- 7: the cells that there are
   short : Accepted capture → Clean capture → number ≡ 7 → place ≡ length (cellsIn capture) → length out < place → ListRefused capture out number place
 
+-- a capture that is to be blanked
+pub data BlankRefused (capture out : List ℕ) (number place : ℕ) : Type 0 where
+  -- 1 to 4
+  unopened : opened capture ≡ refused number place → BlankRefused capture out number place
+  -- 7: the bytes of the capture
+  scant : Accepted capture → number ≡ 7 → place ≡ length capture → length out < place → BlankRefused capture out number place
+
 -- settings that fit
 pub record Fine (ws : List ℕ) : Type 0 where
   pub count : length ws ≡ 14

@@ -49,7 +49,7 @@ found-positive f (x ∷ xs) p r e z = go (f x) e (found-positive f xs (both-righ
     go true q ih = let k : x ≡ r = cc in eqb-false x 0 (not-true (eqb x 0) (both-left (not (eqb x 0)) _ p)) (k ∙ z)
     go false q ih = ih q z
 
-positive : (s : Settings) (p : Part) (e : Event) (r : ℕ) → brokenBy s p e ≡ some r → r ≡ 0 → ⊥
+pub positive : (s : Settings) (p : Part) (e : Event) (r : ℕ) → brokenBy s p e ≡ some r → r ≡ 0 → ⊥
 positive s p e r q z = found-positive (λ k. not (keepsRule k s p (e .cycle) (commandOf (e .pins)))) rules refl r q z
 
 -- the number that an answer stands for

@@ -21,11 +21,13 @@ use Rattle.reading.specs.Verdict as is
 use Rattle.reading.specs.Cells.{burstsOf, cellsOf}
 use Rattle.reading.specs.Schedule.{Schedule, planned, late, requestFits, badRequest, scheduleFrom, scheduleBy, scheduleOf, served, whenServed, captureOf}
 use Rattle.reading.specs.Answers.{Answer, Report, refused, answered, unless, accepted, settingsIn, verdictIn, judgeAnswer, leaves, fitting, notClean, cellsIn, cellsOutcome, whenPlanned, scheduleOutcome}
+use Rattle.reading.specs.Blank.{blanked, blankOutcome}
 use Rattle.reading.proofs.Meaning.{BrokenAt, verdict-broken}
 use Rattle.reading.proofs.Cuts.{All, nil, cons, Whole, bursts-whole}
-use Rattle.capture.proofs.Accepted.{sized, count-range, words-count}
+use Rattle.capture.proofs.Accepted.{sized, count-range, words-count, accepted-sound, accepted-rest, refused-rest}
 use Rattle.beats.proofs.Columns.{half-le}
 use Rattle.judge.proofs.Events.{length-count}
+use Rattle.alike.proofs.Blanked.{blanked-length}
 use Rattle.plan.proofs.Ready.{few-requests}
 use Rattle.plan.proofs.Captured as plan
 use Rattle.plan.proofs.Captured.{size}
@@ -163,6 +165,11 @@ room buffer out l = go (ltb (length buffer) (length out))
     go true = (omega arith, l)
     go false = l
 
+-- a small refusal
+abbrev Small : Answer (Unit {0}) → Type 0
+Small (refused number place) = Number number × Value place
+Small (answered u) = Unit {0}
+
 -- ---- burst cells: at most 128 a burst, and a burst an event
 
 cells-length : (s : Settings) (xs : List Burst) → All Whole xs → length (cellsOf s xs) ≤ 128 * length xs
@@ -209,6 +216,27 @@ cells-fits capture buffer =
     go : eventCount capture ≤ 8000 → (o : Option ℕ) → notClean (verdictIn capture) ≡ o → Filled buffer (unless 8 o (fitting buffer (cellsIn capture)))
     go short none e = room buffer (cellsIn capture) (cells-few capture short)
     go short (some place) e = (omega arith, not-clean-fits capture short (verdictIn capture) refl place e)
+
+-- ---- captures blanked: at most 64,088 bytes
+
+blanked-few : (capture : List ℕ) → accepted capture (answered (tt {0})) ≡ answered tt → Value (length (blanked capture))
+blanked-few capture open-to =
+    let x = accepted-sound capture open-to .sized in
+    omega (arith, blanked-length capture open-to, x .size, x .few, count-range capture .1)
+
+pub blank-fits : (capture buffer : List ℕ) → Fits (countTold (blankOutcome capture buffer .answer))
+unfolding blankOutcome
+blank-fits capture buffer = go (accepted capture (answered (tt {0}))) refl
+  where
+    rest : Answer (List ℕ)
+    rest = fitting buffer (blanked capture)
+
+    small : (x : Answer (Unit {0})) → x ≡ accepted capture (answered tt) → Small x
+    small x e = subst Small (sym e) (on-accepted Small capture (answered tt) (λ number place n v. (n, v)) (λ short. tt))
+
+    go : (x : Answer (Unit {0})) → accepted capture (answered tt) ≡ x → Filled buffer (accepted capture rest)
+    go (refused number place) e = subst (Filled buffer) (sym (refused-rest capture rest e)) (small (refused number place) (sym e))
+    go (answered tt) e = subst (Filled buffer) (sym (accepted-rest capture rest e)) (room buffer (blanked capture) (blanked-few capture e))
 
 -- ---- schedules
 

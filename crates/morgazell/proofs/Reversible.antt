@@ -1,20 +1,20 @@
 -- The packing loses nothing: what was told is got back from the number, and the whole answer from it and the capture.
-use Prim.Native.Nat.{ℕ, zero, suc, _+_, _^_, _≤_, _<_}
+use Prim.Native.Nat.{ℕ, _^_, _≤_, _<_}
 use mathlib.Core.Bool.{false}
-use mathlib.Core.List.{List, map}
+use mathlib.Core.List.{List}
 use mathlib.Core.Path.{_≡_, refl, sym, ap, _∙_}
-use native.Mathlib.Nat.{add-zero, zero-add, add-suc, suc-add}
+use native.Mathlib.Nat.{zero-add}
 use native.Mathlib.Omega.{arith}
 use borrow.Author.Tests.{ne-eqb}
 use lib.Dec.{eqb}
-use lib.ListN.{getD}
-use Rattle.reading.specs.Search as search
 use Rattle.reading.specs.Capture.{Event, eventCount, eventBytes, eventAt, eventsOf}
 use Rattle.reading.specs.Verdict as is
 use Rattle.reading.specs.Answers.{Answer, Report, refused, answered, verdictIn, judgeAnswer, cellsOutcome, scheduleOutcome}
+use Rattle.reading.specs.Blank.{blankOutcome}
 use Rattle.reading.proofs.Meaning.{eventOf}
+use Rattle.words.proofs.Counting.{at-count}
 use Rattle.morgazell.specs.Packing.{Told, refusal, count, breach, word, packed, told, numberIn, ruleIn, valueIn, unpacked, verdictTold, judgeTold, countTold, judgeAnswerOf, countAnswerOf}
-use Rattle.morgazell.proofs.Fitting.{Number, Value, Fits, on-accepted, events-length, broken-at, judge-fits, cells-fits, schedule-fits}
+use Rattle.morgazell.proofs.Fitting.{Number, Value, Fits, on-accepted, events-length, broken-at, judge-fits, cells-fits, schedule-fits, blank-fits}
 
 word-back : (number rule value : ℕ) → number < 2 ^ 8 → rule < 2 ^ 8 → Value value → unpacked (word number rule value) ≡ told number rule value
 unfolding unpacked
@@ -40,11 +40,6 @@ unpacked-packed (breach rule event) f = word-back 0 rule event (omega arith) (f 
 pub judge-tells : (a b : List ℕ) → packed (judgeTold (judgeAnswer a)) ≡ packed (judgeTold (judgeAnswer b)) →
     judgeTold (judgeAnswer a) ≡ judgeTold (judgeAnswer b)
 judge-tells a b e = sym (unpacked-packed _ (judge-fits a)) ∙ ap unpacked e ∙ unpacked-packed _ (judge-fits b)
-
-pub at-count : {A : Type 0} (f : ℕ → A) (x : A) (from n i : ℕ) → i < n → getD (map f (search.count from n)) i x ≡ f (from + i)
-at-count f x from zero i l = absurd (omega arith)
-at-count f x from (suc n) zero l = ap f (sym (add-zero from))
-at-count f x from (suc n) (suc i) l = at-count f x (suc from) n i (omega arith) ∙ ap f (suc-add from i ∙ sym (add-suc from i))
 
 module _ (capture : List ℕ) (short : eventCount capture ≤ 8000) where
   -- the cycle of the broken event stands in the capture
@@ -107,3 +102,10 @@ module _ (settings requests buffer : List ℕ) where
 pub schedule-tells : (a b q r x y : List ℕ) → packed (countTold (scheduleAnswer a q x)) ≡ packed (countTold (scheduleAnswer b r y)) →
     scheduleAnswer a q x ≡ scheduleAnswer b r y
 schedule-tells a b q r x y = count-tells (scheduleAnswer a q x) (scheduleAnswer b r y) (schedule-fits a q x) (schedule-fits b r y)
+
+pub blank-back : (capture buffer : List ℕ) → countAnswerOf (unpacked (packed (countTold (blankOutcome capture buffer .answer)))) ≡ blankOutcome capture buffer .answer
+blank-back capture buffer = count-back (blankOutcome capture buffer .answer) (blank-fits capture buffer)
+
+pub blank-tells : (a b x y : List ℕ) → packed (countTold (blankOutcome a x .answer)) ≡ packed (countTold (blankOutcome b y .answer)) →
+    blankOutcome a x .answer ≡ blankOutcome b y .answer
+blank-tells a b x y = count-tells (blankOutcome a x .answer) (blankOutcome b y .answer) (blank-fits a x) (blank-fits b y)

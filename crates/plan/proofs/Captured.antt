@@ -20,6 +20,7 @@ use Rattle.reading.specs.Schedule.{badRequest, freeFrom, planned, scheduleOf, e
 use Rattle.reading.specs.Answers.{Answer, Report, answered, settingsIn, accepted, verdictIn, judgeAnswer}
 use Rattle.reading.proofs.Meaning.{eventOf}
 use Rattle.words.proofs.Words.{bytesOf-length, word-drop, word-of-bytes}
+use Rattle.words.proofs.Events.{words-length, cycle-word, pins-word}
 use Rattle.settings.proofs.Fitting.{rowAt, at-most, in-range, each-in-range}
 use Rattle.plan.proofs.Ranged.{ranged}
 use Rattle.plan.proofs.Reached.{Rises}
@@ -76,24 +77,6 @@ rising : (from : ℕ) (es : List Event) → Rises from es → (i : ℕ) → suc 
 rising from [] r i l = absurd (omega arith)
 rising from (e ∷ es) r zero l = within (suc (e .cycle)) es (r .2) 0 (omega arith) .low
 rising from (e ∷ es) r (suc i) l = rising (suc (e .cycle)) es (r .2) i (omega arith)
-
--- the words of the events
-pub words-length : (es : List Event) → length (eventWords es) ≡ 2 * length es
-unfolding eventWords
-words-length [] = refl
-words-length (e ∷ es) = omega (arith, words-length es)
-
-cycle-word : (es : List Event) (i : ℕ) → getD (eventWords es) (2 * i) 0 ≡ eventOf es i .cycle
-unfolding eventWords
-cycle-word [] i = refl
-cycle-word (e ∷ es) zero = refl
-cycle-word (e ∷ es) (suc i) = let k : 2 * suc i ≡ suc (suc (2 * i)) = omega arith in rw k (cycle-word es i)
-
-pins-word : (es : List Event) (i : ℕ) → getD (eventWords es) (2 * i + 1) 0 ≡ eventOf es i .pins
-unfolding eventWords
-pins-word [] i = refl
-pins-word (e ∷ es) zero = refl
-pins-word (e ∷ es) (suc i) = let k : 2 * suc i + 1 ≡ suc (suc (2 * i + 1)) = omega arith in rw k (pins-word es i)
 
 -- ---- the capture
 

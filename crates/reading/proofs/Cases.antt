@@ -24,6 +24,7 @@ mod Memories
 mod Sleeping
 mod Tables
 mod Editions
+mod Blanking
 
 -- pin words, put together by adding: a command, a bank, A10, column or row pins
 abbrev ACTIVE : ℕ

@@ -15,3 +15,4 @@ pub mod Cells
 pub mod Schedule
 pub mod Memory
 pub mod Answers
+pub mod Blank

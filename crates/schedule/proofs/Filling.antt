@@ -1,28 +1,16 @@
 -- Lists that are filled from the front, element by element.
-use Prim.Native.Nat.{ℕ, zero, suc, _+_, _-_, _*_, _≤_, _<_}
+use Prim.Native.Nat.{ℕ, _+_, _-_, _*_, _≤_, _<_}
 use mathlib.Core.List.{List, [], _∷_, _++_}
 use mathlib.Core.Path.{_≡_, refl, sym, ap, _∙_}
-use native.Mathlib.Nat.{zero-add}
 use native.Mathlib.Numerals.{add-one}
 use native.Mathlib.Omega.{arith}
 use lib.ListN.{length, set, getD, take, drop, replicate, length-set, length-take}
-use lib.Seq.{sets, sets-eq, length-sets, take-suc, drop-cons}
+use lib.Seq.{sets, length-sets, take-suc, drop-cons}
 use Rattle.reading.specs.Words.{wordBytes, bytesOf}
 use Rattle.reading.specs.Settings.{settingsCount}
-use Rattle.reading.specs.Capture.{Event}
-use Rattle.reading.specs.Schedule.{eventWords}
+use Rattle.words.proofs.Runs.{none-behind, front}
 use Rattle.words.proofs.Words.{sets-words}
 use Rattle.settings.specs.Meaning.{heldCount, padded}
-
-pub none-behind : {A : Type 0} (l : List A) (i : ℕ) → length l ≤ i → drop i l ≡ []
-none-behind [] zero h = refl
-none-behind [] (suc i) h = refl
-none-behind (x ∷ l) zero h = absurd (omega arith)
-none-behind (x ∷ l) (suc i) h = none-behind l i (omega arith)
-
--- a run from the front on
-pub front : (vs l : List ℕ) → length vs ≤ length l → sets l 0 vs ≡ vs ++ drop (length vs) l
-front vs l h = sets-eq vs l 0 (omega arith) ∙ ap (λ (k : ℕ). vs ++ drop k l) (zero-add (length vs))
 
 -- ---- the settings as an array
 
@@ -85,10 +73,3 @@ module _ {out₀ list out : List ℕ} {at n i : ℕ} (x : Storing out₀ at list
 
   pub stores-all : n ≤ i → out ≡ sets out₀ at (bytesOf (take n list))
   stores-all l = let e : i ≡ n = omega (arith, x .within) in x .same ∙ ap (λ (k : ℕ). sets out₀ at (bytesOf (take k list))) e
-
--- ---- the words of events
-
-pub words-append : (es fs : List Event) → eventWords (es ++ fs) ≡ eventWords es ++ eventWords fs
-unfolding eventWords
-words-append [] fs = refl
-words-append (e ∷ es) fs = ap (λ (l : List ℕ). e .cycle ∷ e .pins ∷ l) (words-append es fs)

@@ -15,6 +15,8 @@ use Rattle.reading.specs.Settings.{Settings, settingsCount, settingsOf, outOfRa
 use Rattle.reading.specs.Capture.{Event}
 use Rattle.reading.specs.Schedule.{Schedule, planned, late, badRequest, scheduleOf, eventWords, captureOf}
 use Rattle.reading.specs.Answers.{Answer, refused, answered, unless, Outcome, leaves, whenPlanned, fitting, scheduleOutcome}
+use Rattle.words.proofs.Runs.{front}
+use Rattle.words.proofs.Events.{words-length}
 use Rattle.words.specs.Found.{placeOf}
 use Rattle.words.specs.declared.Found.{Found}
 use Rattle.words.specs.declared.Found.the-variants.{Nothing, At}
@@ -25,7 +27,7 @@ use Rattle.settings.specs.declared.Checked.the-variants as check
 use Rattle.settings.proofs.Padded.{padded-settings, padded-range}
 use Rattle.settings.proofs.Fitting.{each-in-range}
 use Rattle.memory.specs.Serving.{Sized}
-use Rattle.plan.proofs.Captured.{words-length, settings-fit}
+use Rattle.plan.proofs.Captured.{settings-fit}
 use Rattle.plan.proofs.Ranged.{ranged}
 use Rattle.plan.proofs.Ready.{few-requests, schedule-planned}
 use Rattle.plan.proofs.Captured as captured
@@ -34,7 +36,6 @@ use Rattle.schedule.specs.declared.Scheduled.the-variants.{Refused, Writ
 use Rattle.schedule.specs.declared.Planned.{Planned}
 use Rattle.schedule.specs.declared.Planned.the-variants.{Late, Events}
 use Rattle.schedule.specs.Meaning.{means, plannedAs, Noted, Plannable, Writable, size, head, written, writing}
-use Rattle.schedule.proofs.Filling.{front}
 
 -- what a call ends with is document 01's outcome
 abbrev pub Ends : Outcome → Scheduled → List ℕ → Type 0

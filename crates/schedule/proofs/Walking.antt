@@ -15,7 +15,8 @@ use Rattle.reading.specs.Settings.{Settings, settingsCount, settingsOf}
 use Rattle.reading.specs.Capture.{Event}
 use Rattle.reading.specs.Rules.{placing}
 use Rattle.reading.specs.Schedule.{planned, late, firstCell, cellBank, requestFits, freeFrom, served, whenServed, scheduleFrom, scheduleBy, scheduleOf, eventWords}
-use Rattle.words.proofs.Runs.{sets-append}
+use Rattle.words.proofs.Runs.{sets-append, none-behind}
+use Rattle.words.proofs.Events.{words-length, words-append}
 use Rattle.settings.proofs.Fitting.{in-range}
 use Rattle.deadlines.specs.Deadlines.{BUSY, at}
 use Rattle.deadlines.specs.Deadlines as all
@@ -26,7 +27,6 @@ use Rattle.requests.specs.Asked.{Asked}
 use Rattle.plan.specs.Behind.{partOf, deadlinesOf}
 use Rattle.plan.proofs.Ranged.{Ranged, ranged}
 use Rattle.memory.proofs.Pins.{bank-small}
-use Rattle.plan.proofs.Captured.{words-length}
 use Rattle.plan.proofs.Ready.{Ready, start-ready, Served, served-ready, few-requests, requests-fit}
 use Rattle.turns.specs.declared.Placed.{Placed}
 use Rattle.turns.specs.declared.Placed.the-variants as turn
@@ -42,7 +42,6 @@ use Rattle.turns.proofs.Taken.{Taken, turn-late, turn-taken}
 use Rattle.turns.proofs.Told.{told-alone, told-behind, told-late}
 use Rattle.schedule.specs.declared.Planned.the-variants.{Late, Events}
 use Rattle.schedule.specs.Meaning.{plannedAs, Noted, Plannable, Notable}
-use Rattle.schedule.proofs.Filling.{none-behind, words-append}
 
 -- what is neither alone nor behind an AUTO REFRESH is late
 pub only-late : (p : Placed) → OneOf (1 ∷ 2 ∷ []) (tagOf the-type p) → OneOf (0 ∷ 2 ∷ []) (tagOf the-type p) → p ≡ turn.Late

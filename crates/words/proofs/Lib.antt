@@ -2,3 +2,5 @@
 pub mod Runs
 pub mod Words
 pub mod Search
+pub mod Counting
+pub mod Events

@@ -1,11 +1,11 @@
 -- Runs of stores: `sets l i vs` stores vs from i on. It has no side condition, so runs compose freely.
 use Prim.Native.Nat.{ℕ, zero, suc, _+_, _≤_, _<_}
-use native.Mathlib.Nat.{add-zero, add-suc, suc-add}
+use native.Mathlib.Nat.{add-zero, zero-add, add-suc, suc-add}
 use native.Mathlib.Omega.{arith}
 use mathlib.Core.Path.{_≡_, refl, sym, ap, _∙_}
 use mathlib.Core.List.{List, [], _∷_, _++_}
-use lib.ListN.{length, set, getD, length-set}
-use lib.Seq.{sets, set-comm, getD-set-same, getD-set-other}
+use lib.ListN.{length, set, getD, drop, length-set}
+use lib.Seq.{sets, sets-eq, set-comm, getD-set-same, getD-set-other}
 
 next-place : (i n : ℕ) → i + suc n ≡ suc i + n
 next-place i n = add-suc i n ∙ sym (suc-add i n)
@@ -51,3 +51,14 @@ getD-sets-in (v ∷ vs) l i zero h f =
 getD-sets-in (v ∷ vs) l i (suc j) h f =
     ap (λ (k : ℕ). getD (sets (set l i v) (suc i) vs) k 0) (next-place i j)
     ∙ getD-sets-in vs (set l i v) (suc i) j (omega arith) (simp length-set (omega arith))
+
+-- behind the last there is nothing
+pub none-behind : {A : Type 0} (l : List A) (i : ℕ) → length l ≤ i → drop i l ≡ []
+none-behind [] zero h = refl
+none-behind [] (suc i) h = refl
+none-behind (x ∷ l) zero h = absurd (omega arith)
+none-behind (x ∷ l) (suc i) h = none-behind l i (omega arith)
+
+-- a run from the front on
+pub front : (vs l : List ℕ) → length vs ≤ length l → sets l 0 vs ≡ vs ++ drop (length vs) l
+front vs l h = sets-eq vs l 0 (omega arith) ∙ ap (λ (k : ℕ). vs ++ drop k l) (zero-add (length vs))

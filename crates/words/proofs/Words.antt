@@ -4,8 +4,8 @@ use native.Mathlib.Nat.{add-zero, add-assoc, div-div-eq-div-mul, mod-eq-of-lt}
 use native.Mathlib.Omega.{arith}
 use mathlib.Core.Path.{_≡_, refl, sym, ap, _∙_}
 use mathlib.Core.List.{List, [], _∷_, _++_, append-assoc}
-use lib.ListN.{length, getD, drop}
-use lib.Seq.{sets, getD-drop}
+use lib.ListN.{length, getD, take, drop}
+use lib.Seq.{sets, getD-take, getD-drop}
 use Rattle.reading.specs.Words.{wordAt, wordBytes, bytesOf}
 use Rattle.words.proofs.Runs.{sets-append, getD-sets-below, getD-sets-above, getD-sets-in}
 
@@ -50,6 +50,13 @@ pub word-drop : (n : ℕ) (l : List ℕ) (at : ℕ) → wordAt (drop n l) at ≡
 unfolding wordAt
 word-drop n l at =
     rw (getD-drop n l at 0, getD-drop n l (at + 1) 0, getD-drop n l (at + 2) 0, getD-drop n l (at + 3) 0, add-assoc n at 1, add-assoc n at 2, add-assoc n at 3)
+
+-- a word that stands whole in the first n bytes
+pub word-take : (n : ℕ) (l : List ℕ) (at : ℕ) → at + 4 ≤ n → wordAt (take n l) at ≡ wordAt l at
+unfolding wordAt
+word-take n l at h =
+    let byte : (j : ℕ) → j < n → getD (take n l) j 0 ≡ getD l j 0 = λ j k. getD-take n l j 0 k in
+    rw (byte at (omega arith), byte (at + 1) (omega arith), byte (at + 2) (omega arith), byte (at + 3) (omega arith))
 
 -- ---- words stored in place
 

@@ -18,12 +18,12 @@ use std::slice;
 
 use second::archive::Archive;
 use second::capture::{SETTINGS, SLEEP_SETTINGS};
-use second::{c, cells, judge, packed, schedule};
+use second::{blank, c, cells, judge, packed, schedule};
 
 const FENCE: usize = 8;
 const UNTOUCHED: u32 = 0xa5c3_965a;
 const MOST_CELLS: usize = 16 * 8_000;
-const MOST_BYTES: usize = 64_080;
+const MOST_BYTES: usize = 64_088;
 
 thread_local! {
     static ARCHIVE: RefCell<Archive> = RefCell::new(Archive::start("quick").expect("the archive"));
@@ -88,6 +88,21 @@ fn compare_captures(archive: &mut Archive, capture: &[u8], room: usize) {
         .expect("the archive");
     same("cells, archive", &expected, &found);
     same("cells, archive", of_second, of_archive);
+    compare_blanks(archive, capture, room);
+}
+
+/// The C does not blank.
+fn compare_blanks(archive: &mut Archive, capture: &[u8], room: usize) {
+    let needed = blank(capture, &mut vec![0; MOST_BYTES]).ok();
+    let lent = length(needed, room);
+    let mut buffers = [(); 2].map(|()| vec![UNTOUCHED as u8; lent + FENCE]);
+    let [of_second, of_archive] = &mut buffers;
+    let expected = packed::of_count(blank(capture, &mut of_second[..lent]));
+    let found = archive
+        .blank(capture, of_archive, lent)
+        .expect("the archive");
+    same("blank, archive", &expected, &found);
+    same("blank, archive", of_second, of_archive);
 }
 
 fn compare_schedules(archive: &mut Archive, settings: &[u32], requests: &[u32], room: usize) {

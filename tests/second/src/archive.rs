@@ -15,6 +15,7 @@ enum Function {
     Judge = 1,
     Cells = 2,
     Schedule = 3,
+    Blank = 4,
 }
 
 pub struct Archive {
@@ -66,6 +67,11 @@ impl Archive {
         let counts = [settings.len(), requests.len(), lent, out.len() - lent];
         let inputs = [bytes_of(settings), bytes_of(requests)].concat();
         self.ask(Function::Schedule, counts, inputs, out)
+    }
+
+    pub fn blank(&mut self, capture: &[u8], out: &mut [u8], lent: usize) -> io::Result<u64> {
+        let counts = [capture.len(), 0, lent, out.len() - lent];
+        self.ask(Function::Blank, counts, capture.to_vec(), out)
     }
 
     /// Ends the program, which must have nothing to complain of.

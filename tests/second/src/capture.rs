@@ -207,6 +207,11 @@ impl Settings {
         })
     }
 
+    /// How many rows a bank has.
+    pub fn rows(&self) -> u32 {
+        1 << self.row_bits
+    }
+
     /// How many cells the four banks have together.
     pub fn cells(&self) -> u64 {
         4 << (self.row_bits + self.column_bits)

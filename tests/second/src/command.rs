@@ -6,10 +6,10 @@ const CS: u32 = 1 << 16;
 const RAS: u32 = 1 << 17;
 const CAS: u32 = 1 << 18;
 const WE: u32 = 1 << 19;
-const A10: u32 = 1 << 10;
+pub const A10: u32 = 1 << 10;
 /// CKE low.
 pub const LOW: u32 = 1 << 20;
-const ADDRESS_PINS: u32 = 0x3fff;
+pub const ADDRESS_PINS: u32 = 0x3fff;
 
 /// The mode register and the extended one, by BA1,BA0.
 pub const MODE_REGISTER: u32 = 0b00;

@@ -1,6 +1,7 @@
 //! Seeded inputs: captures that are clean or break a chosen kind of rule, captures that are
 //! damaged, and settings with request lists.
 
+mod addresses;
 mod captures;
 mod damage;
 mod dice;
@@ -8,11 +9,12 @@ mod requests;
 mod settings;
 mod tally;
 
+pub use addresses::other_addresses;
 pub use captures::{busy_capture, guided_capture};
 pub use damage::damaged_capture;
 pub use dice::Dice;
 pub use requests::request_list;
-pub use tally::{Tally, NO_RULE};
+pub use tally::{Tally, MOST_CELLS, NO_RULE};
 
 #[derive(Clone, Debug)]
 pub enum Input {

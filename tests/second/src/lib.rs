@@ -3,6 +3,7 @@
 //! The C next door answers the same questions at speed.
 
 pub mod archive;
+pub mod blank;
 pub mod c;
 pub mod capture;
 pub mod command;
@@ -16,6 +17,7 @@ pub mod schedule;
 pub mod sleep;
 pub mod verdict;
 
+pub use blank::blank;
 pub use capture::Refusal;
 pub use memory::{plain, replay, Outcome};
 pub use schedule::schedule;

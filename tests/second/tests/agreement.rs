@@ -4,10 +4,10 @@
 use second::capture::{
     bytes_of_edition, word, Capture, Edition, Refusal, HEADER_BYTES, SETTINGS, SLEEP_SETTINGS,
 };
-use second::generate::{input, Dice, Input, Tally, NO_RULE};
+use second::generate::{input, other_addresses, Dice, Input, Tally, NO_RULE};
 use second::schedule::schedule_literally;
 use second::verdict::{cells_literally, judge_literally};
-use second::{c, cells, judge, packed, plain, replay, schedule, Answer};
+use second::{blank, c, cells, judge, packed, plain, replay, schedule, Answer};
 
 const SEED: u64 = 1;
 const INPUTS: usize = 40_000;
@@ -57,6 +57,7 @@ fn tried_schedule(
 fn everything_comes_up() {
     let mut tally = Tally::default();
     let mut full_and_clean = 0;
+    let mut dice = Dice::new(4);
     for input in inputs(INPUTS) {
         match input {
             Input::Capture(capture) => {
@@ -64,6 +65,11 @@ fn everything_comes_up() {
                 tally.count_answer(&capture, answer);
                 full_and_clean += u32::from(answer == Answer::Clean { judged: 8_000 });
                 tally.count_cells(&capture, cells(&capture, &mut [0; 40]));
+                tally.count_blank(&capture, blank(&capture, &mut [0; 300]));
+                if let Ok(read) = Capture::read(&capture) {
+                    let other = other_addresses(&mut dice, &capture, &read);
+                    tally.count_addresses(&capture, &read, &other);
+                }
             }
             Input::Requests { settings, requests } => {
                 let answer = schedule(&settings, &requests, &mut [0; 2_000]);

@@ -9,17 +9,16 @@ use std::process::ExitCode;
 use std::{env, fmt, io};
 
 use second::archive::Archive;
-use second::capture::Refusal;
-use second::generate::{input, Dice, Input, Tally};
-use second::{cells, judge, packed, schedule};
+use second::capture::{Capture, Refusal};
+use second::generate::{input, other_addresses, Dice, Input, Tally, MOST_CELLS};
+use second::{blank, cells, judge, packed, schedule};
 
 /// What fills buffers beforehand, so that an element written by mistake shows.
 const UNTOUCHED: u32 = 0xa5c3_965a;
 /// Elements behind every lent buffer that nothing may touch either.
 const FENCE: usize = 32;
-/// The most that any answer needs, in elements of its buffer.
-const MOST_CELLS: usize = 16 * 8_000;
-const MOST_BYTES: usize = 64_080;
+/// The most bytes that any answer needs.
+const MOST_BYTES: usize = 64_088;
 
 fn main() -> ExitCode {
     match asked().and_then(|(inputs, seed, build)| run(inputs, seed, &build)) {
@@ -94,7 +93,9 @@ impl Comparison {
         match input(&mut self.dice) {
             Input::Capture(capture) => {
                 self.compare_judges(&capture)?;
-                self.compare_cells(&capture)
+                self.compare_cells(&capture)?;
+                self.compare_blanks(&capture)?;
+                self.compare_addresses(&capture)
             }
             Input::Requests { settings, requests } => self.compare_schedules(&settings, &requests),
         }
@@ -129,6 +130,69 @@ impl Comparison {
             let found = answer.map(|answer| Left { answer, buffer });
             same("cells", &expected, found, || hex(capture))?;
         }
+        Ok(())
+    }
+
+    fn compare_blanks(&mut self, capture: &[u8]) -> Result<(), Difference> {
+        let untouched = UNTOUCHED as u8;
+        let needed = needed(blank(capture, &mut vec![untouched; MOST_BYTES]));
+        for length in self.lengths(needed, MOST_BYTES) {
+            let mut buffer = vec![untouched; length + FENCE];
+            let answer = blank(capture, &mut buffer[..length]);
+            self.tally.count_blank(capture, answer);
+            let expected = Left {
+                answer: packed::of_count(answer),
+                buffer,
+            };
+            let mut buffer = vec![untouched; length + FENCE];
+            let answer = self.archive.blank(capture, &mut buffer, length);
+            let found = answer.map(|answer| Left { answer, buffer });
+            same("blank", &expected, found, || hex(capture))?;
+        }
+        Ok(())
+    }
+
+    /// Of an accepted capture: with other addresses, and blanked, the archive judges it alike;
+    /// with other addresses it is blanked to the same bytes.
+    fn compare_addresses(&mut self, capture: &[u8]) -> Result<(), Difference> {
+        let Ok(read) = Capture::read(capture) else {
+            return Ok(());
+        };
+        let other = other_addresses(&mut self.dice, capture, &read);
+        let shown = || format!("{} and {}", hex(capture), hex(&other));
+        let judged = |archive: &mut Archive, capture: &[u8]| {
+            archive.judge(capture).map(|answer| Left {
+                answer,
+                buffer: Vec::<u8>::new(),
+            })
+        };
+        let blanked = |archive: &mut Archive, capture: &[u8]| {
+            let mut buffer = vec![0; capture.len()];
+            let answer = archive.blank(capture, &mut buffer, capture.len());
+            answer.map(|answer| Left { answer, buffer })
+        };
+        let archive = &mut self.archive;
+        let verdict = judged(archive, capture).map_err(|error| ended("judge", &error, shown()))?;
+        let bytes = blanked(archive, capture).map_err(|error| ended("blank", &error, shown()))?;
+        same(
+            "judge, other addresses",
+            &verdict,
+            judged(archive, &other),
+            shown,
+        )?;
+        same(
+            "judge, blanked",
+            &verdict,
+            judged(archive, &bytes.buffer),
+            shown,
+        )?;
+        same(
+            "blank, other addresses",
+            &bytes,
+            blanked(archive, &other),
+            shown,
+        )?;
+        self.tally.count_addresses(capture, &read, &other);
         Ok(())
     }
 
@@ -189,17 +253,22 @@ fn same<T: PartialEq>(
     found: io::Result<Left<T>>,
     shown: impl Fn() -> String,
 ) -> Result<(), Difference> {
-    let what = match found {
-        Ok(found) => difference(expected, &found),
-        Err(error) => Some(format!("the archive's program ended: {error}")),
-    };
-    match what {
+    let found = found.map_err(|error| ended(question, &error, shown()))?;
+    match difference(expected, &found) {
         None => Ok(()),
         Some(what) => Err(Difference {
             question,
             what,
             input: shown(),
         }),
+    }
+}
+
+fn ended(question: &'static str, error: &io::Error, input: String) -> Difference {
+    Difference {
+        question,
+        what: format!("the archive's program ended: {error}"),
+        input,
     }
 }
 

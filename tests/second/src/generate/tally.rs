@@ -4,14 +4,18 @@
 use std::collections::BTreeMap;
 use std::fmt;
 
+use crate::blank::hidden;
 use crate::capture::{
-    events_at, settings_of_layout, word, words, Edition, Refusal, EDITION_AT, HEADER_BYTES, LIMITS,
-    SETTINGS, SLEEP_SETTINGS, T_RC_SETTING,
+    events_at, settings_of_layout, word, words, Capture, Edition, Refusal, EDITION_AT, HEADER_BYTES,
+    LIMITS, SETTINGS, SLEEP_SETTINGS, T_RC_SETTING,
 };
+use crate::command::{Asked, Command, A10, ADDRESS_PINS};
 use crate::part::LookBack;
-use crate::verdict::{part_after, Answer};
+use crate::verdict::{cells, part_after, Answer};
 
 pub const RULES: usize = 15;
+/// The most cells that a burst list has.
+pub const MOST_CELLS: usize = 16 * 8_000;
 /// A number below them that no rule has any more.
 pub const NO_RULE: u32 = 6;
 
@@ -21,6 +25,17 @@ const OF_CELLS: [u32; 6] = [1, 2, 3, 4, 8, 7];
 const OF_SCHEDULE: [u32; 5] = [2, 3, 5, 6, 7];
 /// Those of a capture whose sixth word is no edition.
 const OF_NO_EDITION: [u32; 1] = [2];
+const OF_BLANK: [u32; 5] = [1, 2, 3, 4, 7];
+
+/// What captures that are blanked have to show.
+const SHOWN: [&str; 6] = [
+    "a column",
+    "a row",
+    "a row that the part lacks",
+    "DESELECT that looks like ACTIVE, READ or WRITE",
+    "an address on another command",
+    "a column or a row with CKE low",
+];
 
 /// How often a question was answered, refused with each number, and refused for settings
 /// that contradict each other.
@@ -60,10 +75,14 @@ pub struct Tally {
 #[derive(Clone, Debug, Default)]
 pub struct OfCaptures {
     pub rules: [u64; RULES],
-    verdicts: Answers,
-    cell_lists: Answers,
+    pub verdicts: Answers,
+    pub cell_lists: Answers,
     /// Of the burst lists written, those with a write cut short by READ or PRECHARGE.
     pub interrupted: u64,
+    pub blanks: Answers,
+    pub shown: [u64; SHOWN.len()],
+    /// Clean captures whose burst cells are others under other addresses.
+    pub other_cells: u64,
 }
 
 impl OfCaptures {
@@ -98,12 +117,21 @@ impl OfCaptures {
         }
         counts.extend(refusals("cells", &self.cell_lists, &OF_CELLS));
         counts.push(contradictions("cells", &self.cell_lists));
+        counts.push(("blank: written".to_string(), self.blanks.given));
+        counts.extend(refusals("blank", &self.blanks, &OF_BLANK));
+        // CKE is never low with 14 settings.
+        let shown = SHOWN.len() - usize::from(settings == SETTINGS);
+        for (name, &count) in SHOWN.iter().zip(&self.shown).take(shown) {
+            counts.push((format!("blank: {name}"), count));
+        }
+        counts.push(("blank: other burst cells".to_string(), self.other_cells));
         counts
     }
 
     fn refused_counts(&self) -> Vec<(String, u64)> {
         let mut counts = refusals("judge", &self.verdicts, &OF_NO_EDITION);
         counts.extend(refusals("cells", &self.cell_lists, &OF_NO_EDITION));
+        counts.extend(refusals("blank", &self.blanks, &OF_NO_EDITION));
         counts
     }
 }
@@ -140,6 +168,24 @@ impl Tally {
             .cell_lists
             .count(answer.err(), &first_settings(capture));
         counts.interrupted += u64::from(interrupted);
+    }
+
+    pub fn count_blank(&mut self, capture: &[u8], answer: Result<u32, Refusal>) {
+        self.of_capture(capture)
+            .blanks
+            .count(answer.err(), &first_settings(capture));
+    }
+
+    /// What the events of an accepted capture show of blanking, and whether it has other
+    /// burst cells with other addresses.
+    pub fn count_addresses(&mut self, bytes: &[u8], capture: &Capture, other: &[u8]) {
+        let counts = self.of_capture(bytes);
+        for event in &capture.events {
+            for (count, shows) in counts.shown.iter_mut().zip(shows(capture, event.pins)) {
+                *count += u64::from(shows);
+            }
+        }
+        counts.other_cells += u64::from(burst_list(bytes) != burst_list(other));
     }
 
     pub fn count_schedule(&mut self, settings: &[u32], answer: Result<u32, Refusal>) {
@@ -179,6 +225,36 @@ fn layout_of(capture: &[u8]) -> Layout {
         Edition::read(word(capture, EDITION_AT))
     };
     (settings_of_layout(capture), edition)
+}
+
+/// What a pin word shows of blanking, in the order of SHOWN.
+fn shows(capture: &Capture, pins: u32) -> [bool; SHOWN.len()] {
+    let asked = Asked::of_pins(pins);
+    let names_column = |pins| {
+        matches!(
+            Command::of_pins(pins),
+            Command::Read { .. } | Command::Write { .. }
+        )
+    };
+    let names_row = |pins| matches!(Command::of_pins(pins), Command::Active { .. });
+    let hides = hidden(&capture.settings, pins) & pins != 0;
+    let selected = pins & !Command::Deselect.pins();
+    [
+        names_column(pins) && hides,
+        names_row(pins) && hides,
+        names_row(pins) && hidden(&capture.settings, pins) == 0,
+        asked.command == Command::Deselect && (names_column(selected) || names_row(selected)),
+        !names_column(pins) && !names_row(pins) && pins & ADDRESS_PINS & !A10 != 0,
+        asked.low && hides,
+    ]
+}
+
+/// The cells of a clean capture.
+fn burst_list(capture: &[u8]) -> Vec<u32> {
+    let mut list = vec![0; MOST_CELLS];
+    let written = cells(capture, &mut list).unwrap_or(0);
+    list.truncate(written as usize);
+    list
 }
 
 /// The 14 settings that every capture has; none where the bytes end before.
