@@ -6,3 +6,4 @@ pub mod Scheduling
 pub mod WithoutSix
 mod Finding
 mod Settled
+pub mod AsBefore

@@ -1,5 +1,6 @@
--- What the contracts of the public functions allow, when a call is refused, how many beats bursts keep, and answers by other rules.
+-- What the contracts of the public functions allow, when a call is refused, how many beats bursts keep, answers by other rules, and by closed rows as they were.
 pub mod Allowed
 pub mod Beats
 pub mod Refused
 pub mod ByRules
+pub mod ClosedRows

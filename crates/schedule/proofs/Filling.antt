@@ -9,8 +9,6 @@ use lib.ListN.{length, set, getD, take, drop, replicate, length-set, length-take
 use lib.Seq.{sets, sets-eq, length-sets, take-suc, drop-cons}
 use Rattle.reading.specs.Words.{wordBytes, bytesOf}
 use Rattle.reading.specs.Settings.{settingsCount, sleepingCount}
-use Rattle.reading.specs.Capture.{Event}
-use Rattle.reading.specs.Schedule.{eventWords}
 use Rattle.words.proofs.Words.{sets-words}
 use Rattle.settings.specs.Meaning.{padded}
 
@@ -85,10 +83,3 @@ module _ {out₀ list out : List ℕ} {at n i : ℕ} (x : Storing out₀ at list
 
   pub stores-all : n ≤ i → out ≡ sets out₀ at (bytesOf (take n list))
   stores-all l = let e : i ≡ n = omega (arith, x .within) in x .same ∙ ap (λ (k : ℕ). sets out₀ at (bytesOf (take k list))) e
-
--- ---- the words of events
-
-pub words-append : (es fs : List Event) → eventWords (es ++ fs) ≡ eventWords es ++ eventWords fs
-unfolding eventWords
-words-append [] fs = refl
-words-append (e ∷ es) fs = ap (λ (l : List ℕ). e .cycle ∷ e .pins ∷ l) (words-append es fs)

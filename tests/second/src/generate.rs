@@ -11,7 +11,7 @@ mod tally;
 pub use captures::{busy_capture, guided_capture};
 pub use damage::damaged_capture;
 pub use dice::Dice;
-pub use requests::request_list;
+pub use requests::{request_list, row_policy};
 pub use tally::{Tally, NO_RULE};
 
 #[derive(Clone, Debug)]
@@ -20,6 +20,7 @@ pub enum Input {
     Requests {
         settings: Vec<u32>,
         requests: Vec<u32>,
+        policy: u32,
     },
 }
 
@@ -30,7 +31,12 @@ pub fn input(dice: &mut Dice) -> Input {
         11..=14 => Input::Capture(damaged_capture(dice)),
         _ => {
             let (settings, requests) = request_list(dice);
-            Input::Requests { settings, requests }
+            let policy = row_policy(dice);
+            Input::Requests {
+                settings,
+                requests,
+                policy,
+            }
         }
     }
 }

@@ -33,7 +33,7 @@ fn needed(answer: Result<u32, Refusal>) -> Option<usize> {
 }
 
 type CellsOf<'a> = &'a dyn Fn(&[u8], &mut [u32]) -> u64;
-type ScheduleOf<'a> = &'a dyn Fn(&[u32], &[u32], &mut [u8]) -> u64;
+type ScheduleOf<'a> = &'a dyn Fn(&[u32], &[u32], u32, &mut [u8]) -> u64;
 
 /// The answer and the buffer afterwards.
 fn tried_cells(cells: CellsOf, capture: &[u8], length: usize) -> (u64, Vec<u32>) {
@@ -45,10 +45,11 @@ fn tried_schedule(
     schedule: ScheduleOf,
     settings: &[u32],
     requests: &[u32],
+    policy: u32,
     length: usize,
 ) -> (u64, Vec<u8>) {
     let mut out = vec![UNTOUCHED_BYTE; length];
-    (schedule(settings, requests, &mut out), out)
+    (schedule(settings, requests, policy, &mut out), out)
 }
 
 #[test]
@@ -63,9 +64,13 @@ fn everything_comes_up() {
                 full_and_clean += u32::from(answer == Answer::Clean { judged: 8_000 });
                 tally.count_cells(&capture, cells(&capture, &mut [0; 7]));
             }
-            Input::Requests { settings, requests } => {
-                let answer = schedule(&settings, &requests, &mut [0; 2_000]);
-                tally.count_schedule(&settings, answer);
+            Input::Requests {
+                settings,
+                requests,
+                policy,
+            } => {
+                let answer = schedule(&settings, &requests, policy, &mut [0; 2_000]);
+                tally.count_schedule(&settings, policy, answer);
             }
         }
     }
@@ -101,12 +106,16 @@ fn looking_at_running_bursts_only_changes_nothing() {
                 );
                 assert!(found == expected);
             }
-            Input::Requests { settings, requests } if requests.len() <= 50 => {
+            Input::Requests {
+                settings,
+                requests,
+                policy,
+            } if requests.len() <= 50 => {
                 let mut expected = vec![UNTOUCHED_BYTE; BYTE_ROOM];
                 let mut found = expected.clone();
                 assert_eq!(
-                    schedule(&settings, &requests, &mut found),
-                    schedule_literally(&settings, &requests, &mut expected)
+                    schedule(&settings, &requests, policy, &mut found),
+                    schedule_literally(&settings, &requests, policy, &mut expected)
                 );
                 assert!(found == expected);
             }
@@ -141,14 +150,20 @@ fn the_burst_list_in_c_agrees() {
 
 #[test]
 fn the_schedule_in_c_agrees() {
-    let rust: ScheduleOf = &|s, r, out| packed::of_count(schedule(s, r, out));
-    let c: ScheduleOf = &|s, r, out| c::schedule(s, r, out);
+    let rust: ScheduleOf = &|s, r, p, out| packed::of_count(schedule(s, r, p, out));
+    let c: ScheduleOf = &|s, r, p, out| c::schedule(s, r, p, out);
     for input in inputs(INPUTS) {
-        if let Input::Requests { settings, requests } = input {
-            let needed = needed(schedule(&settings, &requests, &mut vec![0; BYTE_ROOM]));
+        if let Input::Requests {
+            settings,
+            requests,
+            policy,
+        } = input
+        {
+            let mut room = vec![0; BYTE_ROOM];
+            let needed = needed(schedule(&settings, &requests, policy, &mut room));
             for length in lengths(needed, BYTE_ROOM) {
-                let expected = tried_schedule(rust, &settings, &requests, length);
-                assert!(tried_schedule(c, &settings, &requests, length) == expected);
+                let expected = tried_schedule(rust, &settings, &requests, policy, length);
+                assert!(tried_schedule(c, &settings, &requests, policy, length) == expected);
             }
         }
     }
@@ -165,11 +180,16 @@ fn schedules_are_clean_and_replay_as_plain_memory() {
     let contents = |cell: u32| cell.wrapping_mul(0x9e37_79b1);
     let mut tried = 0;
     for (seed, input) in (0..).zip(inputs(INPUTS)) {
-        let Input::Requests { settings, requests } = input else {
+        let Input::Requests {
+            settings,
+            requests,
+            policy,
+        } = input
+        else {
             continue;
         };
         let mut out = vec![0; BYTE_ROOM];
-        let Ok(total) = schedule(&settings, &requests, &mut out) else {
+        let Ok(total) = schedule(&settings, &requests, policy, &mut out) else {
             continue;
         };
         let capture = &out[..total as usize];

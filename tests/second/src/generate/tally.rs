@@ -8,6 +8,7 @@ use crate::capture::{
     events_at, settings_of_layout, words, Refusal, HEADER_BYTES, LIMITS, SETTINGS, SLEEP_SETTINGS,
     T_RC_SETTING,
 };
+use crate::schedule::{CLOSED_ROWS, OPEN_ROWS};
 use crate::verdict::Answer;
 
 pub const RULES: usize = 15;
@@ -18,6 +19,7 @@ pub const NO_RULE: u32 = 6;
 const OF_JUDGE: [u32; 4] = [1, 2, 3, 4];
 const OF_CELLS: [u32; 6] = [1, 2, 3, 4, 8, 7];
 const OF_SCHEDULE: [u32; 5] = [2, 3, 5, 6, 7];
+const OF_NO_POLICY: [u32; 3] = [2, 3, 10];
 
 /// How often a question was answered, refused with each number, and refused for settings
 /// that contradict each other.
@@ -48,7 +50,9 @@ impl Answers {
 pub struct Tally {
     pub awake: OfCaptures,
     pub sleeping: OfCaptures,
-    pub schedules: Answers,
+    pub open: Answers,
+    pub closed: Answers,
+    pub no_policy: Answers,
 }
 
 /// Of captures laid out for one number of settings.
@@ -106,16 +110,29 @@ impl Tally {
             .count(answer.err(), &first_settings(capture));
     }
 
-    pub fn count_schedule(&mut self, settings: &[u32], answer: Result<u32, Refusal>) {
-        self.schedules.count(answer.err(), settings);
+    pub fn count_schedule(
+        &mut self,
+        settings: &[u32],
+        policy: u32,
+        answer: Result<u32, Refusal>,
+    ) {
+        let counts = match policy {
+            OPEN_ROWS => &mut self.open,
+            CLOSED_ROWS => &mut self.closed,
+            _ => &mut self.no_policy,
+        };
+        counts.count(answer.err(), settings);
     }
 
     /// What was counted, by name.
     fn counts(&self) -> Vec<(String, u64)> {
         let mut counts = self.awake.counts(SETTINGS);
         counts.extend(self.sleeping.counts(SLEEP_SETTINGS));
-        counts.push(("schedule: written".to_string(), self.schedules.given));
-        counts.extend(refusals("schedule", &self.schedules, &OF_SCHEDULE));
+        for (rows, answers) in [("open rows", &self.open), ("closed rows", &self.closed)] {
+            counts.push((format!("{rows}: written"), answers.given));
+            counts.extend(refusals(rows, answers, &OF_SCHEDULE));
+        }
+        counts.extend(refusals("no policy", &self.no_policy, &OF_NO_POLICY));
         counts
     }
 
