@@ -212,26 +212,26 @@ module _ {n : ℕ} {d : List ℕ} (near : Near n d) where
       close-most =
           later-most _ _ (n + wait)
           (soonest-most (n + wait) _ (cons (near .by _ (omega arith)) (cons (near .by _ (omega arith)) (cons (near .by _ (omega arith)) nil))))
-          (either (eqb (at d READER) b) (at k READ-END) 0 (n + wait) ends (omega arith))
+          (either (eqb (at d READER) b) _ _ (n + wait) (omega arith) (omega arith))
 
       pub burst-most : at k WRITE-END ≤ n + wait → (write : Bool) → burstSoonest write d k b ≤ n + wait
       unfolding readSoonest writeSoonest
       burst-most written true =
-          later-most _ (at k WRITE-END) (n + wait)
+          later-most _ _ (n + wait)
           (soonest-most (n + wait) _
           (cons (near .by _ (omega arith))
           (cons (near .by _ (omega arith))
           (cons (near .by _ (omega arith))
           (cons (near .by _ (omega arith)) nil)))))
-          written
+          (omega arith)
       burst-most written false =
-          later-most _ (at k READ-END) (n + wait)
+          later-most _ _ (n + wait)
           (soonest-most (n + wait) _
           (cons (near .by _ (omega arith))
           (cons (near .by _ (omega arith))
           (cons (near .by _ (omega arith))
           (cons (near .by _ (omega arith)) nil)))))
-          ends
+          (omega arith)
 
   pub active-most : (b : ℕ) → b < 4 → activeSoonest d b ≤ n + wait
   unfolding activeSoonest

@@ -32,7 +32,7 @@ returns-2 c =
     let told = c .before in
     let start = told .before .before .before .before .before .before in
     let a = start .args in
-    no-policy (fit told) refl (a .requests .now) (a .policy) (a .out .now) (c .if1 .taken)
+    no-policy (fit told) refl (a .requests .now) (a .policy) (a .out .now) (omega arith)
 
 fourteen-requires : tie.Need-fourteen-requires
 fourteen-requires c κs = fit (c .before) .count
