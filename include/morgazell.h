@@ -23,6 +23,7 @@
  *              else tRC is above tRAS + tRP
  *        4     pin bits 20-31 are set, or 21-31 with 16 settings, or a        the lowest such event
  *              cycle is above 2,000,000,000 or does not rise
+ *       10     a row policy that is none, neither 0 nor 1                     0
  *        5     over 2,000 requests; else bits 27-30 of a request are set,     2,000; the lowest such request
  *              or the part lacks its cell
  *        6     refresh cannot be kept                                         the request
@@ -30,7 +31,7 @@
  *        7     the buffer is shorter than the answer                          the length needed, in its elements
  *
  * They are tried in this order and the first that applies is given. morgazell_judge can give 1 to 4, morgazell_cells
- * 1 to 4, 8 and 7, morgazell_schedule 2, 3, 5, 6 and 7, morgazell_blank 1 to 4 and 7.
+ * 1 to 4, 8 and 7, morgazell_schedule 2, 3, 10, 5, 6 and 7, morgazell_blank 1 to 4 and 7.
  *
  * A capture is words of 32 bits, lowest byte first: six of header (its length in bytes; 14 or 16, the settings count; 24,
  * where they start; the number of events, at most 8,000; 80 or 88, where these start; 0 or 1, the edition), the settings,
@@ -97,11 +98,16 @@ uint64_t morgazell_judge(const uint8_t *capture, size_t len);
  * buffer stays. 128,000 elements are always enough. */
 uint64_t morgazell_cells(const uint8_t *capture, size_t len, uint32_t *out, size_t out_len);
 
-/* The schedule of the requests, as a whole capture from out[0] on; bytes behind it stay. 48,080 bytes are always
+/* Row policies: a row stays open behind its burst, until another row of its bank is asked for or a refresh is due; or
+ * every burst closes its row by auto precharge. */
+#define MORGAZELL_OPEN_ROWS 0
+#define MORGAZELL_CLOSED_ROWS 1
+
+/* The schedule of the requests, as a whole capture from out[0] on; bytes behind it stay. 64,080 bytes are always
  * enough. The settings are the first fourteen: a schedule never sleeps. Its edition is 0. A request has bit 31 set for a
  * write, and in bits 0-26 the cell where its burst starts. */
 uint64_t morgazell_schedule(const uint32_t *settings, size_t settings_len,
-                            const uint32_t *requests, size_t requests_len,
+                            const uint32_t *requests, size_t requests_len, uint32_t policy,
                             uint8_t *out, size_t out_len);
 
 /* The capture with its addresses blanked, from out[0] on, as long as it was; bytes behind it stay. 64,088 bytes are always

@@ -3,8 +3,8 @@
  *     bench time WHAT FILE         the least nanoseconds a call, ours and C's
  *     bench call WHAT FILE WHO N   N calls of one of them, for counting instructions
  *
- * WHAT is judge, cells or schedule; WHO is ours or c. FILE is a capture, or for schedule the
- * settings and the requests as words. */
+ * WHAT is judge, cells, open or closed, a schedule by that row policy; WHO is ours or c. FILE is a capture, or for a
+ * schedule the settings and the requests as words. */
 #define _POSIX_C_SOURCE 199309L
 #include <stdio.h>
 #include <stdlib.h>
@@ -31,15 +31,20 @@ static uint64_t c_s_judge(void) { return c_judge(capture(), size); }
 static uint64_t our_cells(void) { return morgazell_cells(capture(), size, cells, MOST_CELLS); }
 static uint64_t c_s_cells(void) { return c_cells(capture(), size, cells, MOST_CELLS); }
 
-static uint64_t our_schedule(void)
+static uint64_t our_schedule(uint32_t policy)
 {
-    return morgazell_schedule(words, SETTINGS, words + SETTINGS, requests(), bytes, MOST_BYTES);
+    return morgazell_schedule(words, SETTINGS, words + SETTINGS, requests(), policy, bytes, MOST_BYTES);
 }
 
-static uint64_t c_s_schedule(void)
+static uint64_t c_s_schedule(uint32_t policy)
 {
-    return c_schedule(words, SETTINGS, words + SETTINGS, requests(), bytes, MOST_BYTES);
+    return c_schedule(words, SETTINGS, words + SETTINGS, requests(), policy, bytes, MOST_BYTES);
 }
+
+static uint64_t our_open(void) { return our_schedule(MORGAZELL_OPEN_ROWS); }
+static uint64_t c_s_open(void) { return c_s_schedule(MORGAZELL_OPEN_ROWS); }
+static uint64_t our_closed(void) { return our_schedule(MORGAZELL_CLOSED_ROWS); }
+static uint64_t c_s_closed(void) { return c_s_schedule(MORGAZELL_CLOSED_ROWS); }
 
 static const struct {
     const char *what;
@@ -47,7 +52,8 @@ static const struct {
 } questions[] = {
     {"judge", our_judge, c_s_judge},
     {"cells", our_cells, c_s_cells},
-    {"schedule", our_schedule, c_s_schedule},
+    {"open", our_open, c_s_open},
+    {"closed", our_closed, c_s_closed},
 };
 
 static uint64_t nanoseconds(call *ask)

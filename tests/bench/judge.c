@@ -583,8 +583,8 @@ static inline uint8_t *put_event(uint8_t *at, int32_t cycle, uint32_t pins)
     return at + EVENT_BYTES;
 }
 
-/* Refusal 6, or the number of events written. */
-static uint64_t plan_events(const struct settings *s, const uint32_t *requests, uint32_t count,
+/* Refusal 6, or the number of events written: every row closed behind its burst. */
+static uint64_t plan_closed(const struct settings *s, const uint32_t *requests, uint32_t count,
                             uint8_t *events)
 {
     struct plan plan = {.due = due_from(s, 0)};
@@ -617,6 +617,105 @@ static uint64_t plan_events(const struct settings *s, const uint32_t *requests, 
     return (uint64_t)(at - events) / EVENT_BYTES;
 }
 
+/* The part between requests whose rows stay open. The latest over all banks may count banks that are idle or were opened
+ * again: what these ask for is past. */
+struct rows {
+    int32_t next, busy, due;
+    int32_t row[BANKS]; /* -1 while idle */
+    int32_t precharged[BANKS], opened[BANKS], closable[BANKS];
+    int32_t all_closable, all_idle, bus;
+    uint32_t active_bank;
+    int32_t spaced, spaced_same;
+    int32_t from[2]; /* by direction, 0 for WRITE and 1 for READ; past the burst before it too */
+};
+
+/* Where PRECHARGE all and AUTO REFRESH would go; not before -1 where no bank is open. */
+struct refreshing {
+    int32_t close, refresh;
+};
+
+static inline struct refreshing refresh_next(const struct settings *s, const struct rows *rows, int any_open)
+{
+    int32_t quiet = later(rows->bus, rows->all_idle);
+    if (!any_open)
+        return (struct refreshing){-1, later(later(rows->next, rows->busy), quiet)};
+    int32_t close = later(rows->next, rows->all_closable);
+    return (struct refreshing){close, later(close + s->rp, quiet)};
+}
+
+/* What opens the row, and the burst; the events go to at. */
+static inline uint8_t *open_request(const struct settings *s, struct rows *rows, uint32_t request, uint8_t *at)
+{
+    uint32_t read = request >> 31 ^ 1;
+    uint32_t cell = request & 0x7ffffff;
+    uint32_t column = cell & ((1u << s->column_bits) - 1);
+    int32_t row = (int32_t)(cell >> s->column_bits & ((1u << s->row_bits) - 1));
+    uint32_t bank = cell >> (s->column_bits + s->row_bits);
+    if (rows->row[bank] != row) {
+        if (rows->row[bank] >= 0) {
+            int32_t close = later(rows->next, rows->closable[bank]);
+            at = put_event(at, close, (uint32_t)PRECHARGE << 16 | bank << 14);
+            rows->next = close + 1;
+            rows->precharged[bank] = close + s->rp;
+            rows->all_idle = later(rows->all_idle, close + s->rp);
+        }
+        int32_t others = bank == rows->active_bank ? rows->spaced_same : rows->spaced;
+        int32_t active = later(later(rows->next, rows->busy), later(rows->precharged[bank], others));
+        at = put_event(at, active, (uint32_t)ACTIVE << 16 | bank << 14 | (uint32_t)row);
+        rows->spaced_same = others;
+        rows->spaced = active + s->rrd;
+        rows->active_bank = bank;
+        rows->row[bank] = row;
+        rows->opened[bank] = active + s->rcd;
+        rows->closable[bank] = active + s->ras;
+        rows->next = active + 1;
+    }
+    int32_t access = later(later(rows->next, rows->opened[bank]), rows->from[read]);
+    int32_t over = access + (int32_t)pairs_of(s->mode);
+    int32_t free = over + (int32_t)latency_of(s->mode);
+    rows->bus = read ? free : rows->bus;
+    rows->from[read] = over;
+    rows->from[read ^ 1] = read ? free : over + 1 + s->wtr;
+    rows->closable[bank] = later(rows->closable[bank], read ? over : over + 1 + s->wr);
+    rows->all_closable = later(rows->all_closable, rows->closable[bank]);
+    rows->next = access + 1;
+    uint32_t address = (column & 0x3ff) | (column & 0x400) << 1;
+    return put_event(at, access, (uint32_t)(read ? READ : WRITE) << 16 | bank << 14 | address);
+}
+
+/* The same with every row left open. */
+static uint64_t plan_open(const struct settings *s, const uint32_t *requests, uint32_t count, uint8_t *events)
+{
+    struct rows rows = {.due = due_from(s, 0), .row = {-1, -1, -1, -1}};
+    uint8_t *at = events;
+    for (uint32_t i = 0; i < count; i++) {
+        struct rows before = rows;
+        uint8_t *end = open_request(s, &rows, requests[i], at);
+        if (refresh_next(s, &rows, 1).refresh > rows.due) {
+            rows = before;
+            struct refreshing refreshing = refresh_next(s, &rows, i > 0);
+            if (i > 0) {
+                at = put_event(at, refreshing.close, (uint32_t)PRECHARGE << 16 | A10);
+                for (int bank = 0; bank < BANKS; bank++) {
+                    if (rows.row[bank] >= 0)
+                        rows.precharged[bank] = refreshing.close + s->rp;
+                    rows.row[bank] = -1;
+                }
+                rows.all_idle = later(rows.all_idle, refreshing.close + s->rp);
+            }
+            at = put_event(at, refreshing.refresh, (uint32_t)REFRESH << 16);
+            rows.busy = refreshing.refresh + s->rfc;
+            rows.due = due_after_refresh(s, rows.due, refreshing.refresh);
+            rows.next = refreshing.refresh + 1;
+            end = open_request(s, &rows, requests[i], at);
+            if (refresh_next(s, &rows, 1).refresh > rows.due)
+                return refused(6, i);
+        }
+        at = end;
+    }
+    return (uint64_t)(at - events) / EVENT_BYTES;
+}
+
 /* Refusal 5, or 0. */
 static uint64_t check_requests(const struct settings *s, const uint32_t *requests, size_t count)
 {
@@ -631,21 +730,25 @@ static uint64_t check_requests(const struct settings *s, const uint32_t *request
 }
 
 uint64_t c_schedule(const uint32_t *list, size_t list_len, const uint32_t *requests,
-                    size_t requests_len, uint8_t *out, size_t out_len)
+                    size_t requests_len, uint32_t policy, uint8_t *out, size_t out_len)
 {
     if (list_len != SETTINGS)
         return refused(2, 0);
     struct settings settings = {0};
     memcpy(&settings, list, 4 * SETTINGS);
     uint64_t refusal = check_settings(&settings, SETTINGS);
+    if (refusal == 0 && policy > 1)
+        refusal = refused(10, 0);
     if (refusal == 0)
         refusal = check_requests(&settings, requests, requests_len);
     if (refusal != 0)
         return refusal;
 
     /* Beside the lent buffer, which a refusal must leave as it is. */
-    uint8_t events[3 * EVENT_BYTES * MOST_REQUESTS];
-    uint64_t answer = plan_events(&settings, requests, (uint32_t)requests_len, events);
+    uint8_t events[4 * EVENT_BYTES * MOST_REQUESTS];
+    uint32_t asked = (uint32_t)requests_len;
+    uint64_t answer = policy == 0 ? plan_open(&settings, requests, asked, events)
+                                  : plan_closed(&settings, requests, asked, events);
     if (is_refused(answer))
         return answer;
     uint32_t count = (uint32_t)answer;

@@ -15,7 +15,7 @@ uint64_t c_judge(const uint8_t *bytes, size_t len);
 uint64_t c_cells(const uint8_t *bytes, size_t len, uint32_t *out, size_t out_len);
 
 uint64_t c_schedule(const uint32_t *settings, size_t settings_len,
-                    const uint32_t *requests, size_t requests_len,
+                    const uint32_t *requests, size_t requests_len, uint32_t policy,
                     uint8_t *out, size_t out_len);
 
 #endif

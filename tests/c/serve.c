@@ -5,7 +5,7 @@
  *     1, 2   elements of the inputs: bytes of a capture and 0; words of settings and of requests
  *     3      elements of the lent buffer
  *     4      elements behind it that the call must not touch
- * then the inputs, then the buffer with what lies behind it. The answer is the packed number and, in the same length,
+ * then for a schedule its row policy, a word; then the inputs, then the buffer with what lies behind it. The answer is the packed number and, in the same length,
  * the buffer with what lies behind it. Words are little-endian, as the processor has them.
  *
  * Inputs end where a page begins that nothing may touch, so a read behind an input ends the program. */
@@ -64,7 +64,7 @@ static void *lent(uint8_t *start, uint32_t elements)
     return elements == 0 ? NULL : start;
 }
 
-static uint64_t call(const uint32_t *question, uint8_t *inputs[2], uint8_t *buffer)
+static uint64_t call(const uint32_t *question, uint32_t policy, uint8_t *inputs[2], uint8_t *buffer)
 {
     const void *first = lent(inputs[0], question[1]);
     const void *second = lent(inputs[1], question[2]);
@@ -75,7 +75,7 @@ static uint64_t call(const uint32_t *question, uint8_t *inputs[2], uint8_t *buff
     case CELLS:
         return morgazell_cells(first, question[1], out, question[3]);
     case SCHEDULE:
-        return morgazell_schedule(first, question[1], second, question[2], out, question[3]);
+        return morgazell_schedule(first, question[1], second, question[2], policy, out, question[3]);
     case BLANK:
         return morgazell_blank(first, question[1], out, question[3]);
     default:
@@ -93,10 +93,13 @@ int main(void)
         size_t element = question[0] == CELLS ? 4 : 1;
         size_t whole = element * ((size_t)question[3] + question[4]);
         uint8_t *inputs[2];
+        uint32_t policy = 0;
+        if (question[0] == SCHEDULE)
+            take(&policy, sizeof policy);
         inputs[0] = placed(ends[0], input * question[1]);
         inputs[1] = placed(ends[1], input * question[2]);
         uint8_t *buffer = placed(ends[2], whole);
-        uint64_t answer = call(question, inputs, buffer);
+        uint64_t answer = call(question, policy, inputs, buffer);
         give(&answer, sizeof answer);
         give(buffer, whole);
         fflush(stdout);

@@ -32,7 +32,7 @@ CALL(list, morgazell_cells(capture, len, cells, 16 * MOST_EVENTS))
 CALL(list_short, morgazell_cells(capture, len, cells, 100))
 CALL(blank, morgazell_blank(capture, len, bytes, LONGEST))
 CALL(blank_short, morgazell_blank(capture, len, bytes, 100))
-CALL(schedule, morgazell_schedule(SETTINGS, 14, requests, REQUESTS, bytes, LONGEST))
+CALL(schedule, morgazell_schedule(SETTINGS, 14, requests, REQUESTS, MORGAZELL_OPEN_ROWS, bytes, LONGEST))
 
 /* The frame of the caller itself is counted too. */
 static size_t taken(void (*function)(void))

@@ -32,7 +32,7 @@ static void call(const struct input *in, struct left *out)
     memset(out, 0xa5, sizeof *out);
     out->judged = morgazell_judge(in->capture, in->len);
     out->listed = morgazell_cells(in->capture, in->len, out->cells, MOST_CELLS);
-    out->scheduled = morgazell_schedule(SETTINGS, 14, in->requests, REQUESTS, out->bytes, MOST_BYTES);
+    out->scheduled = morgazell_schedule(SETTINGS, 14, in->requests, REQUESTS, MORGAZELL_OPEN_ROWS, out->bytes, MOST_BYTES);
     out->blanked = morgazell_blank(in->capture, in->len, out->capture, LONGEST);
 }
 

@@ -30,7 +30,7 @@ first-map : (f : Burst → Burst) (xs : List Burst) → first (map f xs) ≡ Opt
 first-map f [] = refl
 first-map f (x ∷ xs) = refl
 
-first-read : (xs : List Burst) (x : Burst) → x .writes ≡ false → first xs ≡ some x → find reads xs ≡ some x
+pub first-read : (xs : List Burst) (x : Burst) → x .writes ≡ false → first xs ≡ some x → find reads xs ≡ some x
 first-read [] x w e = let z : _≡_ {A = ℕ} 0 1 = cc in absurd (omega arith)
 first-read (y ∷ ys) x w e = go (y .writes) (ap (λ (z : Burst). z .writes) (let same : y ≡ x = cc in same) ∙ w)
   where

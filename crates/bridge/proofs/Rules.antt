@@ -26,7 +26,7 @@ use Rattle.bridge.proofs.Sleeping.{quiet-is, last-is}
 named-is : (o k : Bool) → implies (o && true) k ≡ (k || not o)
 named-is o k = closing-is o true k refl
 
-one-is : (o k : ℕ → Bool) (b : ℕ) → b < 4 → everyBank (λ i. implies (o i && eqb i b) (k i)) ≡ (k b || not (o b))
+pub one-is : (o k : ℕ → Bool) (b : ℕ) → b < 4 → everyBank (λ i. implies (o i && eqb i b) (k i)) ≡ (k b || not (o b))
 one-is o k zero l = simp and-false (rw (named-is (o 0) (k 0)) (and-true (k 0 || not (o 0))))
 one-is o k (suc zero) l = simp and-false (rw (named-is (o 1) (k 1)) (and-true (k 1 || not (o 1))))
 one-is o k (suc (suc zero)) l = simp and-false (rw (named-is (o 2) (k 2)) (and-true (k 2 || not (o 2))))

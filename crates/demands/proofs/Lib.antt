@@ -8,3 +8,4 @@ pub mod EditionZero
 pub mod Blanking
 mod Finding
 mod Settled
+pub mod AsBefore

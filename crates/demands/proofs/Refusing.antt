@@ -1,18 +1,18 @@
 -- Demand 1: a call is refused exactly with the number and the place of document 01's table, and then leaves the buffer as it was.
-use Prim.Native.Nat.{ℕ, _<_}
+use Prim.Native.Nat.{ℕ, _<_, _≤_}
 use mathlib.Core.Bool.{Bool, true, false, not}
 use mathlib.Core.List.{List}
 use mathlib.Core.Logic.{_↔_}
 use mathlib.Core.Option.{Option, none, some}
 use mathlib.Core.Path.{_≡_, refl, sym, ap, _∙_}
 use native.Mathlib.Omega.{arith}
-use borrow.Author.Tests.{eqb-true, eqb-false, ne-eqb, eq-eqb, ltb-true, lt-ltb}
+use borrow.Author.Tests.{eqb-true, eqb-false, ne-eqb, eq-eqb, ltb-true, lt-ltb, le-ltb, ltb-false}
 use lib.Dec.{ltb, eqb}
 use lib.ListN.{length}
 use Rattle.reading.specs.Search.{given}
 use Rattle.reading.specs.Settings.{settingsOf, badSetting}
 use Rattle.reading.specs.Capture.{eventsOf}
-use Rattle.reading.specs.Schedule.{Schedule, planned, late, badRequest, scheduleOf, captureOf}
+use Rattle.reading.specs.Schedule.{Schedule, planned, late, policyFits, badRequest, scheduleOf, captureOf}
 use Rattle.reading.specs.Verdict as is
 use Rattle.reading.specs.Answers.{Answer, Report, refused, answered, unless, accepted, settingsIn, verdictIn, notClean, judgeAnswer, cellsIn, whenPlanned, fitting, leaves, cellsOutcome, scheduleOutcome}
 use Rattle.reading.proofs.Meaning.{verdict-clean, verdict-broken}
@@ -134,71 +134,88 @@ list-refused capture out left number place a =
 
 -- ---- schedules
 
-module _ (ws qs out : List ℕ) where
+module _ (ws qs : List ℕ) (policy : ℕ) (out : List ℕ) where
   -- the answer, by what each test says
-  abbrev by : Option ℕ → Option ℕ → Option ℕ → Schedule → Answer ℕ
-  by a b c x = leaves (unless 2 a (unless 3 b (unless 5 c (whenPlanned x (λ es. fitting out (captureOf ws es)))))) out .answer
+  abbrev by : Option ℕ → Option ℕ → Option ℕ → Option ℕ → Schedule → Answer ℕ
+  by a b d c x = leaves (unless 2 a (unless 3 b (unless 10 d (unless 5 c (whenPlanned x (λ es. fitting out (captureOf ws es))))))) out .answer
 
-  tested : {a b c : Option ℕ} {x : Schedule} → given 0 (not (eqb (length ws) 14)) ≡ a → badSetting ws ≡ b → badRequest (settingsOf ws) qs ≡ c →
-      scheduleOf (settingsOf ws) qs ≡ x → scheduleOutcome ws qs out .answer ≡ by a b c x
+  tested : {a b d c : Option ℕ} {x : Schedule} → given 0 (not (eqb (length ws) 14)) ≡ a → badSetting ws ≡ b → given 0 (not (ltb policy 2)) ≡ d →
+      badRequest (settingsOf ws) qs ≡ c → scheduleOf (settingsOf ws) policy qs ≡ x → scheduleOutcome ws qs policy out .answer ≡ by a b d c x
   unfolding scheduleOutcome
-  tested f g h k i = by (f i) (g i) (h i) (k i)
+  tested f g m h k i = by (f i) (g i) (m i) (h i) (k i)
 
   counted : length ws ≡ 14 → given 0 (not (eqb (length ws) 14)) ≡ none
   counted e = rw (eq-eqb (length ws) 14 e)
 
+  known : policy ≤ 1 → given 0 (not (ltb policy 2)) ≡ none
+  known l = rw (lt-ltb policy 2 (omega arith))
+
   module _ (number place : ℕ) where
-    schedule-case : scheduleOutcome ws qs out .answer ≡ refused number place → ScheduleRefused ws qs out number place
-    schedule-case k = go (eqb (length ws) 14) (badSetting ws) (badRequest (settingsOf ws) qs) (scheduleOf (settingsOf ws) qs) refl refl refl refl
+    schedule-case : scheduleOutcome ws qs policy out .answer ≡ refused number place → ScheduleRefused ws qs policy out number place
+    schedule-case k =
+        go (eqb (length ws) 14) (badSetting ws) (ltb policy 2) (badRequest (settingsOf ws) qs) (scheduleOf (settingsOf ws) policy qs) refl refl refl refl refl
       where
-        go : (a : Bool) (b c : Option ℕ) (x : Schedule) → eqb (length ws) 14 ≡ a → badSetting ws ≡ b → badRequest (settingsOf ws) qs ≡ c →
-            scheduleOf (settingsOf ws) qs ≡ x → ScheduleRefused ws qs out number place
-        go false b c x f g h z =
-            let so : _≡_ {A = Answer ℕ} (refused 2 0) (refused number place) = sym (tested (ap (λ (v : Bool). given 0 (not v)) f) g h z) ∙ k in
+        told : {b : Bool} {v : Bool} → b ≡ v → given 0 (not b) ≡ given 0 (not v)
+        told f = ap (λ (v : Bool). given 0 (not v)) f
+
+        go : (a : Bool) (b : Option ℕ) (d : Bool) (c : Option ℕ) (x : Schedule) → eqb (length ws) 14 ≡ a → badSetting ws ≡ b → ltb policy 2 ≡ d →
+            badRequest (settingsOf ws) qs ≡ c → scheduleOf (settingsOf ws) policy qs ≡ x → ScheduleRefused ws qs policy out number place
+        go false b d c x f g m h z =
+            let so : _≡_ {A = Answer ℕ} (refused 2 0) (refused number place) = sym (tested (told f) g (told m) h z) ∙ k in
             let n : 2 ≡ number = cc in
             let e : 0 ≡ place = cc in
             case.ScheduleRefused.count (eqb-false (length ws) 14 f) (sym n) (sym e)
-        go true (some i) c x f g h z =
-            let so : _≡_ {A = Answer ℕ} (refused 3 i) (refused number place) = sym (tested (ap (λ (v : Bool). given 0 (not v)) f) g h z) ∙ k in
+        go true (some i) d c x f g m h z =
+            let so : _≡_ {A = Answer ℕ} (refused 3 i) (refused number place) = sym (tested (told f) g (told m) h z) ∙ k in
             let n : 3 ≡ number = cc in
             let e : i ≡ place = cc in
             case.ScheduleRefused.setting (eqb-true (length ws) 14 f) (sym n) (g ∙ ap some e)
-        go true none (some i) x f g h z =
-            let so : _≡_ {A = Answer ℕ} (refused 5 i) (refused number place) = sym (tested (ap (λ (v : Bool). given 0 (not v)) f) g h z) ∙ k in
+        go true none false c x f g m h z =
+            let so : _≡_ {A = Answer ℕ} (refused 10 0) (refused number place) = sym (tested (told f) g (told m) h z) ∙ k in
+            let n : 10 ≡ number = cc in
+            let e : 0 ≡ place = cc in
+            case.ScheduleRefused.policy (record { count = eqb-true (length ws) 14 f; each = g }) (ltb-false policy 2 m) (sym n) (sym e)
+        go true none true (some i) x f g m h z =
+            let so : _≡_ {A = Answer ℕ} (refused 5 i) (refused number place) = sym (tested (told f) g (told m) h z) ∙ k in
             let n : 5 ≡ number = cc in
             let e : i ≡ place = cc in
-            case.ScheduleRefused.request (record { count = eqb-true (length ws) 14 f; each = g }) (sym n) (h ∙ ap some e)
-        go true none none (late i) f g h z =
-            let so : _≡_ {A = Answer ℕ} (refused 6 i) (refused number place) = sym (tested (ap (λ (v : Bool). given 0 (not v)) f) g h z) ∙ k in
+            case.ScheduleRefused.request (record { count = eqb-true (length ws) 14 f; each = g }) (omega (arith, ltb-true policy 2 m)) (sym n) (h ∙ ap some e)
+        go true none true none (late i) f g m h z =
+            let so : _≡_ {A = Answer ℕ} (refused 6 i) (refused number place) = sym (tested (told f) g (told m) h z) ∙ k in
             let n : 6 ≡ number = cc in
             let e : i ≡ place = cc in
-            case.ScheduleRefused.untimely (record { count = eqb-true (length ws) 14 f; each = g }) h (sym n) (z ∙ ap late e)
-        go true none none (planned es) f g h z =
-            let (n, p, l) = room out (captureOf ws es) number place (sym (tested (ap (λ (v : Bool). given 0 (not v)) f) g h z) ∙ k) in
-            case.ScheduleRefused.short (record { count = eqb-true (length ws) 14 f; each = g }) h es z n p (rw p l)
+            case.ScheduleRefused.untimely (record { count = eqb-true (length ws) 14 f; each = g }) (omega (arith, ltb-true policy 2 m)) h (sym n) (z ∙ ap late e)
+        go true none true none (planned es) f g m h z =
+            let (n, p, l) = room out (captureOf ws es) number place (sym (tested (told f) g (told m) h z) ∙ k) in
+            case.ScheduleRefused.short (record { count = eqb-true (length ws) 14 f; each = g }) (omega (arith, ltb-true policy 2 m)) h es z n p (rw p l)
 
-    case-schedule : ScheduleRefused ws qs out number place → scheduleOutcome ws qs out .answer ≡ refused number place
+    case-schedule : ScheduleRefused ws qs policy out number place → scheduleOutcome ws qs policy out .answer ≡ refused number place
     case-schedule (case.ScheduleRefused.count f n p) =
-        tested (ap (λ (v : Bool). given 0 (not v)) (ne-eqb (length ws) 14 f)) refl refl refl ∙ (λ i. refused (sym n i) (sym p i))
-    case-schedule (case.ScheduleRefused.setting f n b) = tested (counted f) b refl refl ∙ ap (λ (k : ℕ). refused k place) (sym n)
-    case-schedule (case.ScheduleRefused.request f n b) = tested (counted (f .count)) (f .each) b refl ∙ ap (λ (k : ℕ). refused k place) (sym n)
-    case-schedule (case.ScheduleRefused.untimely f b n l) = tested (counted (f .count)) (f .each) b l ∙ ap (λ (k : ℕ). refused k place) (sym n)
-    case-schedule (case.ScheduleRefused.short f b es e n p l) =
-        tested (counted (f .count)) (f .each) b e ∙ too-long out (captureOf ws es) (omega (arith, p, l)) ∙ (λ i. refused (sym n i) (sym p i))
+        tested (ap (λ (v : Bool). given 0 (not v)) (ne-eqb (length ws) 14 f)) refl refl refl refl ∙ (λ i. refused (sym n i) (sym p i))
+    case-schedule (case.ScheduleRefused.setting f n b) = tested (counted f) b refl refl refl ∙ ap (λ (k : ℕ). refused k place) (sym n)
+    case-schedule (case.ScheduleRefused.policy f l n p) =
+        tested (counted (f .count)) (f .each) (ap (λ (v : Bool). given 0 (not v)) (le-ltb policy 2 l)) refl refl ∙ (λ i. refused (sym n i) (sym p i))
+    case-schedule (case.ScheduleRefused.request f m n b) =
+        tested (counted (f .count)) (f .each) (known m) b refl ∙ ap (λ (k : ℕ). refused k place) (sym n)
+    case-schedule (case.ScheduleRefused.untimely f m b n l) =
+        tested (counted (f .count)) (f .each) (known m) b l ∙ ap (λ (k : ℕ). refused k place) (sym n)
+    case-schedule (case.ScheduleRefused.short f m b es e n p l) =
+        tested (counted (f .count)) (f .each) (known m) b e ∙ too-long out (captureOf ws es) (omega (arith, p, l)) ∙ (λ i. refused (sym n i) (sym p i))
 
-pub schedule-refused-exactly : (ws qs out : List ℕ) (r : Scheduled) (left : List ℕ) → Schedules ws qs out r left → (number place : ℕ) →
-    r ≡ scheduled.Refused number place ↔ ScheduleRefused ws qs out number place
-schedule-refused-exactly ws qs out r left a number place = (
-  λ e. schedule-case ws qs out number place (sym (a .0) ∙ ap schedule.means e),
-  λ c. one-schedule.one-answer r (scheduled.Refused number place) (a .0 ∙ case-schedule ws qs out number place c),
+pub schedule-refused-exactly : (ws qs : List ℕ) (policy : ℕ) (out : List ℕ) (r : Scheduled) (left : List ℕ) → Schedules ws qs policy out r left → (number place : ℕ) →
+    r ≡ scheduled.Refused number place ↔ ScheduleRefused ws qs policy out number place
+schedule-refused-exactly ws qs policy out r left a number place = (
+  λ e. schedule-case ws qs policy out number place (sym (a .0) ∙ ap schedule.means e),
+  λ c. one-schedule.one-answer r (scheduled.Refused number place) (a .0 ∙ case-schedule ws qs policy out number place c),
 )
 
-pub schedule-refused : (ws qs out left : List ℕ) (number place : ℕ) → Schedules ws qs out (scheduled.Refused number place) left → left ≡ out
+pub schedule-refused : (ws qs : List ℕ) (policy : ℕ) (out left : List ℕ) (number place : ℕ) → Schedules ws qs policy out (scheduled.Refused number place) left → left ≡ out
 unfolding scheduleOutcome
-schedule-refused ws qs out left number place a =
+schedule-refused ws qs policy out left number place a =
     a .1 ∙
     leaves-refused
     (unless 2 (given 0 (not (eqb (length ws) 14)))
     (unless 3 (badSetting ws)
-    (unless 5 (badRequest (settingsOf ws) qs) (whenPlanned (scheduleOf (settingsOf ws) qs) (λ es. fitting out (captureOf ws es))))))
+    (unless 10 (given 0 (not (policyFits policy)))
+    (unless 5 (badRequest (settingsOf ws) qs) (whenPlanned (scheduleOf (settingsOf ws) policy qs) (λ es. fitting out (captureOf ws es)))))))
     out number place (sym (a .0))

@@ -6,6 +6,7 @@ use denote.Ref.{now}
 use Rattle.settings.proofs.Unique as settings
 use Rattle.part.proofs.Unique as part
 use Rattle.cells.proofs.Unique as cells
+use Rattle.drafts.proofs.Unique as drafts
 use Rattle.schedule.proofs.Unique as schedule
 use Rattle.blanks.proofs.Unique as blanks
 use Rattle.demands.proofs.Finding as finding
@@ -61,11 +62,23 @@ use Rattle.judge.proofs.judge.Reads as judge-judge
 use Rattle.blanks.proofs.blank.Reads as blanks-blank
 use Rattle.requests.proofs.asks_write.Reads as requests-asks-write
 use Rattle.requests.proofs.bank.Reads as requests-bank
+use Rattle.requests.proofs.row.Reads as requests-row
 use Rattle.requests.proofs.active_pins.Reads as requests-active-pins
+use Rattle.requests.proofs.close_pins.Reads as requests-close-pins
 use Rattle.requests.proofs.burst_pins.Reads as requests-burst-pins
 use Rattle.requests.proofs.lowest_bad.Reads as requests-lowest-bad
-use Rattle.turns.proofs.start.Reads as turns-start
-use Rattle.turns.proofs.serve.Reads as turns-serve
+use Rattle.soonest.proofs.active.Reads as soonest-active
+use Rattle.soonest.proofs.burst.Reads as soonest-burst
+use Rattle.soonest.proofs.close.Reads as soonest-close
+use Rattle.soonest.proofs.close_all.Reads as soonest-close-all
+use Rattle.soonest.proofs.refresh.Reads as soonest-refresh
+use Rattle.drafts.proofs.cycle_for.Reads as drafts-cycle-for
+use Rattle.drafts.proofs.activate.Reads as drafts-activate
+use Rattle.drafts.proofs.close.Reads as drafts-close
+use Rattle.drafts.proofs.burst.Reads as drafts-burst
+use Rattle.drafts.proofs.close_all.Reads as drafts-close-all
+use Rattle.drafts.proofs.refresh.Reads as drafts-refresh
+use Rattle.serving.proofs.serve.Reads as serving-serve
 use Rattle.schedule.proofs.schedule.Reads as schedule-schedule
 use Rattle.beats.proofs.gives_burst.Reads as beats-gives-burst
 use Rattle.beats.proofs.mode_after.Reads as beats-mode-after
@@ -325,9 +338,15 @@ requests-asks-write-settles κs a z z′ e e′ p q = p ∙ sym q
 pub requests-bank-settles : (κs : _) (a : _) (z z′ : _) (e e′ : _) → requests-bank.Post κs a z e → requests-bank.Post κs a z′ e′ → z ≡ z′
 requests-bank-settles κs a z z′ e e′ p q = p ∙ sym q
 
+pub requests-row-settles : (κs : _) (a : _) (z z′ : _) (e e′ : _) → requests-row.Post κs a z e → requests-row.Post κs a z′ e′ → z ≡ z′
+requests-row-settles κs a z z′ e e′ p q = p .0 ∙ sym (q .0)
+
 pub requests-active-pins-settles : (κs : _) (a : _) (z z′ : _) (e e′ : _) → requests-active-pins.Post κs a z e → requests-active-pins.Post κs a z′ e′ →
     z ≡ z′
 requests-active-pins-settles κs a z z′ e e′ p q = p ∙ sym q
+
+pub requests-close-pins-settles : (κs : _) (a : _) (z z′ : _) (e e′ : _) → requests-close-pins.Post κs a z e → requests-close-pins.Post κs a z′ e′ → z ≡ z′
+requests-close-pins-settles κs a z z′ e e′ p q = p ∙ sym q
 
 pub requests-burst-pins-settles : (κs : _) (a : _) (z z′ : _) (e e′ : _) → requests-burst-pins.Post κs a z e → requests-burst-pins.Post κs a z′ e′ →
     z ≡ z′
@@ -337,19 +356,51 @@ pub requests-lowest-bad-settles : (κs : _) (a : _) (z z′ : _) (e e′ : _) �
     z ≡ z′
 requests-lowest-bad-settles κs a z z′ e e′ p q = finding.found-one z z′ (p ∙ sym q)
 
--- ---- turns
+-- ---- soonest
 
-pub turns-start-settles : (κs : _) (a : _) (z z′ : _) (e e′ : _) → turns-start.Post κs a z e → turns-start.Post κs a z′ e′ → z ≡ z′
-turns-start-settles κs a z z′ e e′ p q = p ∙ sym q
+pub soonest-active-settles : (κs : _) (a : _) (z z′ : _) (e e′ : _) → soonest-active.Post κs a z e → soonest-active.Post κs a z′ e′ → z ≡ z′
+soonest-active-settles κs a z z′ e e′ p q = p ∙ sym q
 
-pub turns-serve-settles : (κs : _) (a : _) (z z′ : _) (e e′ : _) → turns-serve.Post κs a z e → turns-serve.Post κs a z′ e′ →
-    (z ≡ z′) × (now (e .1 .0) ≡ now (e′ .1 .0))
-turns-serve-settles κs a z z′ e e′ p q = (p .0 ∙ sym (q .0), p .1 ∙ sym (q .1))
+pub soonest-burst-settles : (κs : _) (a : _) (z z′ : _) (e e′ : _) → soonest-burst.Post κs a z e → soonest-burst.Post κs a z′ e′ → z ≡ z′
+soonest-burst-settles κs a z z′ e e′ p q = p ∙ sym q
+
+pub soonest-close-settles : (κs : _) (a : _) (z z′ : _) (e e′ : _) → soonest-close.Post κs a z e → soonest-close.Post κs a z′ e′ → z ≡ z′
+soonest-close-settles κs a z z′ e e′ p q = p ∙ sym q
+
+pub soonest-close-all-settles : (κs : _) (a : _) (z z′ : _) (e e′ : _) → soonest-close-all.Post κs a z e → soonest-close-all.Post κs a z′ e′ → z ≡ z′
+soonest-close-all-settles κs a z z′ e e′ p q = p ∙ sym q
+
+pub soonest-refresh-settles : (κs : _) (a : _) (z z′ : _) (e e′ : _) → soonest-refresh.Post κs a z e → soonest-refresh.Post κs a z′ e′ → z ≡ z′
+soonest-refresh-settles κs a z z′ e e′ p q = p ∙ sym q
+
+-- ---- drafts
+
+pub drafts-cycle-for-settles : (κs : _) (a : _) (z z′ : _) (e e′ : _) → drafts-cycle-for.Post κs a z e → drafts-cycle-for.Post κs a z′ e′ → z ≡ z′
+drafts-cycle-for-settles κs a z z′ e e′ p q = p ∙ sym q
+
+pub drafts-activate-settles : (κs : _) (a : _) (z z′ : _) (e e′ : _) → drafts-activate.Post κs a z e → drafts-activate.Post κs a z′ e′ → (now (e .1 .0) ≡ now (e′ .1 .0)) × ((now (e .1 .1 .0) ≡ now (e′ .1 .1 .0)) × (now (e .1 .1 .1 .0) ≡ now (e′ .1 .1 .1 .0)))
+drafts-activate-settles κs a z z′ e e′ p q = drafts.one-draft (p ∙ sym q)
+
+pub drafts-close-settles : (κs : _) (a : _) (z z′ : _) (e e′ : _) → drafts-close.Post κs a z e → drafts-close.Post κs a z′ e′ → (now (e .1 .0) ≡ now (e′ .1 .0)) × ((now (e .1 .1 .0) ≡ now (e′ .1 .1 .0)) × (now (e .1 .1 .1 .0) ≡ now (e′ .1 .1 .1 .0)))
+drafts-close-settles κs a z z′ e e′ p q = drafts.one-draft (p ∙ sym q)
+
+pub drafts-burst-settles : (κs : _) (a : _) (z z′ : _) (e e′ : _) → drafts-burst.Post κs a z e → drafts-burst.Post κs a z′ e′ → (now (e .1 .0) ≡ now (e′ .1 .0)) × ((now (e .1 .1 .0) ≡ now (e′ .1 .1 .0)) × (now (e .1 .1 .1 .0) ≡ now (e′ .1 .1 .1 .0)))
+drafts-burst-settles κs a z z′ e e′ p q = drafts.one-draft (p ∙ sym q)
+
+pub drafts-close-all-settles : (κs : _) (a : _) (z z′ : _) (e e′ : _) → drafts-close-all.Post κs a z e → drafts-close-all.Post κs a z′ e′ → (now (e .1 .0) ≡ now (e′ .1 .0)) × ((now (e .1 .1 .0) ≡ now (e′ .1 .1 .0)) × (now (e .1 .1 .1 .0) ≡ now (e′ .1 .1 .1 .0)))
+drafts-close-all-settles κs a z z′ e e′ p q = drafts.one-draft (p ∙ sym q)
+
+pub drafts-refresh-settles : (κs : _) (a : _) (z z′ : _) (e e′ : _) → drafts-refresh.Post κs a z e → drafts-refresh.Post κs a z′ e′ → (now (e .1 .0) ≡ now (e′ .1 .0)) × ((now (e .1 .1 .0) ≡ now (e′ .1 .1 .0)) × (now (e .1 .1 .1 .0) ≡ now (e′ .1 .1 .1 .0)))
+drafts-refresh-settles κs a z z′ e e′ p q = drafts.one-draft (p ∙ sym q)
+
+-- ---- serving
+
+pub serving-serve-settles : (κs : _) (a : _) (z z′ : _) (e e′ : _) → serving-serve.Post κs a z e → serving-serve.Post κs a z′ e′ → (z ≡ z′) × ((now (e .1 .0) ≡ now (e′ .1 .0)) × ((now (e .1 .1 .0) ≡ now (e′ .1 .1 .0)) × (now (e .1 .1 .1 .0) ≡ now (e′ .1 .1 .1 .0))))
+serving-serve-settles κs a z z′ e e′ p q = (p .0 ∙ sym (q .0), drafts.one-draft (p .1 ∙ sym (q .1)))
 
 -- ---- schedule
 
-pub schedule-schedule-settles : (κs : _) (a : _) (z z′ : _) (e e′ : _) → schedule-schedule.Post κs a z e → schedule-schedule.Post κs a z′ e′ →
-    (z ≡ z′) × (now (e .1 .1 .0) ≡ now (e′ .1 .1 .0))
+pub schedule-schedule-settles : (κs : _) (a : _) (z z′ : _) (e e′ : _) → schedule-schedule.Post κs a z e → schedule-schedule.Post κs a z′ e′ → (z ≡ z′) × (now (e .1 .1 .1 .0) ≡ now (e′ .1 .1 .1 .0))
 schedule-schedule-settles κs a z z′ e e′ p q = (schedule.one-answer z z′ (p .0 ∙ sym (q .0)), p .1 ∙ sym (q .1))
 
 -- ---- beats
@@ -402,8 +453,7 @@ pub morgazell-morgazell-cells-settles : (κs : _) (a : _) (z z′ : _) (e e′ :
     (z ≡ z′) × (now (e .1 .0) ≡ now (e′ .1 .0))
 morgazell-morgazell-cells-settles κs a z z′ e e′ p q = (p .0 ∙ sym (q .0), p .1 ∙ sym (q .1))
 
-pub morgazell-morgazell-schedule-settles : (κs : _) (a : _) (z z′ : _) (e e′ : _) → morgazell-morgazell-schedule.Post κs a z e → morgazell-morgazell-schedule.Post κs a z′ e′ →
-    (z ≡ z′) × (now (e .1 .1 .0) ≡ now (e′ .1 .1 .0))
+pub morgazell-morgazell-schedule-settles : (κs : _) (a : _) (z z′ : _) (e e′ : _) → morgazell-morgazell-schedule.Post κs a z e → morgazell-morgazell-schedule.Post κs a z′ e′ → (z ≡ z′) × (now (e .1 .1 .1 .0) ≡ now (e′ .1 .1 .1 .0))
 morgazell-morgazell-schedule-settles κs a z z′ e e′ p q = (p .0 ∙ sym (q .0), p .1 ∙ sym (q .1))
 
 pub morgazell-morgazell-blank-settles : (κs : _) (a : _) (z z′ : _) (e e′ : _) → morgazell-morgazell-blank.Post κs a z e → morgazell-morgazell-blank.Post κs a z′ e′ →

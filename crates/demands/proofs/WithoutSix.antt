@@ -2,7 +2,7 @@
 -- and every schedule gets the answer that it gets without.
 use Prim.Native.Nat.{ℕ, _+_, _≤_}
 use mathlib.Core.Bool.{Bool, true, false, not}
-use mathlib.Core.List.{List, [], _∷_, _++_, List·Memᴰ, Memᴰ·append-left}
+use mathlib.Core.List.{List, [], _∷_, _++_, Memᴰ·append-left}
 use mathlib.Core.Option.{Option, none, some}
 use mathlib.Core.Path.{_≡_, refl, sym, ap, _∙_}
 use native.Mathlib.Omega.{arith}
@@ -15,13 +15,13 @@ use Rattle.reading.specs.Capture.{Event, eventCount, eventsOf, eventBytes, sett
 use Rattle.reading.specs.Part.{start}
 use Rattle.reading.specs.Rules.{aboveSix, placing, rules, placingWithSix, rulesWithSix}
 use Rattle.reading.specs.Verdict.{Verdict, verdictBy, judgedOf}
-use Rattle.reading.specs.Schedule.{Schedule, badRequest, scheduleBy, captureOf}
+use Rattle.reading.specs.Schedule.{Schedule, policyFits, closesRows, badRequest, scheduleBy, captureOf}
 use Rattle.reading.specs.Answers.{Answer, answered, Outcome, unless, accepted, settingsIn, notClean, cellsIn, fitting, leaves, whenPlanned, verdictIn, judgeAnswer, cellsOutcome, scheduleOutcome}
 use Rattle.reading.proofs.Six.{same-judged, start-rest}
-use Rattle.memory.proofs.Six.{same-schedule}
-use Rattle.plan.proofs.Ranged.{ranged}
+use Rattle.plan.proofs.Ranged.{fourteen-old, ranged}
 use Rattle.plan.proofs.Ready.{requests-fit}
 use Rattle.plan.proofs.Captured.{settings-fit}
+use Rattle.plan.proofs.Six.{ninth, same-schedule}
 use Rattle.demands.specs.ByRules.{verdictInBy, judgeAnswerBy, cellsOutcomeBy, scheduleOutcomeBy}
 
 -- ---- settings that are not refused
@@ -39,9 +39,6 @@ short ws fine = ltb-false sum (settingsOf ws .tRC) (go (outOfRange ws (length ws
     go (some i) b e = let z : _≡_ {A = ℕ} 0 1 = cc in absurd (omega arith)
 
 -- ---- judging
-
-ninth : List·Memᴰ 9 aboveSix
-ninth = List·Memᴰ.List·Memᴰ·tail (List·Memᴰ.List·Memᴰ·tail (List·Memᴰ.List·Memᴰ·head refl))
 
 -- Of whatever settings with a tRC of at most tRAS + tRP: the same verdict, rule, event and count.
 pub verdicts-agree : (s : Settings) → Consistent s → (es : List Event) → verdictBy rulesWithSix s es ≡ verdictBy rules s es
@@ -84,27 +81,27 @@ module _ (capture : List ℕ) where
 
 -- ---- schedules
 
--- And every schedule: the same refusals, the same bytes.
-pub schedule-without-six : (ws qs out : List ℕ) → scheduleOutcomeBy placingWithSix ws qs out ≡ scheduleOutcome ws qs out
+-- And every schedule, by both row policies: the same refusals, the same bytes.
+pub schedule-without-six : (ws qs : List ℕ) (policy : ℕ) (out : List ℕ) → scheduleOutcomeBy placingWithSix ws qs policy out ≡ scheduleOutcome ws qs policy out
 unfolding scheduleOutcome
-schedule-without-six ws qs out =
+schedule-without-six ws qs policy out =
     ap (λ (a : Answer (List ℕ)). leaves a out)
-    (go (not (eqb (length ws) settingsCount)) refl (badSetting ws) refl (badRequest (settingsOf ws) qs) refl)
+    (go (not (eqb (length ws) settingsCount)) refl (badSetting ws) refl (given 0 (not (policyFits policy))) (badRequest (settingsOf ws) qs) refl)
   where
     rest : List ℕ → Answer (List ℕ)
-    rest rs = whenPlanned (scheduleBy rs (settingsOf ws) qs) (λ es. fitting out (captureOf ws es))
+    rest rs = whenPlanned (scheduleBy rs (settingsOf ws) (closesRows policy) qs) (λ es. fitting out (captureOf ws es))
 
     same : length ws ≡ 14 → badSetting ws ≡ none → badRequest (settingsOf ws) qs ≡ none → rest placingWithSix ≡ rest placing
     same fourteen fine fit =
         ap (λ (x : Schedule). whenPlanned x (λ es. fitting out (captureOf ws es)))
-        (same-schedule (settingsOf ws) (short ws fine) aboveSix ninth (ranged ws (settings-fit ws fourteen fine) .sized) qs
-        (requests-fit (settingsOf ws) qs fit))
+        (same-schedule (ranged ws (settings-fit ws fourteen fine) (fourteen-old ws fourteen)) (short ws fine) (closesRows policy) qs (requests-fit (settingsOf ws) qs fit))
 
-    go : (count : Bool) → not (eqb (length ws) settingsCount) ≡ count → (bad : Option ℕ) → badSetting ws ≡ bad → (asked : Option ℕ) →
+    go : (count : Bool) → not (eqb (length ws) settingsCount) ≡ count → (bad : Option ℕ) → badSetting ws ≡ bad → (none-such asked : Option ℕ) →
         badRequest (settingsOf ws) qs ≡ asked →
-        unless 2 (given 0 count) (unless 3 bad (unless 5 asked (rest placingWithSix))) ≡
-        unless 2 (given 0 count) (unless 3 bad (unless 5 asked (rest placing)))
-    go true e bad f asked g = refl
-    go false e (some p) f asked g = refl
-    go false e none f (some p) g = refl
-    go false e none f none g = same (eqb-true (length ws) 14 (not-false _ e)) f g
+        unless 2 (given 0 count) (unless 3 bad (unless 10 none-such (unless 5 asked (rest placingWithSix)))) ≡
+        unless 2 (given 0 count) (unless 3 bad (unless 10 none-such (unless 5 asked (rest placing))))
+    go true e bad f p asked g = refl
+    go false e (some i) f p asked g = refl
+    go false e none f (some p) asked g = refl
+    go false e none f none (some i) g = refl
+    go false e none f none none g = same (eqb-true (length ws) 14 (not-false _ e)) f g

@@ -22,8 +22,9 @@ abbrev pub Lists : List ℕ → List ℕ → Listed → List ℕ → Type 0
 Lists capture out r left = (cells.means r ≡ cellsOutcome capture out .answer) × (left ≡ cellsOutcome capture out .buffer)
 
 -- by `schedule::schedule`, lent `out`, which holds `left` afterwards
-abbrev pub Schedules : List ℕ → List ℕ → List ℕ → Scheduled → List ℕ → Type 0
-Schedules ws qs out r left = (schedule.means r ≡ scheduleOutcome ws qs out .answer) × (left ≡ scheduleOutcome ws qs out .buffer)
+abbrev pub Schedules : List ℕ → List ℕ → ℕ → List ℕ → Scheduled → List ℕ → Type 0
+Schedules ws qs policy out r left =
+    (schedule.means r ≡ scheduleOutcome ws qs policy out .answer) × (left ≡ scheduleOutcome ws qs policy out .buffer)
 
 -- by `blanks::blank`, lent `out`, which holds `left` afterwards
 abbrev pub Blanks : List ℕ → List ℕ → Blanked → List ℕ → Type 0

@@ -9,7 +9,7 @@ use Rattle.reading.specs.Search.{given}
 use Rattle.reading.specs.Settings.{settingsCount, settingsOf, badSetting}
 use Rattle.reading.specs.Capture.{eventCount, eventsOf}
 use Rattle.reading.specs.Verdict.{Verdict, verdictBy, judgedOf}
-use Rattle.reading.specs.Schedule.{badRequest, scheduleBy, captureOf}
+use Rattle.reading.specs.Schedule.{policyFits, closesRows, badRequest, scheduleBy, captureOf}
 use Rattle.reading.specs.Answers.{Answer, answered, Report, Outcome, unless, accepted, settingsIn, notClean, cellsIn, fitting, leaves, whenPlanned}
 
 module _ (rs : List ℕ) where
@@ -30,11 +30,12 @@ module _ (rs : List ℕ) where
   cellsOutcomeBy capture buffer =
       leaves (accepted capture (unless 8 (notClean (verdictInBy capture)) (fitting buffer (cellsIn capture)))) buffer
 
-  abbrev pub scheduleOutcomeBy : List ℕ → List ℕ → List ℕ → Outcome
-  scheduleOutcomeBy settings requests buffer =
+  abbrev pub scheduleOutcomeBy : List ℕ → List ℕ → ℕ → List ℕ → Outcome
+  scheduleOutcomeBy settings requests policy buffer =
       leaves
       (unless 2 (given 0 (not (eqb (length settings) settingsCount)))
       (unless 3 (badSetting settings)
+      (unless 10 (given 0 (not (policyFits policy)))
       (unless 5 (badRequest (settingsOf settings) requests)
-      (whenPlanned (scheduleBy rs (settingsOf settings) requests) (λ es. fitting buffer (captureOf settings es))))))
+      (whenPlanned (scheduleBy rs (settingsOf settings) (closesRows policy) requests) (λ es. fitting buffer (captureOf settings es)))))))
       buffer

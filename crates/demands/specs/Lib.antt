@@ -1,6 +1,7 @@
--- What the contracts of the public functions allow, when a call is refused, how many beats bursts keep, answers by other rules, and the reading before there were editions.
+-- What the contracts of the public functions allow, when a call is refused, how many beats bursts keep, answers by other rules, by the reading before there were editions, and by closed rows as they were.
 pub mod Allowed
 pub mod Beats
 pub mod Refused
 pub mod ByRules
 pub mod OldEdition
+pub mod ClosedRows

@@ -1,5 +1,5 @@
 -- When a call is refused, and with which number and place: every case of document 01's table, said out in full.
-use Prim.Native.Nat.{ℕ, _<_}
+use Prim.Native.Nat.{ℕ, _≤_, _<_}
 use mathlib.Core.List.{List}
 use mathlib.Core.Option.{none, some}
 use mathlib.Core.Path.{_≡_}
@@ -44,17 +44,19 @@ pub record Fine (ws : List ℕ) : Type 0 where
   pub count : length ws ≡ 14
   pub each : badSetting ws ≡ none
 
--- a schedule that is asked for
-pub data ScheduleRefused (ws qs out : List ℕ) (number place : ℕ) : Type 0 where
+-- a schedule that is asked for, by a row policy: 0 open, 1 closed
+pub data ScheduleRefused (ws qs : List ℕ) (policy : ℕ) (out : List ℕ) (number place : ℕ) : Type 0 where
   -- 2
-  count : (length ws ≡ 14 → ⊥) → number ≡ 2 → place ≡ 0 → ScheduleRefused ws qs out number place
+  count : (length ws ≡ 14 → ⊥) → number ≡ 2 → place ≡ 0 → ScheduleRefused ws qs policy out number place
   -- 3: the lowest such setting
-  setting : length ws ≡ 14 → number ≡ 3 → badSetting ws ≡ some place → ScheduleRefused ws qs out number place
+  setting : length ws ≡ 14 → number ≡ 3 → badSetting ws ≡ some place → ScheduleRefused ws qs policy out number place
+  -- 10: no such policy
+  policy : Fine ws → 1 < policy → number ≡ 10 → place ≡ 0 → ScheduleRefused ws qs policy out number place
   -- 5: the lowest such request, or 2,000
-  request : Fine ws → number ≡ 5 → badRequest (settingsOf ws) qs ≡ some place → ScheduleRefused ws qs out number place
+  request : Fine ws → policy ≤ 1 → number ≡ 5 → badRequest (settingsOf ws) qs ≡ some place → ScheduleRefused ws qs policy out number place
   -- 6: the request at which refresh cannot be kept
-  untimely : Fine ws → badRequest (settingsOf ws) qs ≡ none → number ≡ 6 → scheduleOf (settingsOf ws) qs ≡ late place →
-      ScheduleRefused ws qs out number place
+  untimely : Fine ws → policy ≤ 1 → badRequest (settingsOf ws) qs ≡ none → number ≡ 6 → scheduleOf (settingsOf ws) policy qs ≡ late place →
+      ScheduleRefused ws qs policy out number place
   -- 7: the bytes of the schedule
-  short : Fine ws → badRequest (settingsOf ws) qs ≡ none → (es : List Event) → scheduleOf (settingsOf ws) qs ≡ planned es → number ≡ 7 →
-      place ≡ length (captureOf ws es) → length out < place → ScheduleRefused ws qs out number place
+  short : Fine ws → policy ≤ 1 → badRequest (settingsOf ws) qs ≡ none → (es : List Event) → scheduleOf (settingsOf ws) policy qs ≡ planned es → number ≡ 7 →
+      place ≡ length (captureOf ws es) → length out < place → ScheduleRefused ws qs policy out number place

@@ -1,7 +1,6 @@
--- The bursts of a schedule serve its requests, and bursts that serve requests are the plain memory.
+-- Bursts that serve requests are the plain memory; what an event makes of them; and closed rows.
 pub mod Pins
 pub mod Play
 pub mod Part
-pub mod Shape
-pub mod Six
 pub mod Same
+pub mod Closed

@@ -1,7 +1,7 @@
 -- The pins of a schedule's commands carry them, and the column pins carry the column.
 use Prim.Native.Nat.{ℕ, _+_, _*_, _/_, _%_, _^_, _≤_, _<_}
 use mathlib.Core.Bool.{Bool, true, false, cond, and-eq-true-iff}
-use mathlib.Core.Path.{_≡_, refl, _∙_}
+use mathlib.Core.Path.{_≡_, refl, ap, _∙_}
 use native.Mathlib.Nat.{mod-lt, mod-eq-of-lt}
 use native.Mathlib.Omega.{arith}
 use lib.Dec.{ltb, eqb}
@@ -9,27 +9,35 @@ use lib.Pow.{pow-pos, pow-mono}
 use borrow.Author.Tests.{ltb-true, eqb-true, eqb-false}
 use Rattle.reading.specs.Words.{bit}
 use Rattle.reading.specs.Settings.{Settings}
-use Rattle.reading.specs.Commands.{ACTIVE, READ, WRITE, AUTO-REFRESH, Command, commandOf}
+use Rattle.reading.specs.Commands.{ACTIVE, READ, WRITE, PRECHARGE, AUTO-REFRESH, Command, commandOf}
 use Rattle.reading.specs.Bursts.{columnOf}
-use Rattle.reading.specs.Schedule.{asksWrite, firstCell, cellBank, cellRow, cellColumn, requestFits, activePins, columnPins, burstPins, refreshPins}
+use Rattle.reading.specs.Schedule.{asksWrite, firstCell, cellBank, cellRow, cellColumn, requestFits, activePins, columnPins, burstPins, closePins, closeAllPins, refreshPins}
 use Rattle.pins.proofs.Carried.{command, pins-carry}
 use Rattle.memory.specs.Serving.{Sized}
 
 -- ---- the column: neither A10 nor a pin above it disturbs it, and with 11 bits A11 is its bit 10
 
-column-carried : (n c : ℕ) → n ≤ 11 → c < 2 ^ n →
-    columnPins true c % 2 ^ 10 % 2 ^ n + cond (eqb n 11) (2 ^ 10 * bit 11 (columnPins true c)) 0 ≡ c
-column-carried n c l f = go (eqb n 11) refl
+column-carried : (A10 : Bool) (n c : ℕ) → n ≤ 11 → c < 2 ^ n →
+    columnPins A10 c % 2 ^ 10 % 2 ^ n + cond (eqb n 11) (2 ^ 10 * bit 11 (columnPins A10 c)) 0 ≡ c
+column-carried A10 n c l f = go (eqb n 11) refl
   where
-    low : columnPins true c % 2 ^ 10 ≡ c % 2 ^ 10
-    low = omega arith
+    small : (v : Bool) → cond v (2 ^ 10) 0 % 2 ^ 10 ≡ 0
+    small true = refl
+    small false = refl
 
-    eleven : c < 2 ^ 11 → columnPins true c % 2 ^ 10 % 2 ^ 11 + 2 ^ 10 * bit 11 (columnPins true c) ≡ c
+    most : (v : Bool) → cond v (2 ^ 10) 0 ≤ 2 ^ 10
+    most true = omega arith
+    most false = omega arith
+
+    low : columnPins A10 c % 2 ^ 10 ≡ c % 2 ^ 10
+    low = omega (arith, small A10)
+
+    eleven : c < 2 ^ 11 → columnPins A10 c % 2 ^ 10 % 2 ^ 11 + 2 ^ 10 * bit 11 (columnPins A10 c) ≡ c
     eleven g =
-        let A11 : bit 11 (columnPins true c) ≡ c / 2 ^ 10 = omega arith in
+        let A11 : bit 11 (columnPins A10 c) ≡ c / 2 ^ 10 = omega (arith, most A10) in
         rw (low, A11) (omega arith)
 
-    go : (b : Bool) → eqb n 11 ≡ b → columnPins true c % 2 ^ 10 % 2 ^ n + cond b (2 ^ 10 * bit 11 (columnPins true c)) 0 ≡ c
+    go : (b : Bool) → eqb n 11 ≡ b → columnPins A10 c % 2 ^ 10 % 2 ^ n + cond b (2 ^ 10 * bit 11 (columnPins A10 c)) 0 ≡ c
     go true e = rw (eqb-true n 11 e) (eleven (rw (eqb-true n 11 e) at f))
     go false e =
         let g : n ≤ 10 = omega (arith, eqb-false n 11 e) in
@@ -37,13 +45,24 @@ column-carried n c l f = go (eqb n 11) refl
         let k : c % 2 ^ 10 ≡ c = omega arith in
         rw (low, k, mod-eq-of-lt f) (omega arith)
 
-A10-asked : (c : ℕ) → bit 10 (columnPins true c) ≡ 1
-A10-asked c = omega arith
+A10-asked : (A10 : Bool) (c : ℕ) → eqb (bit 10 (columnPins A10 c)) 1 ≡ A10
+A10-asked true c = let z : bit 10 (columnPins true c) ≡ 1 = omega arith in ap (λ (b : ℕ). eqb b 1) z
+A10-asked false c = let z : bit 10 (columnPins false c) ≡ 0 = omega arith in ap (λ (b : ℕ). eqb b 1) z
+
+pub column-pins-low : (A10 : Bool) (c : ℕ) → c < 2 ^ 11 → columnPins A10 c < 2 ^ 14
+column-pins-low true c l = omega arith
+column-pins-low false c l = omega arith
 
 -- ---- the commands of a schedule
 
 pub refresh-carried : commandOf refreshPins ≡ command AUTO-REFRESH 0 0
 refresh-carried = pins-carry AUTO-REFRESH 0 0 (omega arith) (omega arith)
+
+pub close-all-carried : commandOf closeAllPins ≡ command PRECHARGE 0 (2 ^ 10)
+close-all-carried = pins-carry PRECHARGE 0 (2 ^ 10) (omega arith) (omega arith)
+
+abbrev pub closeCommand : Settings → ℕ → Command
+closeCommand s q = command PRECHARGE (cellBank s (firstCell q)) 0
 
 abbrev pub activeCommand : Settings → ℕ → Command
 activeCommand s q = command ACTIVE (cellBank s (firstCell q)) (cellRow s (firstCell q))
@@ -54,8 +73,8 @@ burstCommand s q address auto =
     record { op = cond (asksWrite q) WRITE READ; bank = cellBank s (firstCell q); address = address; A10 = auto; low = false }
 
 module _ (s : Settings) (f : Sized s) where
-  pub column-back : (c : ℕ) → c < 2 ^ s .columnBits → columnOf s (columnPins true c) ≡ c
-  column-back c l = column-carried (s .columnBits) c (f .columns) l
+  pub column-back : (A10 : Bool) (c : ℕ) → c < 2 ^ s .columnBits → columnOf s (columnPins A10 c) ≡ c
+  column-back A10 c l = column-carried A10 (s .columnBits) c (f .columns) l
 
   module _ (q : ℕ) where
     pub column-small : cellColumn s (firstCell q) < 2 ^ s .columnBits
@@ -73,9 +92,12 @@ module _ (s : Settings) (f : Sized s) where
           pins-carry ACTIVE (cellBank s (firstCell q)) (cellRow s (firstCell q)) bank-small
           (omega (arith, mod-lt (firstCell q / 2 ^ s .columnBits) (pow-pos (s .rowBits)), pow-mono (f .rows)))
 
-      pub burst-carried : commandOf (burstPins true s q) ≡ burstCommand s q (columnPins true (cellColumn s (firstCell q))) true
-      burst-carried =
+      pub close-carried : commandOf (closePins s q) ≡ closeCommand s q
+      close-carried = pins-carry PRECHARGE (cellBank s (firstCell q)) 0 bank-small (omega arith)
+
+      pub burst-carried : (A10 : Bool) → commandOf (burstPins A10 s q) ≡ burstCommand s q (columnPins A10 (cellColumn s (firstCell q))) A10
+      burst-carried A10 =
           let c = cellColumn s (firstCell q) in
           let l : c < 2 ^ 11 = omega (arith, column-small, pow-mono (f .columns)) in
-          pins-carry (cond (asksWrite q) WRITE READ) (cellBank s (firstCell q)) (columnPins true c) bank-small (omega arith)
-          ∙ (λ i. burstCommand s q (columnPins true c) (eqb (A10-asked c i) 1))
+          pins-carry (cond (asksWrite q) WRITE READ) (cellBank s (firstCell q)) (columnPins A10 c) bank-small (column-pins-low A10 c l)
+          ∙ (λ i. burstCommand s q (columnPins A10 c) (A10-asked A10 c i))

@@ -1,2 +1,3 @@
--- What it is to serve requests: of bursts, and of events.
+-- What it is to serve requests; and schedules of closed rows, as they were.
 pub mod Serving
+pub mod ClosedRows

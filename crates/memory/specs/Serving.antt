@@ -1,14 +1,13 @@
--- Bursts that serve requests, and events that serve them as document 01's schedule does.
+-- Bursts that serve requests.
 use Prim.Native.Nat.{ℕ, _≤_, _<_}
 use mathlib.Core.Bool.{true}
-use mathlib.Core.List.{List, [], _∷_, _++_}
+use mathlib.Core.List.{List, [], _∷_}
 use mathlib.Core.Path.{_≡_}
 use lib.ListN.{length, getD}
 use Rattle.reading.specs.Mode.{h, modeWord}
 use Rattle.reading.specs.Settings.{Settings}
-use Rattle.reading.specs.Capture.{Event}
 use Rattle.reading.specs.Bursts.{Burst}
-use Rattle.reading.specs.Schedule.{requestFits, activePins, burstPins, refreshPins}
+use Rattle.reading.specs.Schedule.{requestFits}
 use Rattle.reading.specs.Memory.{requested}
 
 -- all that is asked of the settings: rows and columns have their pins, and the mode has a burst length
@@ -40,16 +39,3 @@ pub record Serves (s : Settings) (x : Burst) (q : ℕ) : Type 0 where
 pub data Each {A B : Type 0} (R : A → B → Type 0) : List A → List B → Type 0 where
   nil : Each R [] []
   cons : {x : A} {y : B} {xs : List A} {ys : List B} → R x y → Each R xs ys → Each R (x ∷ xs) (y ∷ ys)
-
--- ---- events
-
-abbrev pub sent : List Event → ℕ → ℕ → List Event
-sent es t pins = es ++ (record { cycle = t; pins = pins } ∷ [])
-
--- events that serve requests, the latest request first, at whatever cycles: AUTO REFRESH before or behind any of them,
--- and for each ACTIVE, then READ or WRITE with auto precharge
-pub data Shape (s : Settings) : List ℕ → List Event → Type 0 where
-  nothing : Shape s [] []
-  refresh : {qs : List ℕ} {es : List Event} (t : ℕ) → Shape s qs es → Shape s qs (sent es t refreshPins)
-  request : {q : ℕ} {qs : List ℕ} {es : List Event} (t u : ℕ) → requestFits s q ≡ true → Shape s qs es →
-      Shape s (q ∷ qs) (sent (sent es t (activePins s q)) u (burstPins true s q))

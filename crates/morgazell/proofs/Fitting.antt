@@ -19,7 +19,7 @@ use Rattle.reading.specs.Part.{Part, start, step, run, cutBy, burstGiven}
 use Rattle.reading.specs.Rules.{rules, placing}
 use Rattle.reading.specs.Verdict as is
 use Rattle.reading.specs.Cells.{burstsOf, cellsOf}
-use Rattle.reading.specs.Schedule.{Schedule, planned, late, requestFits, badRequest, scheduleFrom, scheduleBy, scheduleOf, served, whenServed, captureOf}
+use Rattle.reading.specs.Schedule.{Schedule, planned, late, policyFits, closesRows, requestFits, badRequest, scheduleFrom, scheduleBy, scheduleOf, served, whenServed, captureOf}
 use Rattle.reading.specs.Answers.{Answer, Report, refused, answered, unless, accepted, settingsIn, verdictIn, judgeAnswer, leaves, fitting, notClean, cellsIn, cellsOutcome, whenPlanned, scheduleOutcome}
 use Rattle.reading.specs.Blank.{blanked, blankOutcome}
 use Rattle.reading.proofs.Meaning.{BrokenAt, verdict-broken}
@@ -248,37 +248,40 @@ bad-request s qs place e = go (ltb 2000 (length qs)) refl e
     go true l v = let z : 2000 ≡ place = cc in omega arith
     go false l v = omega (arith, ltb-false 2000 (length qs) l, below (λ i. not (requestFits s (getD qs i 0))) (length qs) place v)
 
-late-request : (rs : List ℕ) (s : Settings) (es : List Event) (from : ℕ) (qs : List ℕ) (i : ℕ) → scheduleFrom rs s es from qs ≡ late i → i < from + length qs
+late-request : (rs : List ℕ) (s : Settings) (closed : Bool) (es : List Event) (from : ℕ) (qs : List ℕ) (i : ℕ) → scheduleFrom rs s closed es from qs ≡ late i →
+    i < from + length qs
 unfolding scheduleFrom
-late-request rs s es from [] i e = let z : _≡_ {A = ℕ} 0 1 = cc in absurd (omega arith)
-late-request rs s es from (q ∷ qs) i e = go (served rs s es q) e (λ next. late-request rs s next (suc from) qs i)
+late-request rs s closed es from [] i e = let z : _≡_ {A = ℕ} 0 1 = cc in absurd (omega arith)
+late-request rs s closed es from (q ∷ qs) i e = go (served rs s closed es q) e (λ next. late-request rs s closed next (suc from) qs i)
   where
-    go : (x : Option (List Event)) → whenServed x (λ next. scheduleFrom rs s next (suc from) qs) from ≡ late i →
-        ((next : List Event) → scheduleFrom rs s next (suc from) qs ≡ late i → i < suc from + length qs) → i < from + suc (length qs)
+    go : (x : Option (List Event)) → whenServed x (λ next. scheduleFrom rs s closed next (suc from) qs) from ≡ late i →
+        ((next : List Event) → scheduleFrom rs s closed next (suc from) qs ≡ late i → i < suc from + length qs) → i < from + suc (length qs)
     go none v ih = let z : from ≡ i = cc in omega arith
     go (some next) v ih = omega (arith, ih next v)
 
-late-fits : (s : Settings) (qs : List ℕ) (i : ℕ) → badRequest s qs ≡ none → scheduleOf s qs ≡ late i → Value i
+late-fits : (s : Settings) (policy : ℕ) (qs : List ℕ) (i : ℕ) → badRequest s qs ≡ none → scheduleOf s policy qs ≡ late i → Value i
 unfolding scheduleBy
-late-fits s qs i r e = omega (arith, few-requests s qs r, late-request placing s [] 0 qs i e)
+late-fits s policy qs i r e = omega (arith, few-requests s qs r, late-request placing s (closesRows policy) [] 0 qs i e)
 
-pub schedule-fits : (ws qs buffer : List ℕ) → Fits (countTold (scheduleOutcome ws qs buffer .answer))
+pub schedule-fits : (ws qs : List ℕ) (policy : ℕ) (buffer : List ℕ) → Fits (countTold (scheduleOutcome ws qs policy buffer .answer))
 unfolding scheduleOutcome
-schedule-fits ws qs buffer =
-    go (given 0 (not (eqb (length ws) 14))) (badSetting ws) (badRequest (settingsOf ws) qs) (scheduleOf (settingsOf ws) qs) refl refl refl refl
+schedule-fits ws qs policy buffer =
+    go (given 0 (not (eqb (length ws) 14))) (badSetting ws) (given 0 (not (policyFits policy))) (badRequest (settingsOf ws) qs) (scheduleOf (settingsOf ws) policy qs)
+    refl refl refl refl refl
   where
     fourteen : (b : Bool) → eqb (length ws) 14 ≡ b → given 0 (not b) ≡ none → length ws ≡ 14
     fourteen true e f = eqb-true (length ws) 14 e
     fourteen false e f = let z : _≡_ {A = ℕ} 0 1 = cc in absurd (omega arith)
 
-    go : (a b c : Option ℕ) (x : Schedule) → given 0 (not (eqb (length ws) 14)) ≡ a → badSetting ws ≡ b → badRequest (settingsOf ws) qs ≡ c →
-        scheduleOf (settingsOf ws) qs ≡ x →
-        Filled buffer (unless 2 a (unless 3 b (unless 5 c (whenPlanned x (λ es. fitting buffer (captureOf ws es))))))
-    go (some place) b c x p q r s = (omega arith, at-zero (not (eqb (length ws) 14)) place p)
-    go none (some place) c x p q r s = (omega arith, bad-setting ws place (omega (arith, fourteen (eqb (length ws) 14) refl p)) q)
-    go none none (some place) x p q r s = (omega arith, bad-request (settingsOf ws) qs place r)
-    go none none none (late i) p q r s = (omega arith, late-fits (settingsOf ws) qs i r s)
-    go none none none (planned es) p q r s =
+    go : (a b d c : Option ℕ) (x : Schedule) → given 0 (not (eqb (length ws) 14)) ≡ a → badSetting ws ≡ b → given 0 (not (policyFits policy)) ≡ d →
+        badRequest (settingsOf ws) qs ≡ c → scheduleOf (settingsOf ws) policy qs ≡ x →
+        Filled buffer (unless 2 a (unless 3 b (unless 10 d (unless 5 c (whenPlanned x (λ es. fitting buffer (captureOf ws es)))))))
+    go (some place) b d c x p q m r s = (omega arith, at-zero (not (eqb (length ws) 14)) place p)
+    go none (some place) d c x p q m r s = (omega arith, bad-setting ws place (omega (arith, fourteen (eqb (length ws) 14) refl p)) q)
+    go none none (some place) c x p q m r s = (omega arith, at-zero (not (policyFits policy)) place m)
+    go none none none (some place) x p q m r s = (omega arith, bad-request (settingsOf ws) qs place r)
+    go none none none none (late i) p q m r s = (omega arith, late-fits (settingsOf ws) policy qs i r s)
+    go none none none none (planned es) p q m r s =
         let l : length ws ≡ 14 = fourteen (eqb (length ws) 14) refl p in
         room buffer (captureOf ws es)
-        (omega (arith, size ws es l, plan.schedule-fits ws qs l q r es s .few, few-requests (settingsOf ws) qs r))
+        (omega (arith, size ws es l, plan.schedule-fits ws qs l q r policy es s .few, few-requests (settingsOf ws) qs r))

@@ -92,16 +92,16 @@ module _ (capture buffer : List ℕ) where
 pub cells-tells : (a b : List ℕ) (x y : List ℕ) → packed (countTold (cellsAnswer a x)) ≡ packed (countTold (cellsAnswer b y)) → cellsAnswer a x ≡ cellsAnswer b y
 cells-tells a b x y = count-tells (cellsAnswer a x) (cellsAnswer b y) (cells-fits a x) (cells-fits b y)
 
-module _ (settings requests buffer : List ℕ) where
+module _ (settings requests : List ℕ) (policy : ℕ) (buffer : List ℕ) where
   abbrev scheduleAnswer : Answer ℕ
-  scheduleAnswer = scheduleOutcome settings requests buffer .answer
+  scheduleAnswer = scheduleOutcome settings requests policy buffer .answer
 
   pub schedule-back : countAnswerOf (unpacked (packed (countTold scheduleAnswer))) ≡ scheduleAnswer
-  schedule-back = count-back scheduleAnswer (schedule-fits settings requests buffer)
+  schedule-back = count-back scheduleAnswer (schedule-fits settings requests policy buffer)
 
-pub schedule-tells : (a b q r x y : List ℕ) → packed (countTold (scheduleAnswer a q x)) ≡ packed (countTold (scheduleAnswer b r y)) →
-    scheduleAnswer a q x ≡ scheduleAnswer b r y
-schedule-tells a b q r x y = count-tells (scheduleAnswer a q x) (scheduleAnswer b r y) (schedule-fits a q x) (schedule-fits b r y)
+pub schedule-tells : (a b q r : List ℕ) (m n : ℕ) (x y : List ℕ) → packed (countTold (scheduleAnswer a q m x)) ≡ packed (countTold (scheduleAnswer b r n y)) →
+    scheduleAnswer a q m x ≡ scheduleAnswer b r n y
+schedule-tells a b q r m n x y = count-tells (scheduleAnswer a q m x) (scheduleAnswer b r n y) (schedule-fits a q m x) (schedule-fits b r n y)
 
 pub blank-back : (capture buffer : List ℕ) → countAnswerOf (unpacked (packed (countTold (blankOutcome capture buffer .answer)))) ≡ blankOutcome capture buffer .answer
 blank-back capture buffer = count-back (blankOutcome capture buffer .answer) (blank-fits capture buffer)

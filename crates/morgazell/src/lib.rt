@@ -48,13 +48,18 @@ pub extern "C" fn morgazell_cells(capture: &[u8], out: &mut [u32]) -> u64
     }
 }
 
-// The schedule of the requests, as a whole capture; bytes behind it in the buffer stay.
+// The schedule of the requests by a row policy, 0 open and 1 closed, as a whole capture; bytes behind it in the buffer stay.
 #[no_mangle]
-pub extern "C" fn morgazell_schedule(settings: &[u32], requests: &[u32], out: &mut [u8]) -> u64
-    ensures { λ r. ⌜ r ≡ packed (countTold (scheduleOutcome (now (settings .entry)) (now (requests .entry)) (now (out .entry)) .answer)) ⌝ }
-    ensures { λ _. ⌜ now (out .exit) ≡ scheduleOutcome (now (settings .entry)) (now (requests .entry)) (now (out .entry)) .buffer ⌝ }
+pub extern "C" fn morgazell_schedule(
+    settings: &[u32],
+    requests: &[u32],
+    policy: u32,
+    out: &mut [u8],
+) -> u64
+    ensures { λ r. ⌜ r ≡ packed (countTold (scheduleOutcome (now (settings .entry)) (now (requests .entry)) policy (now (out .entry)) .answer)) ⌝ }
+    ensures { λ _. ⌜ now (out .exit) ≡ scheduleOutcome (now (settings .entry)) (now (requests .entry)) policy (now (out .entry)) .buffer ⌝ }
 {
-    let scheduled = schedule::schedule(settings, requests, out);
+    let scheduled = schedule::schedule(settings, requests, policy, out);
     match scheduled {
         Scheduled::Refused { number, place } => pack(number, 0, place),
         Scheduled::Written { bytes } => pack(0, 0, bytes),

@@ -54,10 +54,10 @@ awake-on s p e from [] r = e
 awake-on s p e from (x ∷ es) r =
     awake-on s (step s p x) (awake-stays s p e (x .cycle) (commandOf (x .pins)) (cke-high (x .pins) (r .1))) (suc (x .cycle)) es (r .2)
 
-pub awake : {s : Settings} {es : List Event} → Reached s es → partOf s es .sleep ≡ sleepAtStart
-awake {s} {es} r = awake-on s (start s) refl 0 es (r .rises)
+pub awake : {s : Settings} {asked : List ℕ} {es : List Event} → Reached s asked es → partOf s es .sleep ≡ sleepAtStart
+awake {s} {es = es} r = awake-on s (start s) refl 0 es (r .rises)
 
-pub awake-now : {s : Settings} {es : List Event} → Reached s es → partOf s es .sleep .asleep ≡ false
+pub awake-now : {s : Settings} {asked : List ℕ} {es : List Event} → Reached s asked es → partOf s es .sleep .asleep ≡ false
 awake-now r = ap (λ (x : Sleep). x .asleep) (awake r)
 
 -- no command has CKE low, and the part has neither entered sleep nor left it
@@ -65,5 +65,5 @@ pub record Sleepless (s : Settings) (es : List Event) : Type 0 where
   pub high : every (λ e. not (commandOf (e .pins) .low)) es ≡ true
   pub part : partOf s es .sleep ≡ sleepAtStart
 
-pub sleepless : {s : Settings} {es : List Event} → Reached s es → Sleepless s es
-sleepless {s} {es} r = record { high = all-high 0 es (r .rises); part = awake r }
+pub sleepless : {s : Settings} {asked : List ℕ} {es : List Event} → Reached s asked es → Sleepless s es
+sleepless {s} {es = es} r = record { high = all-high 0 es (r .rises); part = awake r }

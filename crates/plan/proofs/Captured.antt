@@ -16,14 +16,14 @@ use Rattle.reading.specs.Settings.{Limits, settingsCount, sleepingCount, limits
 use Rattle.reading.specs.Capture.{Event, settingsStart, eventsStart, captureSize, headerWord, countIn, eventCount, settingWords, eventBytes, eventAt, eventsOf}
 use Rattle.reading.specs.Capture.{lengthFits, headerFits, pinLimit, lastCycle, eventFits, badEvent}
 use Rattle.reading.specs.Verdict.{clean, verdictOf}
-use Rattle.reading.specs.Schedule.{badRequest, freeFrom, planned, scheduleOf, eventWords, captureOf}
+use Rattle.reading.specs.Schedule.{closesRows, badRequest, freeFrom, planned, scheduleOf, eventWords, captureOf}
 use Rattle.reading.specs.Answers.{Answer, Report, answered, settingsIn, accepted, verdictIn, judgeAnswer}
 use Rattle.reading.proofs.Meaning.{eventOf}
 use Rattle.words.proofs.Words.{bytesOf-length, word-drop, word-of-bytes}
 use Rattle.words.proofs.Events.{words-length, cycle-word, pins-word}
 use Rattle.settings.proofs.Fitting.{rowAt, at-most, in-range, each-in-range}
-use Rattle.plan.proofs.Ranged.{ranged}
-use Rattle.plan.proofs.Reached.{Rises}
+use Rattle.plan.proofs.Ranged.{fourteen-old, ranged}
+use Rattle.plan.proofs.Reached.{Rises, every-at}
 use Rattle.plan.proofs.Ready.{Planned, few-requests, schedule-planned}
 
 -- ---- lists by their places
@@ -43,15 +43,6 @@ nowhere : (f : ℕ → Bool) (k n : ℕ) → ((i : ℕ) → i < n → f (k + i) 
 nowhere f k zero e = refl
 nowhere f k (suc n) e =
     rw (sym (ap f (add-zero k)) ∙ e 0 (omega arith)) (nowhere f (suc k) n (λ i j. ap f (suc-add k i ∙ sym (add-suc k i)) ∙ e (suc i) (omega arith)))
-
-every-at : {A : Type 0} (f : A → Bool) (x : A) → f x ≡ true → (xs : List A) → every f xs ≡ true → (i : ℕ) → f (getD xs i x) ≡ true
-every-at f x d [] h i = d
-every-at f x d (y ∷ xs) h i = go (f y) refl h i (every-at f x d xs)
-  where
-    go : (v : Bool) → f y ≡ v → (v && every f xs) ≡ true → (i : ℕ) → (every f xs ≡ true → (j : ℕ) → f (getD xs j x) ≡ true) → f (getD (y ∷ xs) i x) ≡ true
-    go true e k zero ih = e
-    go true e k (suc j) ih = ih k j
-    go false e k j ih = let z : _≡_ {A = ℕ} 0 1 = cc in absurd (omega arith)
 
 -- ---- events that rise
 
@@ -135,7 +126,7 @@ module _ (ws : List ℕ) (es : List Event) (fourteen : length ws ≡ 14) (good :
   -- settings
   small : (i : ℕ) → i < 14 → getD ws i 0 < 2 ^ 32
   small i l =
-      let most = every-at (λ (r : Limits). leb (r .most) 1000000) _ refl limits refl i in
+      let most : leb (rowAt i .most) 1000000 ≡ true = every-at (λ (r : Limits). leb (r .most) 1000000) _ refl limits refl i in
       omega (arith, at-most i (getD ws i 0) (settings-fit ws fourteen good i l), leb-true (rowAt i .most) 1000000 most)
 
   setting-word : (i : ℕ) → i < 14 → wordAt C (24 + 4 * i) ≡ getD ws i 0
@@ -247,10 +238,10 @@ module _ (ws : List ℕ) (es : List Event) (fourteen : length ws ≡ 14) (good :
 
 -- ---- the schedule of settings and requests that are not refused
 
-module _ (ws qs : List ℕ) (fourteen : length ws ≡ 14) (right : badSetting ws ≡ none) (asked : badRequest (settingsOf ws) qs ≡ none) (es : List Event)
-    (is : scheduleOf (settingsOf ws) qs ≡ planned es) where
+module _ (ws qs : List ℕ) (fourteen : length ws ≡ 14) (right : badSetting ws ≡ none) (asked : badRequest (settingsOf ws) qs ≡ none) (policy : ℕ) (es : List Event)
+    (is : scheduleOf (settingsOf ws) policy qs ≡ planned es) where
   pub schedule-fits : Planned (settingsOf ws) qs es
-  schedule-fits = schedule-planned (settingsOf ws) qs asked (ranged ws (settings-fit ws fourteen right)) es is
+  schedule-fits = schedule-planned (settingsOf ws) qs asked (ranged ws (settings-fit ws fourteen right) (fourteen-old ws fourteen)) (closesRows policy) es is
 
   pub schedule-clean : judgeAnswer (captureOf ws es) ≡ answered (allClean es)
   schedule-clean =

@@ -2,21 +2,24 @@
 use Prim.Native.Nat.{ℕ, zero, suc, _+_, _%_, _^_, _≤_, _<_}
 use mathlib.Core.Bool.{Bool, true, false, cond}
 use mathlib.Core.List.{List, [], _∷_}
-use mathlib.Core.Path.{_≡_}
+use mathlib.Core.Option.{Option, none, some}
+use mathlib.Core.Path.{_≡_, refl}
 use native.Mathlib.Nat.{pow-le-pow-right}
 use native.Mathlib.Omega.{arith}
 use lib.Dec.{leb, eqb}
 use lib.ListN.{set, replicate}
 use lib.Seq.{getD-set-other}
-use Rattle.reading.specs.Search.{lesser, later}
+use Rattle.reading.specs.Search.{find, lesser, later}
 use Rattle.reading.specs.Mode.{h, CL}
 use Rattle.reading.specs.Settings.{Settings}
+use Rattle.reading.specs.Bursts.{Burst, wholeEnd}
 use Rattle.reading.proofs.Cuts.{All, nil, cons}
-use Rattle.deadlines.specs.Deadlines.{OPENED, OTHER, REST, COLUMN, CLOSE, WRITTEN, LOCKED, BUSY, OVERDUE, BUS, READS, WRITES, END, LAST, WRITER, at}
+use Rattle.deadlines.specs.Deadlines.{OPENED, OTHER, REST, COLUMN, CLOSE, WRITTEN, LOCKED, BUSY, OVERDUE, BUS, READS, WRITES, END, LAST, WRITER, LATENCY, at}
 use Rattle.deadlines.specs.Deadlines.{Wait, otherBank, soonest, overdueFrom, paceOf, startOf}
-use Rattle.deadlines.specs.Deadlines.{activeAfter, autoAfter, readAfter, cutWrite, newWrite, autoWrite, writeAfter, refreshAfter}
-use Rattle.bridge.proofs.Bursts.{lesser-left}
-use Rattle.plan.specs.Soonest.{activeSoonest, readSoonest, writeSoonest, burstSoonest, refreshSoonest}
+use Rattle.deadlines.specs.Deadlines.{activeAfter, autoAfter, readAfter, cutWrite, newWrite, earlyRest, autoWrite, writeAfter, cutRead, restAfter, closeAfter, restAll, closeAllAfter, refreshAfter}
+use Rattle.bridge.proofs.Bursts.{lesser-left, Given, find-all}
+use Rattle.plan.specs.Behind.{READ-END, WRITE-END, cutEnd}
+use Rattle.plan.specs.Soonest.{activeSoonest, readSoonest, writeSoonest, burstSoonest, openTill, allTill, closeSoonest, closeAllSoonest, refreshSoonest}
 use Rattle.plan.proofs.Ranged.{Ranged}
 
 -- two waits of at most 10,000 cycles, a burst and its latency
@@ -67,6 +70,19 @@ near-auto {n} {d} near b c lb l =
     let closed = near-set near (OPENED + b) 0 (omega arith) in
     near-set closed (REST + b) _ (later-most _ c (n + wait) (closed .by (LOCKED + b) (omega arith)) l)
 
+-- a bank that becomes idle where it is open, and the last read cut
+near-rest : {n : ℕ} {d : List ℕ} → Near n d → (b c : ℕ) → b < 4 → c ≤ n + wait → Near n (restAfter d b c)
+unfolding restAfter
+near-rest {n} {d} near b c lb l =
+    near-set (near-set near (REST + b) _ (either (eqb (at d (OPENED + b)) 0) (at d (REST + b)) c (n + wait) (near .by (REST + b) (omega arith)) l)) (OPENED + b) 0
+    (omega arith)
+
+near-cut : {n : ℕ} {d : List ℕ} → Near n d → (m : List ℕ) (t : ℕ) (cut : Bool) → Near n (cutRead d m t cut)
+unfolding cutRead
+near-cut {n} {d} near m t cut =
+    let bus = near .by BUS (omega arith) in
+    near-set near BUS _ (either cut _ (at d BUS) (n + wait) (omega (arith, bus, lesser-left (at d BUS) (t + at m LATENCY))) bus)
+
 module _ (s : Settings) (g : Ranged s) {n : ℕ} {d : List ℕ} (near : Near n d) (t : ℕ) (l : n ≤ t) where
   now : Near (suc t) d
   now = near-on near (suc t) (omega arith)
@@ -87,27 +103,46 @@ module _ (s : Settings) (g : Ranged s) {n : ℕ} {d : List ℕ} (near : Near n d
         near-set d₅ (LOCKED + b) (t + s .tRAS + s .tRP) (omega (arith, g .tRAS, g .tRP))
 
     module _ (m : ℕ) where
-      pub near-read : Near (suc t) (readAfter s d (paceOf m) t b true)
+      pub near-read : (auto : Bool) → Near (suc t) (readAfter s d (paceOf m) t b auto)
       unfolding readAfter
-      near-read =
+      near-read true =
           let d₁ = near-set now BUS (t + CL m + h m) (omega (arith, h-small m)) in
           let d₂ = near-set d₁ LAST 4 (omega arith) in
           let d₃ = near-set d₂ READS (t + h m) (omega (arith, h-small m)) in
           near-auto d₃ b (t + h m + s .tRP) lb (omega (arith, h-small m, g .tRP))
+      near-read false = near-set (near-set now BUS (t + CL m + h m) (omega (arith, h-small m))) LAST b (omega arith)
 
-      pub near-write : Near (suc t) (writeAfter s d (paceOf m) t b true)
-      unfolding writeAfter newWrite autoWrite cutWrite
-      near-write =
+      near-new : Near (suc t) (newWrite s (cutWrite s d t) t (h m) b)
+      unfolding newWrite cutWrite
+      near-new =
           let o : ℕ = WRITTEN + at d WRITER % 4 in
           let least = lesser-left (at d o) (t + 1 + 0 + s .tWR) in
           let d₁ = near-set now o (lesser (at d o) (t + 1 + 0 + s .tWR)) (omega (arith, least, now .by o (omega arith))) in
           let d₂ = near-set d₁ (WRITTEN + b) (t + 1 + h m + s .tWR) (omega (arith, h-small m, g .tWR)) in
           let d₃ = near-set d₂ END (t + 1 + h m + s .tWTR) (omega (arith, h-small m, g .tWTR)) in
           let d₄ = near-set d₃ LAST (t + 1 + h m + 5) (omega (arith, h-small m)) in
-          let d₅ = near-set d₄ WRITER b (omega arith) in
-          let d₆ = near-set d₅ WRITES (t + h m) (omega (arith, h-small m)) in
-          let d₇ = near-set d₆ WRITER (b + 4) (omega arith) in
-          near-auto d₇ b (t + 1 + h m + s .tWR + s .tRP) lb (omega (arith, h-small m, g .tWR, g .tRP))
+          near-set d₄ WRITER b (omega arith)
+
+      pub near-write : (auto : Bool) → Near (suc t) (writeAfter s d (paceOf m) t b auto)
+      unfolding writeAfter autoWrite earlyRest
+      near-write true =
+          let d₅ = near-set near-new WRITES (t + h m) (omega (arith, h-small m)) in
+          let d₆ = near-set d₅ WRITER (b + 4) (omega arith) in
+          near-auto d₆ b (t + 1 + h m + s .tWR + s .tRP) lb (omega (arith, h-small m, g .tWR, g .tRP))
+      near-write false = rw (g .old) near-new
+
+      pub near-close : Near (suc t) (closeAfter s d (paceOf m) t b)
+      unfolding closeAfter
+      near-close = near-cut (near-rest now b (t + s .tRP) lb (omega (arith, g .tRP))) (paceOf m) t _
+
+  pub near-close-all : (m : ℕ) → Near (suc t) (closeAllAfter s d (paceOf m) t)
+  unfolding closeAllAfter restAll
+  near-close-all m =
+      let soon : t + s .tRP ≤ suc t + wait = omega (arith, g .tRP) in
+      let d₁ = near-rest now 0 (t + s .tRP) (omega arith) soon in
+      let d₂ = near-rest d₁ 1 (t + s .tRP) (omega arith) soon in
+      let d₃ = near-rest d₂ 2 (t + s .tRP) (omega arith) soon in
+      near-cut (near-rest d₃ 3 (t + s .tRP) (omega arith) soon) (paceOf m) t _
 
 -- ---- at the start, and the latest of several
 
@@ -133,9 +168,28 @@ soonest-most m [] nil = omega arith
 soonest-most m (w ∷ []) (cons k nil) = k
 soonest-most m (w ∷ v ∷ ws) (cons k r) = later-most (w .till) (soonest (v ∷ ws)) m k (soonest-most m (v ∷ ws) r)
 
+-- the end of a burst that was given before
+pub end-most : (n : ℕ) (kind : Burst → Bool) {xs : List Burst} → All (Given n) xs → cutEnd (find kind xs) ≤ n + wait
+end-most n kind {xs} given = go (find kind xs) refl
+  where
+    go : (o : Option Burst) → find kind xs ≡ o → cutEnd o ≤ n + wait
+    go none e = omega arith
+    go (some x) e = either (x .auto) 0 (wholeEnd x) (n + wait) (omega arith) (omega (arith, find-all kind given e .before, h-small (x .mode)))
+
 module _ {n : ℕ} {d : List ℕ} (near : Near n d) where
   other-most : (b i : ℕ) → i < 4 → otherBank d b i ≤ n + wait
   other-most b i l = let k = near .by (OTHER + i) (omega arith) in either (eqb i b) _ _ _ (omega (arith, k)) k
+
+  till-most : (place i : ℕ) → (place + i ≡ OVERDUE → ⊥) → openTill d place i ≤ n + wait
+  till-most place i u = either (eqb (at d (OPENED + i)) 0) 0 _ _ (omega arith) (near .by (place + i) u)
+
+  all-most : (place rest : ℕ) → place + 3 < OVERDUE → rest ≤ n + wait → allTill d place rest ≤ n + wait
+  unfolding allTill
+  all-most place rest l k =
+      later-most _ _ (n + wait) (till-most place 0 (omega arith))
+      (later-most _ _ (n + wait) (till-most place 1 (omega arith))
+      (later-most _ _ (n + wait) (till-most place 2 (omega arith))
+      (later-most _ rest (n + wait) (till-most place 3 (omega arith)) k)))
 
   pub refresh-most : refreshSoonest d ≤ n + wait
   unfolding refreshSoonest
@@ -148,29 +202,46 @@ module _ {n : ℕ} {d : List ℕ} (near : Near n d) where
       (cons (near .by _ (omega arith))
       (cons (near .by _ (omega arith)) nil))))))
 
-  module _ (b : ℕ) (lb : b < 4) where
-    pub active-most : activeSoonest d b ≤ n + wait
-    unfolding activeSoonest
-    active-most =
-        soonest-most (n + wait) _
-        (cons (near .by _ (omega arith))
-        (cons (near .by _ (omega arith))
-        (cons (other-most b 0 (omega arith))
-        (cons (other-most b 1 (omega arith))
-        (cons (other-most b 2 (omega arith))
-        (cons (other-most b 3 (omega arith)) nil))))))
+  module _ (k : List ℕ) (ends : at k READ-END ≤ n + wait) where
+    pub close-all-most : closeAllSoonest d k ≤ n + wait
+    unfolding closeAllSoonest
+    close-all-most =
+        later-most _ _ (n + wait) (near .by _ (omega arith)) (all-most CLOSE _ (omega arith) (all-most WRITTEN _ (omega arith) ends))
 
-    pub burst-most : (write : Bool) → burstSoonest write d b ≤ n + wait
-    unfolding readSoonest writeSoonest
-    burst-most true =
-        soonest-most (n + wait) _
-        (cons (near .by _ (omega arith))
-        (cons (near .by _ (omega arith))
-        (cons (near .by _ (omega arith))
-        (cons (near .by _ (omega arith)) nil))))
-    burst-most false =
-        soonest-most (n + wait) _
-        (cons (near .by _ (omega arith))
-        (cons (near .by _ (omega arith))
-        (cons (near .by _ (omega arith))
-        (cons (near .by _ (omega arith)) nil))))
+    module _ (b : ℕ) (lb : b < 4) where
+      pub close-most : closeSoonest d k b ≤ n + wait
+      unfolding closeSoonest
+      close-most =
+          later-most _ _ (n + wait)
+          (soonest-most (n + wait) _ (cons (near .by _ (omega arith)) (cons (near .by _ (omega arith)) (cons (near .by _ (omega arith)) nil))))
+          (either (eqb (at d LAST) b) _ _ (n + wait) (omega arith) (omega arith))
+
+      pub burst-most : at k WRITE-END ≤ n + wait → (write : Bool) → burstSoonest write d k b ≤ n + wait
+      unfolding readSoonest writeSoonest
+      burst-most written true =
+          later-most _ _ (n + wait)
+          (soonest-most (n + wait) _
+          (cons (near .by _ (omega arith))
+          (cons (near .by _ (omega arith))
+          (cons (near .by _ (omega arith))
+          (cons (near .by _ (omega arith)) nil)))))
+          (omega arith)
+      burst-most written false =
+          later-most _ _ (n + wait)
+          (soonest-most (n + wait) _
+          (cons (near .by _ (omega arith))
+          (cons (near .by _ (omega arith))
+          (cons (near .by _ (omega arith))
+          (cons (near .by _ (omega arith)) nil)))))
+          (omega arith)
+
+  pub active-most : (b : ℕ) → b < 4 → activeSoonest d b ≤ n + wait
+  unfolding activeSoonest
+  active-most b lb =
+      soonest-most (n + wait) _
+      (cons (near .by _ (omega arith))
+      (cons (near .by _ (omega arith))
+      (cons (other-most b 0 (omega arith))
+      (cons (other-most b 1 (omega arith))
+      (cons (other-most b 2 (omega arith))
+      (cons (other-most b 3 (omega arith)) nil))))))

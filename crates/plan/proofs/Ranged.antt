@@ -1,16 +1,17 @@
 -- Settings that fit, as far as a schedule needs their limits.
 use Prim.Native.Nat.{ℕ, _≤_, _<_}
-use mathlib.Core.Bool.{true}
+use mathlib.Core.Bool.{true, false}
 use mathlib.Core.List.{List}
 use mathlib.Core.Path.{_≡_}
 use native.Mathlib.Omega.{arith}
-use lib.ListN.{getD}
-use Rattle.reading.specs.Settings.{Settings, settingsOf, settingFits}
+use lib.ListN.{length, getD, List·getD-eq-default}
+use Rattle.reading.specs.Settings.{Settings, settingsCount, settingsOf, newer, settingFits}
 use Rattle.settings.proofs.Fitting.{rowAt, at-least, at-most, mode-valid}
 use Rattle.memory.specs.Serving.{Sized}
 
 pub record Ranged (s : Settings) : Type 0 where
   pub sized : Sized s
+  pub old : newer s ≡ false
   pub tRCD : s .tRCD ≤ 10000
   pub tRP : s .tRP ≤ 10000
   pub tRAS : s .tRAS ≤ 10000
@@ -24,6 +25,10 @@ pub record Ranged (s : Settings) : Type 0 where
   pub least-tRFC : 1 ≤ s .tRFC
   pub least-tREFI : 1 ≤ s .tREFI
 
+-- fourteen words name no edition
+pub fourteen-old : (ws : List ℕ) → length ws ≡ settingsCount → newer (settingsOf ws) ≡ false
+fourteen-old ws e = rw (List·getD-eq-default ws 0 {n = 16} (omega arith))
+
 module _ (ws : List ℕ) (fits : (i : ℕ) → i < 14 → settingFits i (getD ws i 0) ≡ true) where
   most : (i : ℕ) (l : i < 14) → getD ws i 0 ≤ rowAt i .most
   most i l = at-most i (getD ws i 0) (fits i l)
@@ -31,9 +36,10 @@ module _ (ws : List ℕ) (fits : (i : ℕ) → i < 14 → settingFits i (getD ws
   least : (i : ℕ) (l : i < 14) → rowAt i .least ≤ getD ws i 0
   least i l = at-least i (getD ws i 0) (fits i l)
 
-  pub ranged : Ranged (settingsOf ws)
-  ranged =
+  pub ranged : newer (settingsOf ws) ≡ false → Ranged (settingsOf ws)
+  ranged old =
       record {
+        old = old;
         sized = record { rows = most 1 (omega arith); columns = most 2 (omega arith); mode = mode-valid (getD ws 3 0) (fits 3 (omega arith)) };
         tRCD = most 4 (omega arith);
         tRP = most 5 (omega arith);

@@ -1,84 +1,134 @@
 -- What holds behind the events that a schedule sends, whether or not they come in time for rule 14.
-use Prim.Native.Nat.{ℕ, suc, _+_, _*_, _^_, _≤_, _<_}
-use mathlib.Core.Bool.{true}
-use mathlib.Core.List.{List, [], _∷_, _++_}
-use mathlib.Core.Path.{_≡_, refl, ap, _∙_, subst}
+use Prim.Native.Nat.{ℕ, zero, suc, _+_, _*_, _^_, _≤_, _<_}
+use mathlib.Core.Bool.{Bool, true, false, _&&_}
+use mathlib.Core.List.{List, [], _∷_, _++_, map}
+use mathlib.Core.Path.{_≡_, refl, sym, ap, _∙_, subst}
 use native.Mathlib.Omega.{arith}
-use lib.ListN.{length}
-use Rattle.reading.specs.Search.{later}
+use lib.ListN.{length, getD, set}
+use Rattle.reading.specs.Search.{every, later}
 use Rattle.reading.specs.Settings.{Settings}
 use Rattle.reading.specs.Capture.{Event}
-use Rattle.reading.specs.Commands.{Command, commandOf}
-use Rattle.reading.specs.Part.{Part, partAfter}
-use Rattle.reading.specs.Rules.{placing}
-use Rattle.reading.specs.Schedule.{passes, freeFrom, placed, send}
+use Rattle.reading.specs.Commands.{READ, WRITE, MODE-REGISTER-SET, Command, is, among, commandOf}
+use Rattle.reading.specs.Part.{Part, partAfter, cutBy, lastRead, lastWrite}
+use Rattle.reading.specs.Rules.{keepsRule, placing}
+use Rattle.reading.specs.Schedule.{cutsNothing, passes, freeFrom, placed, send}
+use Rattle.reading.proofs.Six.{Rest, start-rest, next-rest}
 use Rattle.bridge.specs.Summary.{laid, summary}
 use Rattle.bridge.proofs.Next.{Sound}
+use Rattle.bridge.proofs.Kept.{kept-plain}
 use Rattle.bridge.proofs.Turn.{start-laid, start-sound}
-use Rattle.plan.specs.Behind.{partOf, deadlinesOf}
+use Rattle.memory.specs.Serving.{nil}
+use Rattle.memory.proofs.Part.{Serving}
+use Rattle.plan.specs.Behind.{partOf, deadlinesOf, FREE, EVENTS, cutEnd, stood, standingOf}
 use Rattle.plan.proofs.Ranged.{Ranged}
 use Rattle.plan.proofs.Near.{Near, wait, near-start}
-use Rattle.plan.proofs.Sending.{free-sent, length-sent, part-sent, Goes, goes-at, goes-free, goes-soon, goes-passes}
+use Rattle.plan.proofs.Sending.{free-sent, length-sent, part-sent, Goes, goes-at, goes-free, goes-soon, goes-there}
+use Rattle.plan.proofs.Uncut.{all-stay}
 
 -- cycles rise, none before `from`, and pin words have no bit above the pins
 abbrev pub Rises : ℕ → List Event → Type 0
 Rises from [] = Unit {0}
 Rises from (e ∷ es) = (from ≤ e .cycle) × (e .pins < 2 ^ 20) × Rises (suc (e .cycle)) es
 
-pub record Reached (s : Settings) (es : List Event) : Type 0 where
-  pub mode : partOf s es .mode ≡ s .mode
+-- the bursts are those of some requests, the latest first, each with all its pairs
+pub record Reached (s : Settings) (asked : List ℕ) (es : List Event) : Type 0 where
+  pub serving : Serving s (partOf s es) asked
+  pub rest : Rest s (partOf s es)
   pub sound : Sound (freeFrom 0 es) (partOf s es)
   pub near : Near (freeFrom 0 es) (deadlinesOf s es)
   pub rises : Rises 0 es
   pub early : freeFrom 0 es ≤ suc wait * length es
 
-pub start-reached : (s : Settings) → Ranged s → Reached s []
+pub start-reached : (s : Settings) → Ranged s → Reached s [] []
 unfolding deadlinesOf freeFrom
 start-reached s g =
-    record { mode = refl; sound = start-sound s; near = subst (λ d. Near 0 d) (start-laid s) (near-start s g); rises = tt; early = omega arith }
+    record {
+      serving = record { mode = refl; bursts = nil };
+      rest = start-rest s;
+      sound = start-sound s;
+      near = subst (λ d. Near 0 d) (start-laid s) (near-start s g);
+      rises = tt;
+      early = omega arith;
+    }
 
 rises-more : (from : ℕ) (es : List Event) (e : Event) → Rises from es → freeFrom from es ≤ e .cycle → e .pins < 2 ^ 20 → Rises from (es ++ (e ∷ []))
 unfolding freeFrom
 rises-more from [] e r l k = (l, k, tt)
 rises-more from (x ∷ es) e r l k = (r .0, r .1, rises-more (suc (x .cycle)) es e (r .2) l k)
 
--- what holds of a command that was sent: where it went, and the deadlines d after it
-pub record Sent (s : Settings) (es : List Event) (pins soonest : ℕ) (d : List ℕ) : Type 0 where
-  pub goes : Goes s es pins soonest
+pub every-at : {A : Type 0} (f : A → Bool) (x : A) → f x ≡ true → (xs : List A) → every f xs ≡ true → (i : ℕ) → f (getD xs i x) ≡ true
+every-at f x d [] h i = d
+every-at f x d (y ∷ xs) h i = go (f y) refl h i (every-at f x d xs)
+  where
+    go : (v : Bool) → f y ≡ v → (v && every f xs) ≡ true → (i : ℕ) → (every f xs ≡ true → (j : ℕ) → f (getD xs j x) ≡ true) → f (getD (y ∷ xs) i x) ≡ true
+    go true e k zero ih = e
+    go true e k (suc j) ih = ih k j
+    go false e k j ih = let z : _≡_ {A = ℕ} 0 1 = cc in absurd (omega arith)
+
+-- what passes keeps rule 3, rule 9 and rule 10
+held : (s : Settings) (p : Part) (pins t : ℕ) → passes placing s p pins t ≡ true → (i : ℕ) → keepsRule (getD placing i 0) s p t (commandOf pins) ≡ true
+unfolding passes
+held s p pins t e i = every-at (λ r. keepsRule r s p t (commandOf pins)) 0 refl placing e i
+
+-- what holds of a command that was sent: where it went, and the deadlines d and the rest k that it leaves, by its cycle
+pub record Sent (s : Settings) (asked : List ℕ) (es : List Event) (pins soonest : ℕ) (d k : ℕ → List ℕ) : Type 0 where
   pub cycle : placed placing s es pins ≡ later (freeFrom 0 es) soonest
   pub not-before : freeFrom 0 es ≤ placed placing s es pins
   pub soon : placed placing s es pins ≤ freeFrom 0 es + wait
   pub small : pins < 2 ^ 20
   pub passed : passes placing s (partOf s es) pins (placed placing s es pins) ≡ true
-  pub leaves : deadlinesOf s (send placing s es pins) ≡ d
-  pub reached : Reached s (send placing s es pins)
+  pub leaves : deadlinesOf s (send placing s es pins) ≡ d (placed placing s es pins)
+  pub stands : standingOf s (send placing s es pins) ≡ set (set (k (placed placing s es pins)) FREE (suc (placed placing s es pins))) EVENTS (suc (length es))
+  pub reached : Reached s asked (send placing s es pins)
 
-module _ {s : Settings} {es : List Event} (r : Reached s es) (pins : ℕ) (c : Command) (carried : commandOf pins ≡ c) where
+module _ {s : Settings} {asked : List ℕ} {es : List Event} (r : Reached s asked es) (pins : ℕ) (c : Command) (carried : commandOf pins ≡ c) where
   abbrev next : Part
   next = partAfter s (partOf s es) (placed placing s es pins) c
 
   pub part-is : partOf s (send placing s es pins) ≡ next
   part-is = part-sent s es pins ∙ ap (partAfter s (partOf s es) (placed placing s es pins)) carried
 
-  pub sent : {soonest : ℕ} → Goes s es pins soonest → pins < 2 ^ 20 → next .mode ≡ partOf s es .mode → Sound (suc (placed placing s es pins)) next →
-      {d : List ℕ} → laid (summary s next) ≡ d → Near (suc (placed placing s es pins)) d → Sent s es pins soonest d
-  unfolding deadlinesOf send
-  sent w small mode sound {d} leaves near =
-      let left : laid (summary s (partOf s (send placing s es pins))) ≡ d = ap (λ (q : Part). laid (summary s q)) part-is ∙ leaves in
+  pub stays : {soonest : ℕ} → Goes s es pins soonest → map (cutBy s (partOf s es) (placed placing s es pins) c) (partOf s es .bursts) ≡ partOf s es .bursts
+  stays w =
+      all-stay s (partOf s es) (placed placing s es pins) c
+      (ap (cutsNothing s (partOf s es) (placed placing s es pins)) (sym carried) ∙ goes-there w .1)
+
+  -- a command that gives no burst and leaves the mode leaves a sound part
+  pub plain-sound : {soonest : ℕ} → Goes s es pins soonest → among (READ ∷ WRITE ∷ []) c ≡ false → is MODE-REGISTER-SET c ≡ false →
+      Sound (suc (placed placing s es pins)) next
+  plain-sound w e m =
+      let t = placed placing s es pins in
+      let passed = held s (partOf s es) pins t (goes-there w .0) in
+      kept-plain s (partOf s es) (freeFrom 0 es) t (goes-free w) (r .sound) c e m (rw (← carried) (passed 2)) (rw (← carried) (passed 8))
+
+  pub sent : {soonest : ℕ} → Goes s es pins soonest → pins < 2 ^ 20 → {now : List ℕ} → Serving s next now →
+      Sound (suc (placed placing s es pins)) next → {d : ℕ → List ℕ} → laid (summary s next) ≡ d (placed placing s es pins) →
+      Near (suc (placed placing s es pins)) (d (placed placing s es pins)) →
+      {k : ℕ → List ℕ} →
+      stood (λ b. next .banks b .row) (cutEnd (lastRead next)) (cutEnd (lastWrite next)) (suc (placed placing s es pins)) (suc (length es)) ≡
+      set (set (k (placed placing s es pins)) FREE (suc (placed placing s es pins))) EVENTS (suc (length es)) →
+      Sent s now es pins soonest d k
+  unfolding deadlinesOf standingOf send
+  sent w small serving sound {d} leaves near {k} stands =
+      let t = placed placing s es pins in
+      let left : laid (summary s (partOf s (send placing s es pins))) ≡ d t = ap (λ (q : Part). laid (summary s q)) part-is ∙ leaves in
       record {
-        goes = w;
         cycle = goes-at w;
         not-before = goes-free w;
         soon = goes-soon w;
         small = small;
-        passed = goes-passes w;
+        passed = goes-there w .0;
         leaves = left;
+        stands =
+            (λ i. stood (λ b. part-is i .banks b .row) (cutEnd (lastRead (part-is i))) (cutEnd (lastWrite (part-is i))) (free-sent s es pins i) (length-sent s es pins i))
+            ∙ stands;
         reached =
             record {
-              mode = ap (λ (q : Part). q .mode) part-is ∙ mode ∙ r .mode;
+              serving = rw part-is serving;
+              rest = rw part-is (next-rest s (partOf s es) t c (rw (← carried) (held s (partOf s es) pins t (goes-there w .0) 7)) (r .rest));
               sound = rw (free-sent s es pins, part-is) sound;
               near = rw (free-sent s es pins, left) near;
-              rises = rises-more 0 es (record { cycle = placed placing s es pins; pins = pins }) (r .rises) (goes-free w) small;
+              rises = rises-more 0 es (record { cycle = t; pins = pins }) (r .rises) (goes-free w) small;
               early = omega (arith, free-sent s es pins, length-sent s es pins, goes-soon w, r .early);
             };
       }

@@ -16,22 +16,22 @@ use Rattle.reading.specs.Commands.{commandOf}
 use Rattle.reading.specs.Part.{Part, start, partAfter, step, run}
 use Rattle.reading.specs.Rules.{keepsRule, rule14, rule15, placing, brokenBy}
 use Rattle.reading.specs.Verdict.{clean, brokenOr, judgeFrom, verdictOf, judgeBy, verdictBy}
-use Rattle.reading.specs.Schedule.{passes, earliest, freeFrom, lastFrom, placed, send}
+use Rattle.reading.specs.Schedule.{cutsNothing, passes, goes, earliest, freeFrom, lastFrom, placed, send}
 use Rattle.reading.proofs.Found.{earliest-is, later-first, later-second}
-use Rattle.memory.proofs.Six.{run-more}
+use Rattle.memory.proofs.Part.{run-more}
 use Rattle.plan.specs.Behind.{partOf}
 use Rattle.plan.proofs.Near.{wait, later-most}
 
 -- ---- the earliest cycle of a test that holds from m on
 
-earliest-from : (f : ℕ → Bool) (m : ℕ) → ((t : ℕ) → f t ≡ leb m t) → (from n : ℕ) → m ≤ from + n → earliest f from n ≡ later from m
-earliest-from f m is from n l = go (leb from m) refl
+earliest-from : (f : ℕ → Bool) (m from n : ℕ) → ((t : ℕ) → from ≤ t → f t ≡ leb m t) → m ≤ from + n → earliest f from n ≡ later from m
+earliest-from f m from n is l = go (leb from m) refl
   where
     go : (v : Bool) → leb from m ≡ v → earliest f from n ≡ cond v m from
     go true e =
-        earliest-is f from n m (leb-true from m e) l (is m ∙ le-leb m m (le-refl m)) (λ u k j. is u ∙ lt-leb m u j)
+        earliest-is f from n m (leb-true from m e) l (is m (leb-true from m e) ∙ le-leb m m (le-refl m)) (λ u k j. is u k ∙ lt-leb m u j)
     go false e =
-        earliest-is f from n from (le-refl from) (omega arith) (is from ∙ le-leb m from (omega (arith, leb-false from m e)))
+        earliest-is f from n from (le-refl from) (omega arith) (is from (le-refl from) ∙ le-leb m from (omega (arith, leb-false from m e)))
         (λ u k j. absurd (omega arith))
 
 -- ---- one more event
@@ -101,15 +101,19 @@ module _ (s : Settings) (es : List Event) (pins : ℕ) where
   unfolding verdictBy send passes
   clean-sent c k l m = clean-more s (start s) 0 es event c (none-with keeps (14 ∷ 15 ∷ []) (rw (l, m)) placing k)
 
--- rules 1 to 13 pass it from the cycle `soonest` on, which is not far
+-- from the cycle `soonest` on, which is not far, rules 1 to 13 pass it and it cuts nothing
 pub record Goes (s : Settings) (es : List Event) (pins soonest : ℕ) : Type 0 where
-  pub passing : (t : ℕ) → passes placing s (partOf s es) pins t ≡ leb soonest t
+  pub going : (t : ℕ) → freeFrom 0 es ≤ t → goes placing s (partOf s es) pins t ≡ leb soonest t
   pub soon : soonest ≤ freeFrom 0 es + wait
+
+both : (a b : Bool) → (a && b) ≡ true → (a ≡ true) × (b ≡ true)
+both true b e = (refl, e)
+both false b e = let z : _≡_ {A = ℕ} 0 1 = cc in absurd (omega arith)
 
 module _ {s : Settings} {es : List Event} {pins soonest : ℕ} (w : Goes s es pins soonest) where
   pub goes-at : placed placing s es pins ≡ later (freeFrom 0 es) soonest
   unfolding placed
-  goes-at = earliest-from (passes placing s (partOf s es) pins) soonest (w .passing) (freeFrom 0 es) lastCycle (omega (arith, w .soon))
+  goes-at = earliest-from (goes placing s (partOf s es) pins) soonest (freeFrom 0 es) lastCycle (w .going) (omega (arith, w .soon))
 
   pub goes-free : freeFrom 0 es ≤ placed placing s es pins
   goes-free = rw goes-at (later-first (freeFrom 0 es) soonest)
@@ -120,6 +124,10 @@ module _ {s : Settings} {es : List Event} {pins soonest : ℕ} (w : Goes s es pi
   pub goes-soon : placed placing s es pins ≤ freeFrom 0 es + wait
   goes-soon = rw goes-at (later-most (freeFrom 0 es) soonest (freeFrom 0 es + wait) (omega arith) (w .soon))
 
-  -- the search ends where it should: at a cycle that rules 1 to 13 pass
-  pub goes-passes : passes placing s (partOf s es) pins (placed placing s es pins) ≡ true
-  goes-passes = w .passing (placed placing s es pins) ∙ le-leb soonest (placed placing s es pins) goes-soonest
+  -- the search ends where it should: at a cycle that rules 1 to 13 pass, and where nothing is cut
+  pub goes-there : (passes placing s (partOf s es) pins (placed placing s es pins) ≡ true)
+      × (cutsNothing s (partOf s es) (placed placing s es pins) (commandOf pins) ≡ true)
+  unfolding goes
+  goes-there =
+      both (passes placing s (partOf s es) pins (placed placing s es pins)) _
+      (w .going (placed placing s es pins) goes-free ∙ le-leb soonest (placed placing s es pins) goes-soonest)

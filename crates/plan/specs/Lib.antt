@@ -1,3 +1,4 @@
--- When a command may be given, from the deadlines that are kept of a part.
-pub mod Soonest
+-- When a command may be given, and what a request makes of a schedule, by what is kept of the part.
 pub mod Behind
+pub mod Soonest
+pub mod Draft

@@ -59,7 +59,7 @@ third = List·Memᴰ.List·Memᴰ·tail (List·Memᴰ.List·Memᴰ·tail (List·
 fifth : List·Memᴰ 5 belowSix
 fifth = List·Memᴰ.List·Memᴰ·tail (List·Memᴰ.List·Memᴰ·tail (List·Memᴰ.List·Memᴰ·tail (List·Memᴰ.List·Memᴰ·tail (List·Memᴰ.List·Memᴰ·head refl))))
 
-every-bank : (f : ℕ → Bool) → everyBank f ≡ true → (b : ℕ) → b < 4 → f b ≡ true
+pub every-bank : (f : ℕ → Bool) → everyBank f ≡ true → (b : ℕ) → b < 4 → f b ≡ true
 every-bank f e zero l = and-left (f 0) _ e
 every-bank f e (suc zero) l = and-left (f 1) _ (and-right (f 0) _ e)
 every-bank f e (suc (suc zero)) l = and-left (f 2) _ (and-right (f 1) _ (and-right (f 0) _ e))

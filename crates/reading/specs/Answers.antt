@@ -10,7 +10,7 @@ use Rattle.reading.specs.Settings.{Settings, settingsCount, settingsOf, 
 use Rattle.reading.specs.Capture.{Event, eventCount, editionIn, settingWords, eventBytes, eventsOf, lengthFits, headerFits, pinLimit, badEvent}
 use Rattle.reading.specs.Verdict.{Verdict, clean, broken, verdictOf, judgedOf}
 use Rattle.reading.specs.Cells.{burstsOf, cellsOf}
-use Rattle.reading.specs.Schedule.{Schedule, planned, late, badRequest, scheduleOf, captureOf}
+use Rattle.reading.specs.Schedule.{Schedule, planned, late, policyFits, badRequest, scheduleOf, captureOf}
 
 pub data Answer (A : Type 0) : Type 0 where
   -- number and place
@@ -88,11 +88,12 @@ abbrev pub whenPlanned : Schedule → (List Event → Answer (List ℕ)) → Ans
 whenPlanned (planned es) f = f es
 whenPlanned (late i) f = refused 6 i
 
-unfoldable pub scheduleOutcome : List ℕ → List ℕ → List ℕ → Outcome
-scheduleOutcome settings requests buffer =
+unfoldable pub scheduleOutcome : List ℕ → List ℕ → ℕ → List ℕ → Outcome
+scheduleOutcome settings requests policy buffer =
     leaves
     (unless 2 (given 0 (not (eqb (length settings) settingsCount)))
     (unless 3 (badSetting settings)
+    (unless 10 (given 0 (not (policyFits policy)))
     (unless 5 (badRequest (settingsOf settings) requests)
-    (whenPlanned (scheduleOf (settingsOf settings) requests) (λ es. fitting buffer (captureOf settings es))))))
+    (whenPlanned (scheduleOf (settingsOf settings) policy requests) (λ es. fitting buffer (captureOf settings es)))))))
     buffer

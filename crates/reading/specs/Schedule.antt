@@ -1,6 +1,6 @@
 -- The fixed schedule of a list of requests.
 use Prim.Native.Nat.{ℕ, zero, suc, _+_, _*_, _/_, _%_, _^_}
-use mathlib.Core.Bool.{Bool, true, cond, not, _&&_}
+use mathlib.Core.Bool.{Bool, cond, not, _&&_}
 use mathlib.Core.List.{List, [], _∷_, _++_}
 use mathlib.Core.Option.{Option, none, some}
 use lib.ListN.{length, getD}
@@ -10,9 +10,16 @@ use Rattle.reading.specs.Words.{bit, bytesOf}
 use Rattle.reading.specs.Settings.{Settings}
 use Rattle.reading.specs.Capture.{Event, settingsStart, eventsStart, captureSize, lastCycle}
 use Rattle.reading.specs.RefreshClock.{inTime}
-use Rattle.reading.specs.Commands.{ACTIVE, READ, WRITE, AUTO-REFRESH, commandOf, pinsOf}
-use Rattle.reading.specs.Part.{Part, start, run}
-use Rattle.reading.specs.Rules.{keepsRule, placing}
+use Rattle.reading.specs.Commands.{Command, ACTIVE, READ, WRITE, PRECHARGE, AUTO-REFRESH, commandOf, pinsOf}
+use Rattle.reading.specs.Part.{Bank, Part, start, run, cutBy}
+use Rattle.reading.specs.Rules.{everyBank, keepsRule, placing}
+
+-- the row policies by their numbers: 0 leaves rows open, 1 closes each behind its burst
+abbrev pub policyFits : ℕ → Bool
+policyFits policy = ltb policy 2
+
+abbrev pub closesRows : ℕ → Bool
+closesRows policy = eqb policy 1
 
 -- bit 31 write, bits 27-30 zero, bits 0-26 the cell where the burst starts
 abbrev pub asksWrite : ℕ → Bool
@@ -49,15 +56,33 @@ abbrev pub burstPins : Bool → Settings → ℕ → ℕ
 burstPins A10 s q =
     pinsOf (cond (asksWrite q) WRITE READ) (cellBank s (firstCell q)) (columnPins A10 (cellColumn s (firstCell q)))
 
+-- PRECHARGE of a request's bank, and of all banks
+abbrev pub closePins : Settings → ℕ → ℕ
+closePins s q = pinsOf PRECHARGE (cellBank s (firstCell q)) 0
+
+abbrev pub closeAllPins : ℕ
+closeAllPins = pinsOf PRECHARGE 0 (2 ^ 10)
+
 abbrev pub refreshPins : ℕ
 refreshPins = pinsOf AUTO-REFRESH 0 0
 
--- the commands of a request, and those of a refresh, for the part as it stands
-abbrev pub requestCommands : Settings → Part → ℕ → List ℕ
-requestCommands s p q = activePins s q ∷ burstPins true s q ∷ []
+-- what opens a request's row: nothing where it is open, ACTIVE where the bank is idle, else PRECHARGE before it
+abbrev pub rowCommands : Settings → Bank → ℕ → List ℕ
+rowCommands s x q =
+    cond (not (x .opened)) (activePins s q ∷ [])
+    (cond (eqb (x .row) (cellRow s (firstCell q))) [] (closePins s q ∷ activePins s q ∷ []))
 
+-- the commands of a request, for the part as it stands; where rows are closed its burst asks for auto precharge
+abbrev pub requestCommands : Bool → Settings → Part → ℕ → List ℕ
+requestCommands closed s p q = rowCommands s (p .banks (cellBank s (firstCell q))) q ++ (burstPins closed s q ∷ [])
+
+-- those of a refresh
 abbrev pub refreshCommands : Part → List ℕ
-refreshCommands p = refreshPins ∷ []
+refreshCommands p = cond (everyBank (λ b. not (p .banks b .opened))) (refreshPins ∷ []) (closeAllPins ∷ refreshPins ∷ [])
+
+-- a command at t cuts nothing: no burst loses a pair that it kept
+unfoldable pub cutsNothing : Settings → Part → ℕ → Command → Bool
+cutsNothing s p t c = every (λ x. eqb (cutBy s p t c x .n) (x .n)) (p .bursts)
 
 -- the earliest cycle, not before `from`, at which f holds, looked for through n cycles
 unfoldable pub earliest : (ℕ → Bool) → ℕ → ℕ → ℕ
@@ -89,9 +114,13 @@ module _ (rs : List ℕ) (s : Settings) where
   unfoldable pub passes : Part → ℕ → ℕ → Bool
   passes p pins t = every (λ r. keepsRule r s p t (commandOf pins)) rs
 
-  -- where a command behind these events goes: the earliest cycle after them at which the rules pass it
+  -- so they do, and it cuts nothing
+  unfoldable pub goes : Part → ℕ → ℕ → Bool
+  goes p pins t = passes p pins t && cutsNothing s p t (commandOf pins)
+
+  -- where a command behind these events is placed: the earliest cycle after them at which it goes
   unfoldable pub placed : List Event → ℕ → ℕ
-  placed es pins = earliest (passes (run s (start s) es) pins) (freeFrom 0 es) lastCycle
+  placed es pins = earliest (goes (run s (start s) es) pins) (freeFrom 0 es) lastCycle
 
   unfoldable pub send : List Event → ℕ → List Event
   send es pins = es ++ (record { cycle = placed es pins; pins = pins } ∷ [])
@@ -100,32 +129,35 @@ module _ (rs : List ℕ) (s : Settings) where
   sendAll es [] = es
   sendAll es (pins ∷ more) = sendAll (send es pins) more
 
-  unfoldable pub sendRequest : List Event → ℕ → List Event
-  sendRequest es q = sendAll es (requestCommands s (run s (start s) es) q)
-
   unfoldable pub sendRefresh : List Event → List Event
   sendRefresh es = sendAll es (refreshCommands (run s (start s) es))
 
-  -- an AUTO REFRESH sent next comes in time
+  -- the AUTO REFRESH of a refresh sent next comes in time
   unfoldable pub refreshInTime : List Event → Bool
   refreshInTime es = inTime s (run s (start s) es .clock) (lastFrom 0 (sendRefresh es))
 
-  -- the events with those of one more request; none if refresh cannot be kept
-  unfoldable pub served : List Event → ℕ → Option (List Event)
-  served es q =
-      let alone = sendRequest es q in
-      let behind = sendRequest (sendRefresh es) q in
-      cond (refreshInTime alone) (some alone) (cond (refreshInTime behind) (some behind) none)
+  -- with rows left open, or closed
+  module _ (closed : Bool) where
+    unfoldable pub sendRequest : List Event → ℕ → List Event
+    sendRequest es q = sendAll es (requestCommands closed s (run s (start s) es) q)
 
-  unfoldable pub scheduleFrom : List Event → ℕ → List ℕ → Schedule
-  scheduleFrom es i [] = planned es
-  scheduleFrom es i (q ∷ qs) = whenServed (served es q) (λ next. scheduleFrom next (suc i) qs) i
+    -- the events with those of one more request; none if refresh cannot be kept
+    unfoldable pub served : List Event → ℕ → Option (List Event)
+    served es q =
+        let alone = sendRequest es q in
+        let behind = sendRequest (sendRefresh es) q in
+        cond (refreshInTime alone) (some alone) (cond (refreshInTime behind) (some behind) none)
 
-  unfoldable pub scheduleBy : List ℕ → Schedule
-  scheduleBy qs = scheduleFrom [] 0 qs
+    unfoldable pub scheduleFrom : List Event → ℕ → List ℕ → Schedule
+    scheduleFrom es i [] = planned es
+    scheduleFrom es i (q ∷ qs) = whenServed (served es q) (λ next. scheduleFrom next (suc i) qs) i
 
-abbrev pub scheduleOf : Settings → List ℕ → Schedule
-scheduleOf = scheduleBy placing
+    unfoldable pub scheduleBy : List ℕ → Schedule
+    scheduleBy qs = scheduleFrom [] 0 qs
+
+-- by a row policy
+abbrev pub scheduleOf : Settings → ℕ → List ℕ → Schedule
+scheduleOf s policy = scheduleBy placing s (closesRows policy)
 
 -- a whole capture: header, settings, events
 unfoldable pub eventWords : List Event → List ℕ

@@ -1,4 +1,4 @@
-// A part run by our schedule, on a window of eight cells: write from cell 2, read from cell 1, write from cell 1, read from
+// A part run by our schedules, with closed rows and with open ones, on a window of eight cells: write from cell 2, read from cell 1, write from cell 1, read from
 // cell 0, in bursts of 4, sequential. Words and masks are chosen so that every lane is stored and kept in turn.
 //
 // Lane code 2, every cell aabbccdd at first. Lane i is stored where bit i of the mask is 0.
@@ -12,6 +12,8 @@
 // cc54, cell 2 becomes 6314, cell 3 becomes 7374, and cell 0 stays cc34.
 use cells::Listed;
 use console::plain::say;
+use schedule::CLOSED_ROWS;
+use schedule::OPEN_ROWS;
 use schedule::Scheduled;
 
 const REQUESTS: [u32; 4] = [0x8000_0002, 1, 0x8000_0001, 0];
@@ -83,15 +85,26 @@ fn store(window: &mut [u32], cell: u32, word: u32, bits: u32) {
     window[at] = old ^ ((old ^ word) & bits);
 }
 
-// Whether the burst that follows the b-th ACTIVE is a write; without AUTO REFRESH it is event 2 b + 1.
-fn is_write(capture: &[u8], b: usize) -> bool {
+// Whether an event is a WRITE.
+fn is_write(capture: &[u8], event: usize) -> bool {
+    if 7 < event {
+        return false;
+    }
+    if capture.len() < 88 + 8 * event {
+        return false;
+    }
+    words::word_at(capture, 84 + 8 * event) / 65_536 % 16 == 2
+}
+
+// The event of burst b: without AUTO REFRESH each is behind an ACTIVE of its own, or all behind one.
+fn burst_event(policy: u32, b: usize) -> usize {
     if 3 < b {
-        return false;
+        return 0;
     }
-    if capture.len() < 144 {
-        return false;
+    if policy == CLOSED_ROWS {
+        return 2 * b + 1;
     }
-    words::word_at(capture, 92 + 16 * b) / 65_536 % 16 == 2
+    b + 1
 }
 
 // A beat of a write stores the given word; a beat of a read returns the cell's.
@@ -105,9 +118,9 @@ fn beat(lane_code: u32, writes: bool, given: usize, cell: u32, window: &mut [u32
 }
 
 // The beats of the four bursts, in their order. Every other burst is a write and takes the next four words.
-fn replay(lane_code: u32, capture: &[u8], cells: &[u32], window: &mut [u32]) {
+fn replay(lane_code: u32, policy: u32, capture: &[u8], cells: &[u32], window: &mut [u32]) {
     for j in 0..16 {
-        let writes = is_write(capture, j / 4);
+        let writes = is_write(capture, burst_event(policy, j / 4));
         let given = j / 8 * 4 + j % 4;
         beat(lane_code, writes, given, element(cells, j), window);
     }
@@ -123,7 +136,9 @@ fn print_window(lane_code: u32, window: &[u32]) {
 
 // ---- the run
 
-fn play(lane_code: u32, capture: &[u8], old: u32) {
+fn play(lane_code: u32, policy: u32, out: &[u8], bytes: u32, old: u32) {
+    let n = io::count(bytes as isize, out);
+    let capture = &out[..n];
     let mut list = [0u32; 16];
     let mut window = [old; 8];
     let listed = cells::burst_cells(capture, &mut list);
@@ -136,27 +151,29 @@ fn play(lane_code: u32, capture: &[u8], old: u32) {
         return;
     }
     say(b"read:");
-    replay(lane_code, capture, &list, &mut window);
+    replay(lane_code, policy, capture, &list, &mut window);
     say(b"cells 0 to 7:");
     print_window(lane_code, &window);
 }
 
-fn run(lane_code: u32, old: u32) {
+fn run(lane_code: u32, policy: u32, expected: u32, old: u32) {
     let settings = [lane_code, 13, 10, 0x32, 3, 3, 7, 10, 2, 3, 1, 12, 2, 1000];
     let mut out = [0u8; 144];
-    let answer = schedule::schedule(&settings, &REQUESTS, &mut out);
+    let answer = schedule::schedule(&settings, &REQUESTS, policy, &mut out);
     let Scheduled::Written { bytes } = answer else {
         say(b"WRONG: refused\n");
         return;
     };
-    if bytes != 144 {
+    if bytes != expected {
         say(b"WRONG: bytes\n");
         return;
     }
-    play(lane_code, &out, old);
+    play(lane_code, policy, &out, bytes, old);
 }
 
 fn main() {
-    run(2, 0xaabb_ccdd);
-    run(1, 0xccdd);
+    run(2, CLOSED_ROWS, 144, 0xaabb_ccdd);
+    run(1, CLOSED_ROWS, 144, 0xccdd);
+    run(2, OPEN_ROWS, 120, 0xaabb_ccdd);
+    run(1, OPEN_ROWS, 120, 0xccdd);
 }

@@ -4,16 +4,21 @@ use settings::places::COLUMN_BITS;
 use settings::places::ROW_BITS;
 use words::Found;
 ghost use mathlib.Core.Path.{_≡_};
-ghost use mathlib.Core.Bool.{true, _&&_};
+ghost use mathlib.Core.Bool.{true, cond, _&&_};
 ghost use Prim.Native.Nat.{_^_, _≤_, _<_};
 ghost use Rattle.words.specs.Found.{placeOf};
 ghost use Rattle.reading.specs.Settings.{settingsOf};
-ghost use Rattle.reading.specs.Schedule.{asksWrite, firstCell, cellBank, cellRow, cellColumn, badRequest, activePins, columnPins, burstPins};
+ghost use Rattle.reading.specs.Schedule.{asksWrite, firstCell, cellBank, cellRow, cellColumn, badRequest, activePins, closePins, columnPins, burstPins};
 ghost use Rattle.memory.specs.Serving.{Sized};
 ghost use Rattle.requests.specs.Asked.{Asked, burstCode, cellsOf, below, EachBelow};
 
 // The pins of each command that a schedule has, without bank and address.
 pub const REFRESH_PINS: u32 = pins::CODE * pins::REFRESH;
+
+// PRECHARGE with A10, of all banks.
+pub const CLOSE_ALL_PINS: u32 = pins::CODE * pins::PRECHARGE + 1024;
+
+const CLOSE_PINS: u32 = pins::CODE * pins::PRECHARGE;
 
 const ACTIVE_PINS: u32 = pins::CODE * pins::ACTIVE;
 
@@ -45,7 +50,7 @@ pub fn bank(s: &Settings, q: u32) -> u32
     q % 134_217_728 / columns / rows
 }
 
-fn row(s: &Settings, q: u32) -> u32
+pub fn row(s: &Settings, q: u32) -> u32
     requires { ⌜ Sized (settingsOf (now s)) ⌝ }
     ensures { λ r. ⌜ r ≡ cellRow (settingsOf (now (s .entry))) (firstCell q) ⌝ }
     ensures { λ r. ⌜ r < 16384 ⌝ }
@@ -71,6 +76,13 @@ pub fn active_pins(s: &Settings, q: u32) -> u32
     row(s, q) + pins::BANK * bank(s, q) + ACTIVE_PINS
 }
 
+pub fn close_pins(s: &Settings, q: u32) -> u32
+    requires { ⌜ Asked (settingsOf (now s)) q ⌝ }
+    ensures { λ r. ⌜ r ≡ closePins (settingsOf (now (s .entry))) q ⌝ }
+{
+    pins::BANK * bank(s, q) + CLOSE_PINS
+}
+
 // WRITE or READ on the command pins.
 fn burst_code(write: bool) -> u32
     ensures { λ r. ⌜ r ≡ burstCode write ⌝ }
@@ -79,21 +91,30 @@ fn burst_code(write: bool) -> u32
     if write { WRITE_PINS } else { READ_PINS }
 }
 
-// Column bits 0-9 on A0-A9, bit 10 on A11; A10 asks for auto precharge.
-fn column_pins(column: u32) -> u32
-    requires { ⌜ column < 16384 ⌝ }
-    ensures { λ r. ⌜ r ≡ columnPins true column ⌝ }
-    ensures { λ r. ⌜ r < 65536 ⌝ }
+// A10 asks for auto precharge.
+fn ten(closed: bool) -> u32
+    ensures { λ r. ⌜ r ≡ cond closed (2 ^ 10) 0 ⌝ }
+    ensures { λ r. ⌜ r ≤ 1024 ⌝ }
 {
-    column % 1024 + 1024 + 2048 * (column / 1024)
+    if closed { 1024 } else { 0 }
 }
 
-pub fn burst_pins(s: &Settings, q: u32) -> u32
+// Column bits 0-9 on A0-A9, bit 10 on A11.
+fn column_pins(column: u32, closed: bool) -> u32
+    requires { ⌜ column < 16384 ⌝ }
+    ensures { λ r. ⌜ r ≡ columnPins closed column ⌝ }
+    ensures { λ r. ⌜ r < 65536 ⌝ }
+{
+    column % 1024 + ten(closed) + 2048 * (column / 1024)
+}
+
+// With rows closed, or left open.
+pub fn burst_pins(s: &Settings, q: u32, closed: bool) -> u32
     requires { ⌜ Asked (settingsOf (now s)) q ⌝ }
-    ensures { λ r. ⌜ r ≡ burstPins true (settingsOf (now (s .entry))) q ⌝ }
+    ensures { λ r. ⌜ r ≡ burstPins closed (settingsOf (now (s .entry))) q ⌝ }
 {
     let code = burst_code(asks_write(q));
-    column_pins(column(s, q)) + pins::BANK * bank(s, q) + code
+    column_pins(column(s, q), closed) + pins::BANK * bank(s, q) + code
 }
 
 // The cells of the part, which has four banks.

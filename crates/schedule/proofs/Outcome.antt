@@ -1,19 +1,19 @@
 -- What a call answers, and what it leaves in the buffer, at each place where it ends.
-use Prim.Native.Nat.{ℕ, _*_, _≤_}
+use Prim.Native.Nat.{ℕ, zero, suc, _*_, _≤_, _<_}
 use mathlib.Core.Bool.{Bool, true, false, cond, not}
-use mathlib.Core.List.{List, _++_}
+use mathlib.Core.List.{List, [], _∷_, _++_}
 use mathlib.Core.Option.{Option, none, some}
-use mathlib.Core.Path.{_≡_, refl, sym, ap, _∙_}
+use mathlib.Core.Path.{_≡_, refl, sym, ap, _∙_, subst}
 use native.Mathlib.Omega.{arith}
 use lib.Dec.{ltb, eqb}
-use lib.ListN.{length, take, drop}
-use lib.Seq.{sets, length-sets, take-append-le, take-length}
-use borrow.Author.Tests.{eqb-true, ltb-false}
+use lib.ListN.{length, take}
+use lib.Seq.{sets}
+use borrow.Author.Tests.{eqb-true, ltb-false, lt-ltb, le-ltb}
 use Rattle.reading.specs.Search.{given}
 use Rattle.reading.specs.Words.{bytesOf}
-use Rattle.reading.specs.Settings.{Settings, settingsCount, settingsOf, outOfRange, badSetting}
+use Rattle.reading.specs.Settings.{Settings, settingsCount, settingsOf, newer, outOfRange, badSetting}
 use Rattle.reading.specs.Capture.{Event}
-use Rattle.reading.specs.Schedule.{Schedule, planned, late, badRequest, scheduleOf, eventWords, captureOf}
+use Rattle.reading.specs.Schedule.{Schedule, planned, late, policyFits, closesRows, badRequest, scheduleOf, eventWords, captureOf}
 use Rattle.reading.specs.Answers.{Answer, refused, answered, unless, Outcome, leaves, whenPlanned, fitting, scheduleOutcome}
 use Rattle.words.proofs.Runs.{front}
 use Rattle.words.proofs.Events.{words-length}
@@ -28,7 +28,7 @@ use Rattle.settings.proofs.Padded.{padded-settings, padded-range}
 use Rattle.settings.proofs.Fitting.{each-in-range}
 use Rattle.memory.specs.Serving.{Sized}
 use Rattle.plan.proofs.Captured.{settings-fit}
-use Rattle.plan.proofs.Ranged.{ranged}
+use Rattle.plan.proofs.Ranged.{fourteen-old, ranged}
 use Rattle.plan.proofs.Ready.{few-requests, schedule-planned}
 use Rattle.plan.proofs.Captured as captured
 use Rattle.schedule.specs.declared.Scheduled.{Scheduled}
@@ -60,6 +60,11 @@ module _ (x y : Option ℕ) where
       go none (some q) e = let z : _≡_ {A = ℕ} 0 1 = cc in absurd (omega arith)
       go (some q) y e = let z : _≡_ {A = ℕ} 0 1 = cc in absurd (omega arith)
 
+least : (n : ℕ) (l : List ℕ) → length (take n l) ≤ length l
+least zero l = omega arith
+least (suc n) [] = omega arith
+least (suc n) (x ∷ l) = omega (arith, least n l)
+
 right-count : (n : ℕ) → given 0 (not (eqb n settingsCount)) ≡ none → n ≡ settingsCount
 right-count n e = go (eqb n settingsCount) refl e
   where
@@ -67,13 +72,13 @@ right-count n e = go (eqb n settingsCount) refl e
     go true k e = eqb-true n settingsCount k
     go false k e = let z : _≡_ {A = ℕ} 0 1 = cc in absurd (omega arith)
 
-module _ (ws qs out : List ℕ) where
-  unfit : (k p : ℕ) → refused k p ≡ checked ws → scheduleOutcome ws qs out ≡ leaves (refused k p) out
+module _ (ws qs : List ℕ) (policy : ℕ) (out : List ℕ) where
+  unfit : (k p : ℕ) → refused k p ≡ checked ws → scheduleOutcome ws qs policy out ≡ leaves (refused k p) out
   unfolding scheduleOutcome checked
   unfit k p e = ap (λ (a : Answer (List ℕ)). leaves a out) (refused-so (given 0 (not (eqb (length ws) settingsCount))) (badSetting ws) _ k p e)
 
   pub refuses : (r : Checked) → settings.means r ≡ checked ws → {number place : ℕ} → r ≡ check.Refused number place →
-      Ends (scheduleOutcome ws qs out) (Refused number place) out
+      Ends (scheduleOutcome ws qs policy out) (Refused number place) out
   refuses r e {number} {place} f = rw (unfit number place (sym (ap settings.means f) ∙ e)) (refl, refl)
 
 -- ---- settings that fit
@@ -98,102 +103,116 @@ module _ {ws : List ℕ} (fit : Right ws) {s : List ℕ} (loaded : s ≡ padded 
       ∙ each-in-range ws (fit .each)
 
   pub sized : Sized (settingsOf s)
-  sized = rw same (ranged ws (settings-fit ws (fit .count) (fit .each)) .sized)
+  sized = rw same (ranged ws (settings-fit ws (fit .count) (fit .each)) (fourteen-old ws (fit .count)) .sized)
 
-  module _ (qs out : List ℕ) where
-    onward : scheduleOutcome ws qs out
-        ≡ leaves (unless 5 (badRequest (settingsOf ws) qs) (whenPlanned (scheduleOf (settingsOf ws) qs) (λ es. fitting out (captureOf ws es)))) out
+  module _ (qs : List ℕ) (policy : ℕ) (out : List ℕ) where
+    fitted : scheduleOutcome ws qs policy out
+        ≡ leaves
+        (unless 10 (given 0 (not (policyFits policy)))
+        (unless 5 (badRequest (settingsOf ws) qs)
+        (whenPlanned (scheduleOf (settingsOf ws) policy qs) (λ es. fitting out (captureOf ws es)))))
+        out
     unfolding scheduleOutcome
-    onward = rw (fit .count, fit .each)
+    fitted = rw (fit .count, fit .each)
 
-    pub unserved : {r : Found} {i : ℕ} → placeOf r ≡ badRequest (settingsOf s) qs → r ≡ At i → Ends (scheduleOutcome ws qs out) (Refused 5 i) out
-    unserved {r} {i} e k =
-        let b : badRequest (settingsOf ws) qs ≡ some i = sym (ap (λ (x : Settings). badRequest x qs) same) ∙ sym e ∙ ap placeOf k in
-        rw (onward, b) (refl, refl)
+    -- ---- refusal 10
 
-    module _ {r : Found} (e : placeOf r ≡ badRequest (settingsOf s) qs) (k : r ≡ Nothing) where
-      pub asked-fine : badRequest (settingsOf ws) qs ≡ none
-      asked-fine = sym (ap (λ (x : Settings). badRequest x qs) same) ∙ sym e ∙ ap placeOf k
+    pub no-policy : 1 < policy → Ends (scheduleOutcome ws qs policy out) (Refused 10 0) out
+    no-policy l = rw (fitted, le-ltb policy 2 l) (refl, refl)
 
-      pub plannable : (w : List ℕ) → length w ≡ 12000 → Plannable s qs w
-      plannable w l =
-          let few = few-requests (settingsOf ws) qs asked-fine in
-          record { right = in-range; fine = ap (λ (x : Settings). badRequest x qs) same ∙ asked-fine; room = omega arith }
+    module _ (known : policy ≤ 1) where
+      onward : scheduleOutcome ws qs policy out
+          ≡ leaves (unless 5 (badRequest (settingsOf ws) qs) (whenPlanned (scheduleOf (settingsOf ws) policy qs) (λ es. fitting out (captureOf ws es)))) out
+      onward = fitted ∙ rw (lt-ltb policy 2 (omega arith))
 
-      -- ---- refusal 6
+      -- ---- refusal 5
 
-      module _ {w w′ : List ℕ} {t : Planned} (plans : t ≡ plannedAs (scheduleOf (settingsOf s) qs)) (fills : Noted (scheduleOf (settingsOf s) qs) w w′) where
-        pub too-late : {i : ℕ} → t ≡ Late i → Ends (scheduleOutcome ws qs out) (Refused 6 i) out
-        too-late {i} m =
-            let p : Late i ≡ plannedAs (scheduleOf (settingsOf ws) qs) = sym m ∙ plans ∙ ap (λ (x : Settings). plannedAs (scheduleOf x qs)) same in
-            rw (onward, asked-fine) (go (scheduleOf (settingsOf ws) qs) p)
-          where
-            go : (x : Schedule) → Late i ≡ plannedAs x → Ends (leaves (whenPlanned x (λ es. fitting out (captureOf ws es))) out) (Refused 6 i) out
-            go (planned es) p = let z : _≡_ {A = ℕ} 0 1 = cc in absurd (omega arith)
-            go (late j) p = let z : i ≡ j = cc in rw z (refl, refl)
+      pub unserved : {r : Found} {i : ℕ} → placeOf r ≡ badRequest (settingsOf s) qs → r ≡ At i → Ends (scheduleOutcome ws qs policy out) (Refused 5 i) out
+      unserved {r} {i} e k =
+          let b : badRequest (settingsOf ws) qs ≡ some i = sym (ap (λ (x : Settings). badRequest x qs) same) ∙ sym e ∙ ap placeOf k in
+          rw (onward, b) (refl, refl)
 
-        -- ---- the schedule
+      module _ {r : Found} (e : placeOf r ≡ badRequest (settingsOf s) qs) (k : r ≡ Nothing) where
+        pub asked-fine : badRequest (settingsOf ws) qs ≡ none
+        asked-fine = sym (ap (λ (x : Settings). badRequest x qs) same) ∙ sym e ∙ ap placeOf k
 
-        pub record Made (n : ℕ) : Type 0 where
-          pub es : List Event
-          pub is : scheduleOf (settingsOf ws) qs ≡ planned es
-          pub counted : n ≡ length es
-          pub noted : w′ ≡ sets w 0 (eventWords es)
+        pub plannable : (w : List ℕ) → length w ≡ 16002 → Plannable s qs w
+        plannable w l =
+            let few = few-requests (settingsOf ws) qs asked-fine in
+            record { right = in-range; old = ap newer same ∙ fourteen-old ws (fit .count); fine = ap (λ (x : Settings). badRequest x qs) same ∙ asked-fine; room = omega arith }
 
-        pub made : {n : ℕ} → t ≡ Events n → Made n
-        made {n} m =
-            let p : Events n ≡ plannedAs (scheduleOf (settingsOf ws) qs) = sym m ∙ plans ∙ ap (λ (x : Settings). plannedAs (scheduleOf x qs)) same in
-            let f : Noted (scheduleOf (settingsOf ws) qs) w w′ = rw same at fills in
-            go (scheduleOf (settingsOf ws) qs) refl p f
-          where
-            go : (x : Schedule) → scheduleOf (settingsOf ws) qs ≡ x → Events n ≡ plannedAs x → Noted x w w′ → Made n
-            go (planned es) e p f = record { es = es; is = e; counted = (let z : n ≡ length es = cc in z); noted = f .words es refl }
-            go (late j) e p f = let z : _≡_ {A = ℕ} 0 1 = cc in absurd (omega arith)
+        -- ---- refusal 6
 
-        module _ (l : length w ≡ 12000) {n : ℕ} (m : t ≡ Events n) where
-          few : n ≤ 6000
-          few =
-              let y = made m in
-              let plan = schedule-planned (settingsOf ws) qs asked-fine (ranged ws (settings-fit ws (fit .count) (fit .each))) (y .es) (y .is) in
-              omega (arith, y .counted, plan .few, few-requests (settingsOf ws) qs asked-fine)
+        module _ {w : List ℕ} {t : Planned} (plans : t ≡ plannedAs (scheduleOf (settingsOf s) policy qs)) (fills : Noted (scheduleOf (settingsOf s) policy qs) w) where
+          planned-as : t ≡ plannedAs (scheduleOf (settingsOf ws) policy qs)
+          planned-as = plans ∙ ap (λ (x : Settings). plannedAs (scheduleOf x policy qs)) same
 
-          pub writable : Writable ws w′ n
-          writable =
-              let y = made m in
-              record { fourteen = fit .count; few = few; there = omega (arith, few, ap length (y .noted) ∙ length-sets w 0 (eventWords (y .es))) }
+          pub too-late : {i : ℕ} → t ≡ Late i → Ends (scheduleOutcome ws qs policy out) (Refused 6 i) out
+          too-late {i} m = rw (onward, asked-fine) (go (scheduleOf (settingsOf ws) policy qs) (sym m ∙ planned-as))
+            where
+              go : (x : Schedule) → Late i ≡ plannedAs x → Ends (leaves (whenPlanned x (λ es. fitting out (captureOf ws es))) out) (Refused 6 i) out
+              go (planned es) p = let z : _≡_ {A = ℕ} 0 1 = cc in absurd (omega arith)
+              go (late j) p = let z : i ≡ j = cc in rw z (refl, refl)
 
-          words-back : take (2 * n) w′ ≡ eventWords (made m .es)
-          words-back =
-              let y = made m in
-              let k : 2 * n ≡ length (eventWords (y .es)) = omega (arith, words-length (y .es), y .counted) in
-              (λ i. take (k i) ((y .noted ∙ front (eventWords (y .es)) w (omega (arith, few))) i))
-              ∙ take-append-le (length (eventWords (y .es))) (eventWords (y .es)) (drop (length (eventWords (y .es))) w) (omega arith)
-              ∙ take-length (eventWords (y .es))
+          -- ---- the schedule
 
-          abbrev cap : List ℕ
-          cap = captureOf ws (made m .es)
+          pub record Made (n : ℕ) : Type 0 where
+            pub es : List Event
+            pub is : scheduleOf (settingsOf ws) policy qs ≡ planned es
+            pub counted : n ≡ length es
+            pub noted : take (2 * length es) w ≡ eventWords es
 
-          long : length cap ≡ size n
-          long = captured.size ws (made m .es) (fit .count) ∙ ap size (sym (made m .counted))
+          pub made : {n : ℕ} → t ≡ Events n → Made n
+          made {n} m =
+              let f : Noted (scheduleOf (settingsOf ws) policy qs) w = subst (λ (x : Settings). Noted (scheduleOf x policy qs) w) same fills in
+              go (scheduleOf (settingsOf ws) policy qs) refl (sym m ∙ planned-as) f
+            where
+              go : (x : Schedule) → scheduleOf (settingsOf ws) policy qs ≡ x → Events n ≡ plannedAs x → Noted x w → Made n
+              go (planned es) e p f = record { es = es; is = e; counted = (let z : n ≡ length es = cc in z); noted = f .front es refl }
+              go (late j) e p f = let z : _≡_ {A = ℕ} 0 1 = cc in absurd (omega arith)
 
-          whole : bytesOf (head n ++ ws ++ take (2 * n) w′) ≡ cap
-          whole = (λ i. bytesOf (head (made m .counted i) ++ ws ++ words-back i)) ∙ sym (captured.in-words ws (made m .es) (fit .count))
+          module _ {n : ℕ} (m : t ≡ Events n) where
+            few : n ≤ 8000
+            few =
+                let y = made m in
+                let range = ranged ws (settings-fit ws (fit .count) (fit .each)) (fourteen-old ws (fit .count)) in
+                let plan = schedule-planned (settingsOf ws) qs asked-fine range (closesRows policy) (y .es) (y .is) in
+                omega (arith, y .counted, plan .few, few-requests (settingsOf ws) qs asked-fine)
 
-          outcome-is : scheduleOutcome ws qs out ≡ leaves (unless 7 (given (size n) (ltb (length out) (size n))) (answered cap)) out
-          outcome-is =
-              onward
-              ∙ (λ i. leaves (unless 5 (asked-fine i) (whenPlanned (made m .is i) (λ es. fitting out (captureOf ws es)))) out)
-              ∙ (λ i. leaves (unless 7 (given (long i) (ltb (length out) (long i))) (answered cap)) out)
+            words-back : take (2 * n) w ≡ eventWords (made m .es)
+            words-back = ap (λ (k : ℕ). take (2 * k) w) (made m .counted) ∙ made m .noted
 
-          final : (v : Bool) → ltb (length out) (size n) ≡ v →
-              Ends (leaves (unless 7 (given (size n) v) (answered cap)) out) (cond v (Refused 7 (size n)) (Written (size n))) (cond v out (sets out 0 cap))
-          final true k = (refl, refl)
-          final false k = (ap answered (sym long), front cap out (omega (arith, long, ltb-false (length out) (size n) k)))
+            pub writable : Writable ws w n
+            writable =
+                let y = made m in
+                let there : 2 * n ≤ length w =
+                omega (arith, words-length (y .es), y .counted, ap length words-back, least (2 * n) w) in
+                record { fourteen = fit .count; few = few; there = there }
 
-          pub ends : {r : Scheduled} {o : List ℕ} → r ≡ written out n → o ≡ writing ws w′ n out → Ends (scheduleOutcome ws qs out) r o
-          unfolding written writing
-          ends e f =
-              let fin = final (ltb (length out) (size n)) refl in (
-                ap means e ∙ fin .0 ∙ sym (ap (λ (x : Outcome). x .answer) outcome-is),
-                f ∙ ap (λ (x : List ℕ). cond (ltb (length out) (size n)) out (sets out 0 x)) whole ∙ fin .1 ∙ sym (ap (λ (x : Outcome). x .buffer) outcome-is),
-              )
+            abbrev cap : List ℕ
+            cap = captureOf ws (made m .es)
+
+            long : length cap ≡ size n
+            long = captured.size ws (made m .es) (fit .count) ∙ ap size (sym (made m .counted))
+
+            whole : bytesOf (head n ++ ws ++ take (2 * n) w) ≡ cap
+            whole = (λ i. bytesOf (head (made m .counted i) ++ ws ++ words-back i)) ∙ sym (captured.in-words ws (made m .es) (fit .count))
+
+            outcome-is : scheduleOutcome ws qs policy out ≡ leaves (unless 7 (given (size n) (ltb (length out) (size n))) (answered cap)) out
+            outcome-is =
+                onward
+                ∙ (λ i. leaves (unless 5 (asked-fine i) (whenPlanned (made m .is i) (λ es. fitting out (captureOf ws es)))) out)
+                ∙ (λ i. leaves (unless 7 (given (long i) (ltb (length out) (long i))) (answered cap)) out)
+
+            final : (v : Bool) → ltb (length out) (size n) ≡ v →
+                Ends (leaves (unless 7 (given (size n) v) (answered cap)) out) (cond v (Refused 7 (size n)) (Written (size n))) (cond v out (sets out 0 cap))
+            final true k = (refl, refl)
+            final false k = (ap answered (sym long), front cap out (omega (arith, long, ltb-false (length out) (size n) k)))
+
+            pub ends : {r : Scheduled} {o : List ℕ} → r ≡ written out n → o ≡ writing ws w n out → Ends (scheduleOutcome ws qs policy out) r o
+            unfolding written writing
+            ends e f =
+                let fin = final (ltb (length out) (size n)) refl in (
+                  ap means e ∙ fin .0 ∙ sym (ap (λ (x : Outcome). x .answer) outcome-is),
+                  f ∙ ap (λ (x : List ℕ). cond (ltb (length out) (size n)) out (sets out 0 x)) whole ∙ fin .1 ∙ sym (ap (λ (x : Outcome). x .buffer) outcome-is),
+                )

@@ -1,6 +1,6 @@
 -- What this crate's answers mean in document 01, and what its functions ask of each other.
 use Prim.Native.Nat.{ℕ, _+_, _*_, _≤_}
-use mathlib.Core.Bool.{cond}
+use mathlib.Core.Bool.{false, cond}
 use mathlib.Core.List.{List, [], _∷_, _++_}
 use mathlib.Core.Option.{none}
 use mathlib.Core.Path.{_≡_}
@@ -8,12 +8,10 @@ use lib.Dec.{ltb}
 use lib.ListN.{length, take}
 use lib.Seq.{sets}
 use Rattle.reading.specs.Words.{bytesOf}
-use Rattle.reading.specs.Settings as reading
-use Rattle.reading.specs.Settings.{settingsCount, settingsOf, outOfRange}
+use Rattle.reading.specs.Settings.{settingsCount, settingsOf, newer, outOfRange}
 use Rattle.reading.specs.Capture.{Event, settingsStart, eventsStart, captureSize}
 use Rattle.reading.specs.Schedule.{Schedule, planned, late, badRequest, eventWords}
 use Rattle.reading.specs.Answers.{Answer, refused, answered}
-use Rattle.requests.specs.Asked.{Asked}
 use Rattle.schedule.specs.declared.Scheduled.{Scheduled}
 use Rattle.schedule.specs.declared.Scheduled.the-variants.{Refused, Written}
 use Rattle.schedule.specs.declared.Planned.{Planned}
@@ -30,26 +28,22 @@ abbrev pub plannedAs : Schedule → Planned
 plannedAs (planned es) = Events (length es)
 plannedAs (late i) = Late i
 
--- the words from before, with those of the schedule's events; where there is no schedule nothing is said of them
-pub record Noted (x : Schedule) (before now : List ℕ) : Type 0 where
-  pub words : (es : List Event) → x ≡ planned es → now ≡ sets before 0 (eventWords es)
+-- the words of the schedule's events stand in front; where there is no schedule nothing is said of them
+pub record Noted (x : Schedule) (words : List ℕ) : Type 0 where
+  pub front : (es : List Event) → x ≡ planned es → take (2 * length es) words ≡ eventWords es
 
--- there is room for some events more, of a request that fits
-pub record Notable (s : reading.Settings) (words : List ℕ) (n events q : ℕ) : Type 0 where
-  pub room : 2 * (n + events) ≤ length words
-  pub asked : Asked s q
-
--- nothing is refused, and there is room for the events
+-- nothing is refused, the edition is 0, and there is room for the events, and for one more
 pub record Plannable (settings requests words : List ℕ) : Type 0 where
   pub right : outOfRange settings settingsCount ≡ none
+  pub old : newer (settingsOf settings) ≡ false
   pub fine : badRequest (settingsOf settings) requests ≡ none
-  pub room : 6 * length requests ≤ length words
+  pub room : 8 * length requests + 2 ≤ length words
 
 -- ---- the capture
 
 pub record Writable (settings list : List ℕ) (n : ℕ) : Type 0 where
   pub fourteen : length settings ≡ settingsCount
-  pub few : n ≤ 6000
+  pub few : n ≤ 8000
   pub there : 2 * n ≤ length list
 
 abbrev pub size : ℕ → ℕ

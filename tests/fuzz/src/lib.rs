@@ -7,7 +7,8 @@
 //!     bits 2-3   the length of the lent buffer, around what is needed
 //!     bits 4-7   of words, how many of them are settings, 0 for 14;
 //!                of a spelled capture, bit 4 0 for 14 settings, 1 for 16, and bit 5 the
-//!                edition
+//!                edition;
+//!                of spelled requests, the row policy, which is 0 for words
 
 mod spelled;
 
@@ -18,6 +19,7 @@ use std::slice;
 
 use second::archive::Archive;
 use second::capture::{SETTINGS, SLEEP_SETTINGS};
+use second::schedule::OPEN_ROWS;
 use second::{blank, c, cells, judge, packed, schedule};
 
 const FENCE: usize = 8;
@@ -60,11 +62,11 @@ fn compare_input(archive: &mut Archive, input: &[u8]) {
                 count => usize::from(count),
             };
             let (settings, requests) = words.split_at(count.min(words.len()));
-            compare_schedules(archive, settings, requests, room);
+            compare_schedules(archive, settings, requests, OPEN_ROWS, room);
         }
         _ => {
             let (settings, requests) = spelled::requests(rest);
-            compare_schedules(archive, &settings, &requests, room);
+            compare_schedules(archive, &settings, &requests, u32::from(how >> 4), room);
         }
     }
 }
@@ -105,17 +107,23 @@ fn compare_blanks(archive: &mut Archive, capture: &[u8], room: usize) {
     same("blank, archive", of_second, of_archive);
 }
 
-fn compare_schedules(archive: &mut Archive, settings: &[u32], requests: &[u32], room: usize) {
-    let needed = schedule(settings, requests, &mut vec![0; MOST_BYTES]).ok();
+fn compare_schedules(
+    archive: &mut Archive,
+    settings: &[u32],
+    requests: &[u32],
+    policy: u32,
+    room: usize,
+) {
+    let needed = schedule(settings, requests, policy, &mut vec![0; MOST_BYTES]).ok();
     let lent = length(needed, room);
     let mut buffers = [(); 3].map(|()| vec![UNTOUCHED as u8; lent + FENCE]);
     let [of_second, of_c, of_archive] = &mut buffers;
-    let expected = packed::of_count(schedule(settings, requests, &mut of_second[..lent]));
-    let found = c::schedule(settings, requests, &mut of_c[..lent]);
+    let expected = packed::of_count(schedule(settings, requests, policy, &mut of_second[..lent]));
+    let found = c::schedule(settings, requests, policy, &mut of_c[..lent]);
     same("schedule, C", &expected, &found);
     same("schedule, C", of_second, of_c);
     let found = archive
-        .schedule(settings, requests, of_archive, lent)
+        .schedule(settings, requests, policy, of_archive, lent)
         .expect("the archive");
     same("schedule, archive", &expected, &found);
     same("schedule, archive", of_second, of_archive);

@@ -61,11 +61,12 @@ impl Archive {
         &mut self,
         settings: &[u32],
         requests: &[u32],
+        policy: u32,
         out: &mut [u8],
         lent: usize,
     ) -> io::Result<u64> {
         let counts = [settings.len(), requests.len(), lent, out.len() - lent];
-        let inputs = [bytes_of(settings), bytes_of(requests)].concat();
+        let inputs = [bytes_of(&[policy]), bytes_of(settings), bytes_of(requests)].concat();
         self.ask(Function::Schedule, counts, inputs, out)
     }
 

@@ -9,6 +9,7 @@ extern "C" {
         settings_len: usize,
         requests: *const u32,
         requests_len: usize,
+        policy: u32,
         out: *mut u8,
         out_len: usize,
     ) -> u64;
@@ -25,13 +26,14 @@ pub fn cells(capture: &[u8], out: &mut [u32]) -> u64 {
     unsafe { c_cells(capture.as_ptr(), capture.len(), out.as_mut_ptr(), out.len()) }
 }
 
-pub fn schedule(settings: &[u32], requests: &[u32], out: &mut [u8]) -> u64 {
+pub fn schedule(settings: &[u32], requests: &[u32], policy: u32, out: &mut [u8]) -> u64 {
     unsafe {
         c_schedule(
             settings.as_ptr(),
             settings.len(),
             requests.as_ptr(),
             requests.len(),
+            policy,
             out.as_mut_ptr(),
             out.len(),
         )

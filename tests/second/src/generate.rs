@@ -13,7 +13,7 @@ pub use addresses::other_addresses;
 pub use captures::{busy_capture, guided_capture};
 pub use damage::damaged_capture;
 pub use dice::Dice;
-pub use requests::request_list;
+pub use requests::{request_list, row_policy};
 pub use tally::{Tally, MOST_CELLS, NO_RULE};
 
 #[derive(Clone, Debug)]
@@ -22,6 +22,7 @@ pub enum Input {
     Requests {
         settings: Vec<u32>,
         requests: Vec<u32>,
+        policy: u32,
     },
 }
 
@@ -32,7 +33,12 @@ pub fn input(dice: &mut Dice) -> Input {
         11..=14 => Input::Capture(damaged_capture(dice)),
         _ => {
             let (settings, requests) = request_list(dice);
-            Input::Requests { settings, requests }
+            let policy = row_policy(dice);
+            Input::Requests {
+                settings,
+                requests,
+                policy,
+            }
         }
     }
 }

@@ -300,6 +300,17 @@ impl Part {
         named.names(bank) && self.banks[bank].is_open()
     }
 
+    /// Whether no burst would lose a pair to an event, in edition 0.
+    pub fn keeps_all(&self, cycle: u64, asked: Asked) -> bool {
+        self.bursts_at(cycle).iter().all(|burst| {
+            let mut after = *burst;
+            if cuts(asked.command, burst) {
+                after.cut_at(cycle);
+            }
+            after.kept == burst.kept
+        })
+    }
+
     fn start_burst(
         &mut self,
         cycle: u64,

@@ -35,7 +35,7 @@ fn needed(answer: Result<u32, Refusal>) -> Option<usize> {
 }
 
 type CellsOf<'a> = &'a dyn Fn(&[u8], &mut [u32]) -> u64;
-type ScheduleOf<'a> = &'a dyn Fn(&[u32], &[u32], &mut [u8]) -> u64;
+type ScheduleOf<'a> = &'a dyn Fn(&[u32], &[u32], u32, &mut [u8]) -> u64;
 
 /// The answer and the buffer afterwards.
 fn tried_cells(cells: CellsOf, capture: &[u8], length: usize) -> (u64, Vec<u32>) {
@@ -47,10 +47,11 @@ fn tried_schedule(
     schedule: ScheduleOf,
     settings: &[u32],
     requests: &[u32],
+    policy: u32,
     length: usize,
 ) -> (u64, Vec<u8>) {
     let mut out = vec![UNTOUCHED_BYTE; length];
-    (schedule(settings, requests, &mut out), out)
+    (schedule(settings, requests, policy, &mut out), out)
 }
 
 #[test]
@@ -71,9 +72,13 @@ fn everything_comes_up() {
                     tally.count_addresses(&capture, &read, &other);
                 }
             }
-            Input::Requests { settings, requests } => {
-                let answer = schedule(&settings, &requests, &mut [0; 2_000]);
-                tally.count_schedule(&settings, answer);
+            Input::Requests {
+                settings,
+                requests,
+                policy,
+            } => {
+                let answer = schedule(&settings, &requests, policy, &mut [0; 2_000]);
+                tally.count_schedule(&settings, policy, answer);
             }
         }
     }
@@ -117,12 +122,16 @@ fn looking_at_running_bursts_only_changes_nothing() {
                 );
                 assert!(found == expected);
             }
-            Input::Requests { settings, requests } if requests.len() <= 50 => {
+            Input::Requests {
+                settings,
+                requests,
+                policy,
+            } if requests.len() <= 50 => {
                 let mut expected = vec![UNTOUCHED_BYTE; BYTE_ROOM];
                 let mut found = expected.clone();
                 assert_eq!(
-                    schedule(&settings, &requests, &mut found),
-                    schedule_literally(&settings, &requests, &mut expected)
+                    schedule(&settings, &requests, policy, &mut found),
+                    schedule_literally(&settings, &requests, policy, &mut expected)
                 );
                 assert!(found == expected);
             }
@@ -157,14 +166,20 @@ fn the_burst_list_in_c_agrees() {
 
 #[test]
 fn the_schedule_in_c_agrees() {
-    let rust: ScheduleOf = &|s, r, out| packed::of_count(schedule(s, r, out));
-    let c: ScheduleOf = &|s, r, out| c::schedule(s, r, out);
+    let rust: ScheduleOf = &|s, r, p, out| packed::of_count(schedule(s, r, p, out));
+    let c: ScheduleOf = &|s, r, p, out| c::schedule(s, r, p, out);
     for input in inputs(INPUTS) {
-        if let Input::Requests { settings, requests } = input {
-            let needed = needed(schedule(&settings, &requests, &mut vec![0; BYTE_ROOM]));
+        if let Input::Requests {
+            settings,
+            requests,
+            policy,
+        } = input
+        {
+            let mut room = vec![0; BYTE_ROOM];
+            let needed = needed(schedule(&settings, &requests, policy, &mut room));
             for length in lengths(needed, BYTE_ROOM) {
-                let expected = tried_schedule(rust, &settings, &requests, length);
-                assert!(tried_schedule(c, &settings, &requests, length) == expected);
+                let expected = tried_schedule(rust, &settings, &requests, policy, length);
+                assert!(tried_schedule(c, &settings, &requests, policy, length) == expected);
             }
         }
     }
@@ -181,11 +196,16 @@ fn schedules_are_clean_and_replay_as_plain_memory() {
     let contents = |cell: u32| cell.wrapping_mul(0x9e37_79b1);
     let mut tried = 0;
     for (seed, input) in (0..).zip(inputs(INPUTS)) {
-        let Input::Requests { settings, requests } = input else {
+        let Input::Requests {
+            settings,
+            requests,
+            policy,
+        } = input
+        else {
             continue;
         };
         let mut out = vec![0; BYTE_ROOM];
-        let Ok(total) = schedule(&settings, &requests, &mut out) else {
+        let Ok(total) = schedule(&settings, &requests, policy, &mut out) else {
             continue;
         };
         let capture = &out[..total as usize];

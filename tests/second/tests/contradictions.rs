@@ -5,6 +5,7 @@ mod common;
 use common::*;
 use second::capture::{bytes_of, bytes_of_edition, Event, SETTINGS};
 use second::command::Command::{self, Nop};
+use second::schedule::CLOSED_ROWS;
 use second::{cells, schedule, Refusal};
 
 const T_RC_11: [u32; SETTINGS] = [1, 13, 10, 0x32, 3, 3, 7, 11, 2, 3, 1, 12, 2, 1000];
@@ -100,10 +101,10 @@ fn burst_lists_and_schedules() {
     assert_eq!(out, [7; 8], "a refused call leaves the buffer");
 
     let mut out = [7; 96];
-    assert_eq!(schedule(&T_RC_11, &[0], &mut out), Err(OF_T_RC));
-    assert_eq!(schedule(&T_RC_11, &[NO_CELL], &mut out), Err(OF_T_RC));
+    assert_eq!(schedule(&T_RC_11, &[0], CLOSED_ROWS, &mut out), Err(OF_T_RC));
+    assert_eq!(schedule(&T_RC_11, &[NO_CELL], CLOSED_ROWS, &mut out), Err(OF_T_RC));
     assert_eq!(
-        schedule(&T_RC_11, &[NO_CELL; 2_001], &mut out),
+        schedule(&T_RC_11, &[NO_CELL; 2_001], CLOSED_ROWS, &mut out),
         Err(OF_T_RC)
     );
     let of_count = Err(Refusal {
@@ -111,13 +112,13 @@ fn burst_lists_and_schedules() {
         place: 0,
     });
     let fifteen = [&T_RC_11[..], &[2]].concat();
-    assert_eq!(schedule(&fifteen, &[0], &mut out), of_count);
+    assert_eq!(schedule(&fifteen, &[0], CLOSED_ROWS, &mut out), of_count);
     assert_eq!(
-        schedule(&with_wake(T_RC_11, [2, 20]), &[0], &mut out),
+        schedule(&with_wake(T_RC_11, [2, 20]), &[0], CLOSED_ROWS, &mut out),
         of_count
     );
     assert_eq!(out, [7; 96], "a refused call leaves the buffer");
-    assert_eq!(schedule(&CASE, &[0], &mut out), Ok(96));
+    assert_eq!(schedule(&CASE, &[0], CLOSED_ROWS, &mut out), Ok(96));
 }
 
 #[test]

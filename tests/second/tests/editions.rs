@@ -10,6 +10,7 @@ use second::command::Asked;
 use second::command::Command::{self, BurstTerminate, Nop};
 use second::generate::{input, Dice, Input};
 use second::part::{Burst, Direction, LookBack};
+use second::schedule::{CLOSED_ROWS, OPEN_ROWS};
 use second::verdict::{cells_literally, judge_literally, part_after};
 use second::{cells, judge, replay, schedule, Answer};
 
@@ -329,10 +330,13 @@ fn a_read_sees_what_the_write_keeps_in_the_end() {
 
 #[test]
 fn schedules_stay_in_edition_0() {
-    let mut out = vec![7; 200];
-    let written = schedule(&CASE, &[1 << 31, 0], &mut out).expect("a schedule") as usize;
-    assert_eq!(out[EDITION_AT..EDITION_AT + 4], [0; 4]);
-    assert_eq!(Capture::read(&out[..written]).map(|c| c.edition), Ok(Zero));
+    for policy in [OPEN_ROWS, CLOSED_ROWS] {
+        let mut out = vec![7; 200];
+        let answer = schedule(&CASE, &[1 << 31, 0], policy, &mut out);
+        let written = answer.expect("a schedule") as usize;
+        assert_eq!(out[EDITION_AT..EDITION_AT + 4], [0; 4]);
+        assert_eq!(Capture::read(&out[..written]).map(|c| c.edition), Ok(Zero));
+    }
 }
 
 // Generated captures.

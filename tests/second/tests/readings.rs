@@ -6,6 +6,7 @@ mod common;
 use common::*;
 use second::capture::{bytes_of, Event, SETTINGS};
 use second::command::Command::{self, AutoRefresh, BurstTerminate, Deselect, Nop};
+use second::schedule::CLOSED_ROWS;
 use second::{cells, replay, schedule, Answer, Refusal};
 
 /// All times 1, so that only the rule in question waits.
@@ -393,7 +394,8 @@ fn burst_cells_are_refused_by_8_before_7() {
 fn schedule_refusals_in_their_order() {
     let refusal = |settings: &[u32], requests: &[u32], room: usize| {
         let mut out = vec![7; room];
-        let refusal = schedule(settings, requests, &mut out).expect_err("a refusal");
+        let refusal =
+            schedule(settings, requests, CLOSED_ROWS, &mut out).expect_err("a refusal");
         assert!(
             out.iter().all(|&byte| byte == 7),
             "a refused call leaves the buffer"
@@ -420,7 +422,7 @@ fn schedule_refusals_in_their_order() {
 #[test]
 fn schedules_leave_the_bytes_behind_them() {
     let mut out = [7; 90];
-    assert_eq!(schedule(&CASE, &[], &mut out), Ok(80));
+    assert_eq!(schedule(&CASE, &[], CLOSED_ROWS, &mut out), Ok(80));
     assert_eq!(out[..80], bytes_of(&CASE, &[]));
     assert_eq!(out[80..], [7; 10]);
 }

@@ -19,7 +19,7 @@ pack-requires c κs =
     let start = at-schedule .before .before .before .before .before in
     let a = start .args in (
       count-fits means (at-schedule .schedule .ensures .0) (c .before .scheduled .given .1)
-          (schedule-fits (a .settings .now) (a .requests .now) (a .out .now)) .0 .1,
+          (schedule-fits (a .settings .now) (a .requests .now) (a .policy) (a .out .now)) .0 .1,
       omega arith,
     )
 

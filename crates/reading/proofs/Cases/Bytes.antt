@@ -6,7 +6,7 @@ use mathlib.Core.Path.{_≡_, refl}
 use lib.ListN.{set, replicate}
 use Rattle.reading.specs.Words.{wordAt, wordBytes, bytesOf}
 use Rattle.reading.specs.Verdict.{clean, broken}
-use Rattle.reading.specs.Schedule.{captureOf, requestFits, badRequest, passes, earliest, freeFrom, lastFrom, placed, send, sendAll, sendRequest, sendRefresh, refreshInTime, served, scheduleFrom, scheduleBy}
+use Rattle.reading.specs.Schedule.{captureOf, requestFits, badRequest, cutsNothing, passes, goes, earliest, freeFrom, lastFrom, placed, send, sendAll, sendRequest, sendRefresh, refreshInTime, served, scheduleFrom, scheduleBy}
 use Rattle.reading.specs.Answers.{answered, judgeAnswer, scheduleOutcome}
 use Rattle.reading.proofs.Cases.{ACTIVE, READ, NOP, at, usual, touches, breaks, said, Case, bytes, Hold}
 
@@ -61,7 +61,7 @@ capture-bytes = refl
 
 -- a write to the cell that was read above: ACTIVE 0, WRITE with auto precharge 3, and two bytes behind them
 schedule-bytes :
-    scheduleOutcome (set usual 13 1000000) ((0x80000000 + 8686629) ∷ []) (replicate 98 9) ≡
+    scheduleOutcome (set usual 13 1000000) ((0x80000000 + 8686629) ∷ []) 1 (replicate 98 9) ≡
     record {
       answer = answered 96;
       buffer =
@@ -70,7 +70,7 @@ schedule-bytes :
           ∷ 0x03 ∷ 0 ∷ 0 ∷ 0 ∷ 0x25 ∷ 0x44 ∷ 0x02 ∷ 0
           ∷ 9 ∷ 9 ∷ []);
     }
-unfolding said scheduleOutcome scheduleBy scheduleFrom served refreshInTime lastFrom sendRefresh sendRequest sendAll send placed freeFrom earliest passes badRequest requestFits
+unfolding said scheduleOutcome scheduleBy scheduleFrom served refreshInTime lastFrom sendRefresh sendRequest sendAll send placed freeFrom earliest goes passes cutsNothing badRequest requestFits
 schedule-bytes = refl
 
 -- ---- the numbers that the report program prints, as document 01 has them for case b

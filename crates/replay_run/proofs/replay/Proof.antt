@@ -6,13 +6,16 @@ use Rattle.replay_run.proofs.replay.Statement.{statement}
 use Rattle.replay_run.proofs.replay.Tie as tie
 
 abbrev Inv-loop : tie.InvT-loop
-Inv-loop lane-code capture cells window₀ j₀ t8 window j = (j ≤ 16) × (length window ≡ length window₀)
+Inv-loop lane-code policy capture cells window₀ j₀ t9 window j = (j ≤ 16) × (length window ≡ length window₀)
 
 abbrev μ-loop : tie.MeasureT-loop
-μ-loop lane-code capture cells window₀ j₀ t8 window j = 16 - j
+μ-loop lane-code policy capture cells window₀ j₀ t9 window j = 16 - j
 
 loop-holds : tie.Need-loop-holds Inv-loop μ-loop
 loop-holds c = search needs
+
+burst-event-requires : tie.Need-burst-event-requires Inv-loop μ-loop
+burst-event-requires c κs = search needs
 
 is-write-requires : tie.Need-is-write-requires Inv-loop μ-loop
 is-write-requires c κs = search needs
@@ -45,7 +48,7 @@ say-requires : tie.Need-say-requires Inv-loop μ-loop
 say-requires c κs = search needs
 
 same-length : tie.Need-same-length Inv-loop μ-loop
-same-length c = c .before .before .before .loop .inv .1
+same-length c = search needs
 
 returns : tie.Need-returns Inv-loop μ-loop
 returns c = search needs
@@ -57,6 +60,7 @@ replay-spec =
     Inv-loop
     μ-loop
     loop-holds
+    burst-event-requires
     is-write-requires
     mul-given
     add-given

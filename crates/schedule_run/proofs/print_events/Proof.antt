@@ -2,7 +2,6 @@ use Prim.Native.Nat.{_≤_, _-_}
 use borrow.Author.Needs.{needs}
 use Rattle.schedule_run.proofs.print_events.Statement.{statement}
 use Rattle.schedule_run.proofs.print_events.Tie as tie
-use Rattle.schedule_run.proofs.print_command.Reads as print-command-reads
 
 abbrev Inv-loop : tie.InvT-loop
 Inv-loop capture n i₀ t4 i = i ≤ 9
@@ -25,29 +24,8 @@ slice-aggregate-say c = search needs
 say-requires : tie.Need-say-requires Inv-loop μ-loop
 say-requires c κs = search needs
 
-mul-load : tie.Need-mul-load Inv-loop μ-loop
-mul-load c = search needs
-
-add-load : tie.Need-add-load Inv-loop μ-loop
-add-load c = search needs
-
-load-requires-2 : tie.Need-load-requires-2 Inv-loop μ-loop
-load-requires-2 c κs = search needs
-
-print-command-requires : tie.Need-print-command-requires Inv-loop μ-loop
-print-command-requires c κs = search needs
-
-mul-load-2 : tie.Need-mul-load-2 Inv-loop μ-loop
-mul-load-2 c = search needs
-
-add-load-2 : tie.Need-add-load-2 Inv-loop μ-loop
-add-load-2 c = search needs
-
-load-requires-3 : tie.Need-load-requires-3 Inv-loop μ-loop
-load-requires-3 c κs = search needs
-
-print-requires : tie.Need-print-requires Inv-loop μ-loop
-print-requires c κs = search needs
+print-event-requires : tie.Need-print-event-requires Inv-loop μ-loop
+print-event-requires c κs = search needs
 
 add-i : tie.Need-add-i Inv-loop μ-loop
 add-i c = search needs
@@ -72,14 +50,7 @@ print-events-spec =
     returns
     slice-aggregate-say
     say-requires
-    mul-load
-    add-load
-    load-requires-2
-    print-command-requires
-    mul-load-2
-    add-load-2
-    load-requires-3
-    print-requires
+    print-event-requires
     add-i
     loop-less
     loop-again

@@ -13,7 +13,7 @@ use second::command::Named::All;
 use second::command::{Asked, Command};
 use second::generate::{busy_capture, Dice};
 use second::part::{LookBack, Part};
-use second::schedule::earliest;
+use second::schedule::{earliest, CLOSED_ROWS};
 use second::{judge, schedule, Answer};
 
 /// A real part: 64M x 16 at 6 ns.
@@ -209,7 +209,7 @@ fn requests() -> Vec<u32> {
 
 fn schedule_capture() -> Vec<u8> {
     let mut out = vec![0; 64_080];
-    let total = schedule(&PART, &requests(), &mut out).expect("a schedule");
+    let total = schedule(&PART, &requests(), CLOSED_ROWS, &mut out).expect("a schedule");
     out.truncate(total as usize);
     out
 }

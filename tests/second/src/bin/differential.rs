@@ -97,7 +97,11 @@ impl Comparison {
                 self.compare_blanks(&capture)?;
                 self.compare_addresses(&capture)
             }
-            Input::Requests { settings, requests } => self.compare_schedules(&settings, &requests),
+            Input::Requests {
+                settings,
+                requests,
+                policy,
+            } => self.compare_schedules(&settings, &requests, policy),
         }
     }
 
@@ -196,17 +200,23 @@ impl Comparison {
         Ok(())
     }
 
-    fn compare_schedules(&mut self, settings: &[u32], requests: &[u32]) -> Result<(), Difference> {
+    fn compare_schedules(
+        &mut self,
+        settings: &[u32],
+        requests: &[u32],
+        policy: u32,
+    ) -> Result<(), Difference> {
         let untouched = UNTOUCHED as u8;
         let needed = needed(schedule(
             settings,
             requests,
+            policy,
             &mut vec![untouched; MOST_BYTES],
         ));
         for length in self.lengths(needed, MOST_BYTES) {
             let mut buffer = vec![untouched; length + FENCE];
-            let answer = schedule(settings, requests, &mut buffer[..length]);
-            self.tally.count_schedule(settings, answer);
+            let answer = schedule(settings, requests, policy, &mut buffer[..length]);
+            self.tally.count_schedule(settings, policy, answer);
             let expected = Left {
                 answer: packed::of_count(answer),
                 buffer,
@@ -214,9 +224,9 @@ impl Comparison {
             let mut buffer = vec![untouched; length + FENCE];
             let answer = self
                 .archive
-                .schedule(settings, requests, &mut buffer, length);
+                .schedule(settings, requests, policy, &mut buffer, length);
             let found = answer.map(|answer| Left { answer, buffer });
-            let shown = || format!("settings {settings:?} requests {requests:?}");
+            let shown = || format!("settings {settings:?} requests {requests:?} policy {policy}");
             same("schedule", &expected, found, shown)?;
         }
         Ok(())

@@ -1,9 +1,9 @@
-//! Settings and request lists, good ones and ones for refusals 2, 3, 5 and 6.
+//! Settings, request lists and row policies, good ones and ones for refusals 2, 3, 10, 5 and 6.
 
 use super::settings::{self, Kind};
 use super::Dice;
 use crate::capture::{LIMITS, MODE_SETTING, SETTINGS, T_RC_SETTING, T_REFI_SETTING};
-use crate::schedule::MOST_REQUESTS;
+use crate::schedule::{CLOSED_ROWS, MOST_REQUESTS, OPEN_ROWS};
 
 const WRITE: u32 = 1 << 31;
 
@@ -20,6 +20,15 @@ pub fn request_list(dice: &mut Dice) -> (Vec<u32>, Vec<u32>) {
         spoil_settings(dice, &mut list);
     }
     (list, requests)
+}
+
+pub fn row_policy(dice: &mut Dice) -> u32 {
+    let any = dice.between(2, u32::MAX - 1);
+    match dice.below(20) {
+        0..=10 => OPEN_ROWS,
+        11..=18 => CLOSED_ROWS,
+        _ => dice.pick(&[2, 3, 257, u32::MAX, any]),
+    }
 }
 
 /// Valid settings whose tREFI often lets only a request or two pass between refreshes.
@@ -48,11 +57,13 @@ fn request_count(dice: &mut Dice, kind: Kind) -> u32 {
 fn good_requests(dice: &mut Dice, list: &[u32; SETTINGS], count: u32) -> Vec<u32> {
     let (row_bits, column_bits) = (list[1], list[2]);
     let banks = dice.between(1, 4);
+    // Few rows, so that one is often found open, or many.
+    let rows = dice.pick(&[1, 2, 3, 1 << row_bits]);
     let writes = dice.pick(&[0, 20, 50, 80, 100]);
     (0..count)
         .map(|_| {
             let bank = dice.below(banks);
-            let row = dice.below(1 << row_bits);
+            let row = dice.below(rows);
             let column = dice.below(1 << column_bits);
             let cell = (((bank << row_bits) + row) << column_bits) + column;
             if dice.percent(writes) {

@@ -11,6 +11,7 @@ use crate::capture::{
 };
 use crate::command::{Asked, Command, A10, ADDRESS_PINS};
 use crate::part::LookBack;
+use crate::schedule::{CLOSED_ROWS, OPEN_ROWS};
 use crate::verdict::{cells, part_after, Answer};
 
 pub const RULES: usize = 15;
@@ -23,6 +24,7 @@ pub const NO_RULE: u32 = 6;
 const OF_JUDGE: [u32; 4] = [1, 2, 3, 4];
 const OF_CELLS: [u32; 6] = [1, 2, 3, 4, 8, 7];
 const OF_SCHEDULE: [u32; 5] = [2, 3, 5, 6, 7];
+const OF_NO_POLICY: [u32; 3] = [2, 3, 10];
 /// Those of a capture whose sixth word is no edition.
 const OF_NO_EDITION: [u32; 1] = [2];
 const OF_BLANK: [u32; 5] = [1, 2, 3, 4, 7];
@@ -68,7 +70,9 @@ type Layout = (usize, Option<Edition>);
 #[derive(Clone, Debug, Default)]
 pub struct Tally {
     captures: BTreeMap<Layout, OfCaptures>,
-    pub schedules: Answers,
+    pub open: Answers,
+    pub closed: Answers,
+    pub no_policy: Answers,
 }
 
 /// Of captures of one layout.
@@ -188,8 +192,18 @@ impl Tally {
         counts.other_cells += u64::from(burst_list(bytes) != burst_list(other));
     }
 
-    pub fn count_schedule(&mut self, settings: &[u32], answer: Result<u32, Refusal>) {
-        self.schedules.count(answer.err(), settings);
+    pub fn count_schedule(
+        &mut self,
+        settings: &[u32],
+        policy: u32,
+        answer: Result<u32, Refusal>,
+    ) {
+        let counts = match policy {
+            OPEN_ROWS => &mut self.open,
+            CLOSED_ROWS => &mut self.closed,
+            _ => &mut self.no_policy,
+        };
+        counts.count(answer.err(), settings);
     }
 
     /// What was counted, by name.
@@ -201,9 +215,13 @@ impl Tally {
                 counts.extend(self.of(layout).counts(layout));
             }
         }
-        counts.push(("schedule: written".to_string(), self.schedules.given));
-        counts.extend(refusals("schedule", &self.schedules, &OF_SCHEDULE));
-        counts.push(contradictions("schedule", &self.schedules));
+        for (rows, answers) in [("open rows", &self.open), ("closed rows", &self.closed)] {
+            counts.push((format!("{rows}: written"), answers.given));
+            counts.extend(refusals(rows, answers, &OF_SCHEDULE));
+            counts.push(contradictions(rows, answers));
+        }
+        counts.extend(refusals("no policy", &self.no_policy, &OF_NO_POLICY));
+        counts.push(contradictions("no policy", &self.no_policy));
         counts
     }
 

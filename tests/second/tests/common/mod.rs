@@ -3,6 +3,7 @@
 
 use second::capture::{bytes_of, Event, SETTINGS};
 use second::command::{Asked, Command, Named};
+use second::schedule::{CLOSED_ROWS, OPEN_ROWS};
 use second::{cells, judge, schedule, Answer, Refusal};
 
 /// The settings of document 01's cases: CL 3, BL 4, sequential.
@@ -115,9 +116,18 @@ pub fn cells_of<A: Into<Asked> + Copy>(settings: &[u32], events: &[(u32, A)]) ->
     out
 }
 
+/// With closed rows, and with open ones.
 pub fn schedule_of(settings: &[u32], requests: &[u32]) -> Result<Vec<u8>, Refusal> {
-    let mut out = vec![0; 80 + 24 * requests.len()];
-    let written = schedule(settings, requests, &mut out)?;
+    schedule_by(CLOSED_ROWS, settings, requests)
+}
+
+pub fn open_schedule_of(settings: &[u32], requests: &[u32]) -> Result<Vec<u8>, Refusal> {
+    schedule_by(OPEN_ROWS, settings, requests)
+}
+
+fn schedule_by(policy: u32, settings: &[u32], requests: &[u32]) -> Result<Vec<u8>, Refusal> {
+    let mut out = vec![0; 80 + 32 * requests.len()];
+    let written = schedule(settings, requests, policy, &mut out)?;
     out.truncate(written as usize);
     Ok(out)
 }

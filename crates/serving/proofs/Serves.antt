@@ -1,0 +1,110 @@
+-- What each part of a turn leaves is what that part makes of a draft.
+use Prim.Native.Nat.{ℕ, _+_}
+use mathlib.Core.Bool.{Bool, true, false, cond}
+use mathlib.Core.List.{List, []}
+use mathlib.Core.Path.{_≡_, refl, sym, ap, _∙_}
+use lib.Dec.{ltb, eqb}
+use borrow.Author.Tests.{eq-eqb, ne-eqb}
+use Rattle.reading.specs.Settings.{Settings}
+use Rattle.reading.specs.Schedule.{firstCell, cellBank, cellRow}
+use Rattle.deadlines.specs.Deadlines.{OPENED, OVERDUE, at, paceOf, allIdle, closeAllAfter}
+use Rattle.plan.specs.Behind.{ROW, FREE}
+use Rattle.plan.specs.Soonest.{closeAllSoonest, refreshSoonest}
+use Rattle.plan.specs.Draft.{Draft, cycleFor, activating, closing, bursting, opening, requesting, closingAll, idling, refreshAt, refreshingIdle, refreshing, closedRefreshAt, timely, alone, behind, turned, kept}
+use Rattle.plan.proofs.Drafted.{wordless}
+use Rattle.drafts.specs.Room.{draft}
+use Rattle.serving.specs.declared.Turn.the-variants.{Kept, Late}
+use Rattle.serving.specs.Told.{told}
+
+-- ---- the row
+
+module _ (s : Settings) (q : ℕ) (x : Draft) {b : ℕ} (bb : b ≡ cellBank s (firstCell q)) where
+  told-by : {v : Bool} → eqb (at (x .deadlines) (OPENED + b)) 0 ≡ v → eqb (at (x .deadlines) (OPENED + cellBank s (firstCell q))) 0 ≡ v
+  told-by e = ap (λ (i : ℕ). eqb (at (x .deadlines) (OPENED + i)) 0) (sym bb) ∙ e
+
+  pub opened-idle : at (x .deadlines) (OPENED + b) ≡ 0 → {y : Draft} → y ≡ activating s q x → y ≡ opening s q x
+  unfolding opening
+  opened-idle e f = rw (told-by (eq-eqb (at (x .deadlines) (OPENED + b)) 0 e)) f
+
+  module _ (busy : at (x .deadlines) (OPENED + b) ≡ 0 → ⊥) {row : ℕ} (rr : row ≡ cellRow s (firstCell q)) where
+    row-by : {v : Bool} → eqb (at (x .standing) (ROW + b)) row ≡ v → eqb (at (x .standing) (ROW + cellBank s (firstCell q))) (cellRow s (firstCell q)) ≡ v
+    row-by e = (λ i. eqb (at (x .standing) (ROW + sym bb i)) (sym rr i)) ∙ e
+
+    pub opened-there : at (x .standing) (ROW + b) ≡ row → x ≡ opening s q x
+    unfolding opening
+    opened-there e = rw (told-by (ne-eqb (at (x .deadlines) (OPENED + b)) 0 busy), row-by (eq-eqb (at (x .standing) (ROW + b)) row e))
+
+    pub opened-other : (at (x .standing) (ROW + b) ≡ row → ⊥) → {y z : Draft} → y ≡ closing s q x → z ≡ activating s q y → z ≡ opening s q x
+    unfolding opening
+    opened-other e f g =
+        rw (told-by (ne-eqb (at (x .deadlines) (OPENED + b)) 0 busy), row-by (ne-eqb (at (x .standing) (ROW + b)) row e)) (g ∙ ap (activating s q) f)
+
+-- ---- a request, a refresh
+
+module _ (s : Settings) (x : Draft) {y z : Draft} where
+  pub requested : (q : ℕ) (closed : Bool) → y ≡ opening s q x → z ≡ bursting s q closed y → z ≡ requesting s q closed x
+  unfolding requesting
+  requested q closed e f = f ∙ ap (bursting s q closed) e
+
+  pub refreshed : y ≡ idling s x → z ≡ refreshingIdle s y → z ≡ refreshing s x
+  unfolding refreshing
+  refreshed e f = f ∙ ap (refreshingIdle s) e
+
+module _ (s : Settings) (x : Draft) {v : Bool} (told : v ≡ allIdle (x .deadlines)) where
+  pub idle-already : v ≡ true → x ≡ idling s x
+  unfolding idling
+  idle-already e = rw (sym told ∙ e)
+
+  pub idle-closed : v ≡ false → {y : Draft} → y ≡ closingAll s x → y ≡ idling s x
+  unfolding idling
+  idle-closed e f = rw (sym told ∙ e) f
+
+-- ---- the test
+
+module _ (s : Settings) (d k : List ℕ) where
+  pub closed-at : {m : List ℕ} → m ≡ paceOf (s .mode) → {first t after soonest r : ℕ} → first ≡ closeAllSoonest d k → t ≡ cycleFor (at k FREE) first →
+      {e : List ℕ} → e ≡ closeAllAfter s d m t → after ≡ t + 1 → soonest ≡ refreshSoonest e → r ≡ cycleFor after soonest → r ≡ closedRefreshAt s (draft d k [])
+  unfolding closedRefreshAt
+  closed-at mm ff tt ee aa ss rr =
+      let at-once = tt ∙ ap (cycleFor (at k FREE)) ff in
+      let left = ee ∙ (λ i. closeAllAfter s d (mm i) (at-once i)) in
+      rr ∙ (λ i. cycleFor ((aa ∙ ap (λ (u : ℕ). u + 1) at-once) i) ((ss ∙ ap refreshSoonest left) i))
+
+  module _ {v : Bool} (told : v ≡ allIdle d) where
+    pub timely-idle : v ≡ true → {soonest t : ℕ} → soonest ≡ refreshSoonest d → t ≡ cycleFor (at k FREE) soonest →
+        ltb t (at d OVERDUE) ≡ timely s (draft d k [])
+    unfolding timely refreshAt
+    timely-idle e ss tt = rw (sym told ∙ e) (ap (λ (t : ℕ). ltb t (at d OVERDUE)) (tt ∙ ap (cycleFor (at k FREE)) ss))
+
+    pub timely-open : v ≡ false → {t : ℕ} → t ≡ closedRefreshAt s (draft d k []) → ltb t (at d OVERDUE) ≡ timely s (draft d k [])
+    unfolding timely
+    timely-open e tt = rw (sym told ∙ e) (ap (λ (t : ℕ). ltb t (at d OVERDUE)) tt)
+
+-- ---- the turn
+
+module _ (s : Settings) (closed : Bool) (q : ℕ) (x : Draft) {d₁ k₁ w₁ : List ℕ} (first : draft d₁ k₁ w₁ ≡ alone s closed q x)
+    {in-time : Bool} (tested : in-time ≡ timely s (draft d₁ k₁ [])) where
+  by-first : in-time ≡ timely s (alone s closed q x)
+  by-first = tested ∙ sym (wordless s (draft d₁ k₁ w₁) []) ∙ ap (timely s) first
+
+  pub turn-alone : in-time ≡ true → (Kept ≡ told (kept s closed q x)) × (draft d₁ k₁ w₁ ≡ turned s closed q x)
+  unfolding kept turned
+  turn-alone e = rw (sym by-first ∙ e) (refl, first)
+
+  module _ (e : in-time ≡ false) {d₂ k₂ w₂ : List ℕ} (ahead : draft d₂ k₂ w₂ ≡ refreshing s (draft (x .deadlines) (x .standing) w₁))
+      {d₃ k₃ w₃ : List ℕ} (second : draft d₃ k₃ w₃ ≡ requesting s q closed (draft d₂ k₂ w₂)) {in-time₂ : Bool} (tested₂ : in-time₂ ≡ timely s (draft d₃ k₃ [])) where
+    behind-is : draft d₃ k₃ w₃ ≡ behind s closed q x
+    behind-is =
+        second
+        ∙ ap (requesting s q closed) (ahead ∙ ap (λ (w : List ℕ). refreshing s (draft (x .deadlines) (x .standing) w)) (ap (λ (y : Draft). y .words) first))
+
+    by-second : in-time₂ ≡ timely s (behind s closed q x)
+    by-second = tested₂ ∙ sym (wordless s (draft d₃ k₃ w₃) []) ∙ ap (timely s) behind-is
+
+    pub turn-behind : in-time₂ ≡ true → (Kept ≡ told (kept s closed q x)) × (draft d₃ k₃ w₃ ≡ turned s closed q x)
+    unfolding kept turned
+    turn-behind f = rw (sym by-first ∙ e, sym by-second ∙ f) (refl, behind-is)
+
+    pub turn-late : in-time₂ ≡ false → (Late ≡ told (kept s closed q x)) × (draft d₃ k₃ w₃ ≡ turned s closed q x)
+    unfolding kept turned
+    turn-late f = rw (sym by-first ∙ e, sym by-second ∙ f) (refl, behind-is)

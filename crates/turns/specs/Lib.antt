@@ -1,4 +1,0 @@
-pub mod Turning
-pub mod Between
-pub mod Events
-pub mod Turns
