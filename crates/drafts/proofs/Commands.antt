@@ -1,22 +1,18 @@
 -- What a command's function leaves is what the command makes of a draft.
-use Prim.Native.Nat.{ℕ, _+_, _*_, _<_}
+use Prim.Native.Nat.{ℕ, _+_, _*_}
 use mathlib.Core.Bool.{Bool, true, false, cond}
 use mathlib.Core.List.{List, [], _∷_}
 use mathlib.Core.Path.{_≡_, ap, _∙_}
-use native.Mathlib.Omega.{arith}
 use lib.ListN.{set}
 use lib.Seq.{sets}
 use Rattle.reading.specs.Settings.{Settings}
-use Rattle.reading.specs.Schedule.{asksWrite, firstCell, cellBank, cellRow, activePins, burstPins, closePins, closeAllPins, refreshPins}
+use Rattle.reading.specs.Commands.{ACTIVE, PRECHARGE, pinsOf}
+use Rattle.reading.specs.Schedule.{closeAllPins, refreshPins}
 use Rattle.deadlines.specs.Deadlines.{PAIRS, at, paceOf, activeAfter, readAfter, writeAfter, closeAfter, closeAllAfter, refreshAfter}
-use Rattle.requests.proofs.Asking.{bank-low}
 use Rattle.plan.specs.Behind.{ROW, READ-END, WRITE-END, FREE, EVENTS}
 use Rattle.plan.specs.Soonest.{activeSoonest, burstSoonest, closeSoonest, closeAllSoonest, refreshSoonest}
 use Rattle.plan.specs.Draft.{Draft, cycleFor, noted, placedAt, endOf, burstAfter, burstEnds, activating, closing, bursting, closingAll, refreshAt, refreshingIdle}
-use Rattle.drafts.specs.Room.{Asks, draft}
-
-pub low : {s : Settings} {q b : ℕ} → Asks s q b → b < 4
-low {s} {q} a = omega (arith, a .bank, bank-low s q (a .asked))
+use Rattle.drafts.specs.Room.{draft}
 
 module _ (x : Draft) {t soonest : ℕ} (at-cycle : t ≡ cycleFor (at (x .standing) FREE) soonest) {pins : ℕ} {k₁ k w : List ℕ}
     (k-is : k ≡ set (set k₁ FREE (t + 1)) EVENTS (at (x .standing) EVENTS + 1)) (w-is : w ≡ sets (x .words) (2 * at (x .standing) EVENTS) (t ∷ pins ∷ [])) where
@@ -33,33 +29,28 @@ module _ (x : Draft) {t soonest : ℕ} (at-cycle : t ≡ cycleFor (at (x .standi
       }
 
   module _ (s : Settings) where
-    module _ (q : ℕ) {b : ℕ} (bb : b ≡ cellBank s (firstCell q)) where
-      pub activated : soonest ≡ activeSoonest (x .deadlines) b → pins ≡ activePins s q → {d : List ℕ} → d ≡ activeAfter s (x .deadlines) t b →
-          {row : ℕ} → row ≡ cellRow s (firstCell q) → k₁ ≡ set (x .standing) (ROW + b) row → draft d k w ≡ activating s q x
+    module _ (b : ℕ) where
+      pub activated : (row : ℕ) → soonest ≡ activeSoonest (x .deadlines) b → pins ≡ pinsOf ACTIVE b row → {d : List ℕ} → d ≡ activeAfter s (x .deadlines) t b →
+          k₁ ≡ set (x .standing) (ROW + b) row → draft d k w ≡ activating s b row x
       unfolding activating
-      activated ss pp dd rr kk =
-          noted-as (activeSoonest (x .deadlines) (cellBank s (firstCell q))) (activePins s q) (ss ∙ ap (activeSoonest (x .deadlines)) bb) pp
-          (λ u. activeAfter s (x .deadlines) u (cellBank s (firstCell q))) (λ u. set (x .standing) (ROW + cellBank s (firstCell q)) (cellRow s (firstCell q)))
-          (dd ∙ ap (activeAfter s (x .deadlines) t) bb) (kk ∙ (λ i. set (x .standing) (ROW + bb i) (rr i)))
+      activated row ss pp dd kk =
+          noted-as (activeSoonest (x .deadlines) b) (pinsOf ACTIVE b row) ss pp
+          (λ u. activeAfter s (x .deadlines) u b) (λ u. set (x .standing) (ROW + b) row) dd kk
 
-      module _ {m : List ℕ} (mm : m ≡ paceOf (s .mode)) where
-        pub closed : soonest ≡ closeSoonest (x .deadlines) (x .standing) b → pins ≡ closePins s q → {d : List ℕ} → d ≡ closeAfter s (x .deadlines) m t b →
-            k₁ ≡ x .standing → draft d k w ≡ closing s q x
-        unfolding closing
-        closed ss pp dd kk =
-            noted-as (closeSoonest (x .deadlines) (x .standing) (cellBank s (firstCell q))) (closePins s q)
-            (ss ∙ ap (closeSoonest (x .deadlines) (x .standing)) bb) pp
-            (λ u. closeAfter s (x .deadlines) (paceOf (s .mode)) u (cellBank s (firstCell q))) (λ u. x .standing)
-            (dd ∙ (λ i. closeAfter s (x .deadlines) (mm i) t (bb i))) kk
+      pub closed : {m : List ℕ} → m ≡ paceOf (s .mode) → soonest ≡ closeSoonest (x .deadlines) (x .standing) b → pins ≡ pinsOf PRECHARGE b 0 →
+          {d : List ℕ} → d ≡ closeAfter s (x .deadlines) m t b → k₁ ≡ x .standing → draft d k w ≡ closing s b x
+      unfolding closing
+      closed mm ss pp dd kk =
+          noted-as (closeSoonest (x .deadlines) (x .standing) b) (pinsOf PRECHARGE b 0) ss pp
+          (λ u. closeAfter s (x .deadlines) (paceOf (s .mode)) u b) (λ u. x .standing) (dd ∙ (λ i. closeAfter s (x .deadlines) (mm i) t b)) kk
 
-      pub burst : (closed : Bool) {write : Bool} → write ≡ asksWrite q → soonest ≡ burstSoonest write (x .deadlines) (x .standing) b → pins ≡ burstPins closed s q →
-          {d : List ℕ} → d ≡ burstAfter closed write s (x .deadlines) t b → k₁ ≡ burstEnds closed write s (x .standing) t → draft d k w ≡ bursting s q closed x
+      pub burst : (closed write : Bool) (told : ℕ) → soonest ≡ burstSoonest write (x .deadlines) (x .standing) b → pins ≡ told →
+          {d : List ℕ} → d ≡ burstAfter closed write s (x .deadlines) t b → k₁ ≡ burstEnds closed write s (x .standing) t →
+          draft d k w ≡ bursting s closed write b told x
       unfolding bursting
-      burst closed vv ss pp dd kk =
-          noted-as (burstSoonest (asksWrite q) (x .deadlines) (x .standing) (cellBank s (firstCell q))) (burstPins closed s q)
-          (ss ∙ (λ i. burstSoonest (vv i) (x .deadlines) (x .standing) (bb i))) pp
-          (λ u. burstAfter closed (asksWrite q) s (x .deadlines) u (cellBank s (firstCell q))) (λ u. burstEnds closed (asksWrite q) s (x .standing) u)
-          (dd ∙ (λ i. burstAfter closed (vv i) s (x .deadlines) t (bb i))) (kk ∙ (λ i. burstEnds closed (vv i) s (x .standing) t))
+      burst closed write told ss pp dd kk =
+          noted-as (burstSoonest write (x .deadlines) (x .standing) b) told ss pp
+          (λ u. burstAfter closed write s (x .deadlines) u b) (λ u. burstEnds closed write s (x .standing) u) dd kk
 
     pub all-closed : {m : List ℕ} → m ≡ paceOf (s .mode) → soonest ≡ closeAllSoonest (x .deadlines) (x .standing) → pins ≡ closeAllPins →
         {d : List ℕ} → d ≡ closeAllAfter s (x .deadlines) m t → k₁ ≡ x .standing → draft d k w ≡ closingAll s x

@@ -1,12 +1,8 @@
 -- What the commands ask of what they are lent.
 use Prim.Native.Nat.{ℕ, _+_, _*_, _≤_}
 use mathlib.Core.List.{List}
-use mathlib.Core.Path.{_≡_}
 use lib.ListN.{length}
-use Rattle.reading.specs.Settings.{Settings}
-use Rattle.reading.specs.Schedule.{firstCell, cellBank}
 use Rattle.deadlines.specs.Deadlines.{at}
-use Rattle.requests.specs.Asked.{Asked}
 use Rattle.plan.specs.Behind.{EVENTS}
 use Rattle.plan.specs.Draft.{Draft}
 
@@ -16,8 +12,3 @@ draft d k w = record { deadlines = d; standing = k; words = w }
 -- so many events more have their words
 pub record Room (k words : List ℕ) (n : ℕ) : Type 0 where
   pub more : 2 * at k EVENTS + 2 * n ≤ length words
-
--- a request that fits, and its bank
-pub record Asks (s : Settings) (q b : ℕ) : Type 0 where
-  pub asked : Asked s q
-  pub bank : b ≡ cellBank s (firstCell q)

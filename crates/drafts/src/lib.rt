@@ -24,7 +24,7 @@ ghost use Rattle.reading.specs.Settings.{settingsOf};
 ghost use Rattle.deadlines.specs.Deadlines.{paceOf};
 ghost use Rattle.plan.specs.Behind as is;
 ghost use Rattle.plan.specs.Draft.{cycleFor, endOf, burstAfter, burstEnds, activating, closing, bursting, closingAll, refreshingIdle};
-ghost use Rattle.drafts.specs.Room.{Room, Asks, draft};
+ghost use Rattle.drafts.specs.Room.{Room, draft};
 
 // The cycle of a command: the first that is free and not before its deadlines.
 pub fn cycle_for(free: u64, soonest: u64) -> u32
@@ -46,45 +46,44 @@ fn note(k: &mut Standing, words: &mut [u32], n: u64, t: u32, pins: u32)
     k[EVENTS] = n + 1;
 }
 
-// ACTIVE, with the request's bank b idle.
+// ACTIVE of bank b, which is idle.
 pub fn activate(
     s: &Settings,
     d: &mut Deadlines,
     k: &mut Standing,
     words: &mut [u32],
-    q: u32,
     b: usize,
+    row: u32,
 )
-    requires { ⌜ Asks (settingsOf (now s)) q b ⌝ }
+    requires { ⌜ (b < 4) × (row < 16384) ⌝ }
     requires { ⌜ Room (now k) (now words) 1 ⌝ }
-    ensures { λ r. ⌜ draft (now (d .exit)) (now (k .exit)) (now (words .exit)) ≡ activating (settingsOf (now (s .entry))) q (draft (now (d .entry)) (now (k .entry)) (now (words .entry))) ⌝ }
+    ensures { λ r. ⌜ draft (now (d .exit)) (now (k .exit)) (now (words .exit)) ≡ activating (settingsOf (now (s .entry))) b row (draft (now (d .entry)) (now (k .entry)) (now (words .entry))) ⌝ }
 {
     let t = cycle_for(k[FREE], soonest::active(&*d, b));
     effects::active_after(s, d, t, b);
     let n = k[EVENTS];
-    k[ROW + b] = requests::row(s, q) as u64;
-    note(k, words, n, t, requests::active_pins(s, q));
+    k[ROW + b] = row as u64;
+    note(k, words, n, t, requests::active_pins(b as u32, row));
 }
 
-// PRECHARGE, with the request's bank b open.
+// PRECHARGE of bank b, which is open.
 pub fn close(
     s: &Settings,
     d: &mut Deadlines,
     k: &mut Standing,
     words: &mut [u32],
     pace: &Pace,
-    q: u32,
     b: usize,
 )
-    requires { ⌜ Asks (settingsOf (now s)) q b ⌝ }
+    requires { ⌜ b < 4 ⌝ }
     requires { ⌜ Room (now k) (now words) 1 ⌝ }
     requires { ⌜ now pace ≡ paceOf (settingsOf (now s) .mode) ⌝ }
-    ensures { λ r. ⌜ draft (now (d .exit)) (now (k .exit)) (now (words .exit)) ≡ closing (settingsOf (now (s .entry))) q (draft (now (d .entry)) (now (k .entry)) (now (words .entry))) ⌝ }
+    ensures { λ r. ⌜ draft (now (d .exit)) (now (k .exit)) (now (words .exit)) ≡ closing (settingsOf (now (s .entry))) b (draft (now (d .entry)) (now (k .entry)) (now (words .entry))) ⌝ }
 {
     let t = cycle_for(k[FREE], soonest::close(&*d, &*k, b));
     effects::close_after(s, d, pace, t, b);
     let n = k[EVENTS];
-    note(k, words, n, t, requests::close_pins(s, q));
+    note(k, words, n, t, requests::close_pins(b as u32));
 }
 
 // What a burst at t makes of the deadlines, and until when it can be cut: not at all with auto precharge.
@@ -113,7 +112,7 @@ fn give(
     k[READ_END] = end;
 }
 
-// READ or WRITE, with the request's bank b open on its row.
+// READ or WRITE of bank b, which is open.
 pub fn burst(
     s: &Settings,
     d: &mut Deadlines,
@@ -121,19 +120,19 @@ pub fn burst(
     words: &mut [u32],
     pace: &Pace,
     closed: bool,
-    q: u32,
+    write: bool,
     b: usize,
+    pins: u32,
 )
-    requires { ⌜ Asks (settingsOf (now s)) q b ⌝ }
+    requires { ⌜ b < 4 ⌝ }
     requires { ⌜ Room (now k) (now words) 1 ⌝ }
     requires { ⌜ now pace ≡ paceOf (settingsOf (now s) .mode) ⌝ }
-    ensures { λ r. ⌜ draft (now (d .exit)) (now (k .exit)) (now (words .exit)) ≡ bursting (settingsOf (now (s .entry))) q closed (draft (now (d .entry)) (now (k .entry)) (now (words .entry))) ⌝ }
+    ensures { λ r. ⌜ draft (now (d .exit)) (now (k .exit)) (now (words .exit)) ≡ bursting (settingsOf (now (s .entry))) closed write b pins (draft (now (d .entry)) (now (k .entry)) (now (words .entry))) ⌝ }
 {
-    let write = requests::asks_write(q);
     let t = cycle_for(k[FREE], soonest::burst(write, &*d, &*k, b));
     let n = k[EVENTS];
     give(s, d, k, pace, closed, write, t, b);
-    note(k, words, n, t, requests::burst_pins(s, q, closed));
+    note(k, words, n, t, pins);
 }
 
 // PRECHARGE of all banks.

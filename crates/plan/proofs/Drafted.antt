@@ -144,21 +144,21 @@ module _ {s : Settings} (g : Ranged s) {asked : List ℕ} {es : List Event} (r :
     abbrev bank : ℕ
     bank = cellBank s (firstCell q)
 
-    drafts-active : partOf s es .banks bank .opened ≡ false → Drafts s es x (send placing s es (activePins s q)) (activating s q x)
+    drafts-active : partOf s es .banks bank .opened ≡ false → Drafts s es x (send placing s es (activePins s q)) (activating s bank (cellRow s (firstCell q)) x)
     unfolding activating
     drafts-active idle =
         let w = active-sent g r q fits idle in
         let t = placed-is (λ d k. activeSoonest d bank) w in
         drafts-sent w v room t (λ i. activeAfter s (v .deadlines i) (t i) bank) (λ i. set (v .standing i) (ROW + bank) (cellRow s (firstCell q)))
 
-    drafts-close : Open s q es → Drafts s es x (send placing s es (closePins s q)) (closing s q x)
+    drafts-close : Open s q es → Drafts s es x (send placing s es (closePins s q)) (closing s bank x)
     unfolding closing
     drafts-close o =
         let w = close-sent g r q fits o in
         let t = placed-is (λ d k. closeSoonest d k bank) w in
         drafts-sent w v room t (λ i. closeAfter s (v .deadlines i) (paceOf (s .mode)) (t i) bank) (v .standing)
 
-    drafts-burst : (closed : Bool) → OnRow s q es → Drafts s es x (send placing s es (burstPins closed s q)) (bursting s q closed x)
+    drafts-burst : (closed : Bool) → OnRow s q es → Drafts s es x (send placing s es (burstPins closed s q)) (bursting s closed (asksWrite q) bank (burstPins closed s q) x)
     unfolding bursting
     drafts-burst closed o =
         let w = burst-sent g r q fits closed o in
@@ -200,7 +200,7 @@ module _ {s : Settings} (g : Ranged s) (q : ℕ) (fits : requestFits s q ≡ tru
   own = cellBank s (firstCell q)
 
   drafts-row : {asked : List ℕ} {es : List Event} (r : Reached s asked es) {x : Draft} → Drafted s es x → length es ≤ 9000 →
-      2 * (length es + 2) ≤ length (x .words) → Drafts s es x (sendAll placing s es (rowCommands s (partOf s es .banks own) q)) (opening s q x)
+      2 * (length es + 2) ≤ length (x .words) → Drafts s es x (sendAll placing s es (rowCommands s (partOf s es .banks own) q)) (opening s own (cellRow s (firstCell q)) x)
   unfolding opening sendAll
   drafts-row {es = es} r {x} v few room =
       go (partOf s es .banks own .opened) refl (told-open g r v (omega arith) q fits)
@@ -210,7 +210,7 @@ module _ {s : Settings} (g : Ranged s) (q : ℕ) (fits : requestFits s q ≡ tru
       go : (o : Bool) → partOf s es .banks own .opened ≡ o → {o′ : Bool} → o′ ≡ not o →
           (e : Bool) → eqb (partOf s es .banks own .row) (cellRow s (firstCell q)) ≡ e → {e′ : Bool} → e′ ≡ e →
           Drafts s es x (sendAll placing s es (cond (not o) (activePins s q ∷ []) (cond e [] (closePins s q ∷ activePins s q ∷ []))))
-          (cond o′ (activating s q x) (cond e′ x (activating s q (closing s q x))))
+          (cond o′ (activating s own (cellRow s (firstCell q)) x) (cond e′ x (activating s own (cellRow s (firstCell q)) (closing s own x))))
       go false k oo e m ee = rw oo (drafts-active g r v (omega arith) q fits (omega arith) k)
       go true k oo true m ee = rw (oo, ee) (drafts-none v)
       go true k oo false m ee =

@@ -8,7 +8,8 @@ use lib.ListN.{set}
 use lib.Seq.{sets}
 use Rattle.reading.specs.Search.{later}
 use Rattle.reading.specs.Settings.{Settings}
-use Rattle.reading.specs.Schedule.{asksWrite, firstCell, cellBank, cellRow, activePins, burstPins, closePins, closeAllPins, refreshPins}
+use Rattle.reading.specs.Commands.{ACTIVE, PRECHARGE, pinsOf}
+use Rattle.reading.specs.Schedule.{asksWrite, firstCell, cellBank, cellRow, burstPins, closeAllPins, refreshPins}
 use Rattle.deadlines.specs.Deadlines.{OPENED, OVERDUE, PAIRS, at, paceOf, allIdle, activeAfter, readAfter, writeAfter, closeAfter, closeAllAfter, refreshAfter}
 use Rattle.plan.specs.Behind.{ROW, READ-END, WRITE-END, FREE, EVENTS}
 use Rattle.plan.specs.Soonest.{activeSoonest, burstSoonest, closeSoonest, closeAllSoonest, refreshSoonest}
@@ -49,36 +50,32 @@ burstEnds closed write s k t = cond write (set k WRITE-END (endOf closed s t)) (
 module _ (s : Settings) where
   -- ---- the commands
 
-  module _ (q : ℕ) where
-    abbrev pub bank : ℕ
-    bank = cellBank s (firstCell q)
+  -- of bank b
+  unfoldable pub activating : ℕ → ℕ → Draft → Draft
+  activating b row x =
+      let t = placedAt x (activeSoonest (x .deadlines) b) in
+      noted x t (pinsOf ACTIVE b row) (activeAfter s (x .deadlines) t b) (set (x .standing) (ROW + b) row)
 
-    abbrev pub row : ℕ
-    row = cellRow s (firstCell q)
+  unfoldable pub closing : ℕ → Draft → Draft
+  closing b x =
+      let t = placedAt x (closeSoonest (x .deadlines) (x .standing) b) in
+      noted x t (pinsOf PRECHARGE b 0) (closeAfter s (x .deadlines) (paceOf (s .mode)) t b) (x .standing)
 
-    unfoldable pub activating : Draft → Draft
-    activating x =
-        let t = placedAt x (activeSoonest (x .deadlines) bank) in
-        noted x t (activePins s q) (activeAfter s (x .deadlines) t bank) (set (x .standing) (ROW + bank) row)
+  unfoldable pub bursting : Bool → Bool → ℕ → ℕ → Draft → Draft
+  bursting closed write b pins x =
+      let t = placedAt x (burstSoonest write (x .deadlines) (x .standing) b) in
+      noted x t pins (burstAfter closed write s (x .deadlines) t b) (burstEnds closed write s (x .standing) t)
 
-    unfoldable pub closing : Draft → Draft
-    closing x =
-        let t = placedAt x (closeSoonest (x .deadlines) (x .standing) bank) in
-        noted x t (closePins s q) (closeAfter s (x .deadlines) (paceOf (s .mode)) t bank) (x .standing)
+  -- what opens the row
+  unfoldable pub opening : ℕ → ℕ → Draft → Draft
+  opening b row x =
+      cond (eqb (at (x .deadlines) (OPENED + b)) 0) (activating b row x)
+      (cond (eqb (at (x .standing) (ROW + b)) row) x (activating b row (closing b x)))
 
-    unfoldable pub bursting : Bool → Draft → Draft
-    bursting closed x =
-        let t = placedAt x (burstSoonest (asksWrite q) (x .deadlines) (x .standing) bank) in
-        noted x t (burstPins closed s q) (burstAfter closed (asksWrite q) s (x .deadlines) t bank) (burstEnds closed (asksWrite q) s (x .standing) t)
-
-    -- what opens the row
-    unfoldable pub opening : Draft → Draft
-    opening x =
-        cond (eqb (at (x .deadlines) (OPENED + bank)) 0) (activating x)
-        (cond (eqb (at (x .standing) (ROW + bank)) row) x (activating (closing x)))
-
-    unfoldable pub requesting : Bool → Draft → Draft
-    requesting closed x = bursting closed (opening x)
+  unfoldable pub requesting : ℕ → Bool → Draft → Draft
+  requesting q closed x =
+      let b = cellBank s (firstCell q) in
+      bursting closed (asksWrite q) b (burstPins closed s q) (opening b (cellRow s (firstCell q)) x)
 
   unfoldable pub closingAll : Draft → Draft
   closingAll x =

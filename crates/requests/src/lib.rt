@@ -8,7 +8,8 @@ ghost use mathlib.Core.Bool.{true, cond, _&&_};
 ghost use Prim.Native.Nat.{_^_, _≤_, _<_};
 ghost use Rattle.words.specs.Found.{placeOf};
 ghost use Rattle.reading.specs.Settings.{settingsOf};
-ghost use Rattle.reading.specs.Schedule.{asksWrite, firstCell, cellBank, cellRow, cellColumn, badRequest, activePins, closePins, columnPins, burstPins};
+ghost use Rattle.reading.specs.Commands.{ACTIVE, PRECHARGE, pinsOf};
+ghost use Rattle.reading.specs.Schedule.{asksWrite, firstCell, cellBank, cellRow, cellColumn, badRequest, columnPins, burstPins};
 ghost use Rattle.memory.specs.Serving.{Sized};
 ghost use Rattle.requests.specs.Asked.{Asked, burstCode, cellsOf, below, EachBelow};
 
@@ -69,18 +70,18 @@ fn column(s: &Settings, q: u32) -> u32
     q % 134_217_728 % columns
 }
 
-pub fn active_pins(s: &Settings, q: u32) -> u32
-    requires { ⌜ Asked (settingsOf (now s)) q ⌝ }
-    ensures { λ r. ⌜ r ≡ activePins (settingsOf (now (s .entry))) q ⌝ }
+pub fn active_pins(bank: u32, row: u32) -> u32
+    requires { ⌜ (bank < 4) × (row < 16384) ⌝ }
+    ensures { λ r. ⌜ r ≡ pinsOf ACTIVE bank row ⌝ }
 {
-    row(s, q) + pins::BANK * bank(s, q) + ACTIVE_PINS
+    row + pins::BANK * bank + ACTIVE_PINS
 }
 
-pub fn close_pins(s: &Settings, q: u32) -> u32
-    requires { ⌜ Asked (settingsOf (now s)) q ⌝ }
-    ensures { λ r. ⌜ r ≡ closePins (settingsOf (now (s .entry))) q ⌝ }
+pub fn close_pins(bank: u32) -> u32
+    requires { ⌜ bank < 4 ⌝ }
+    ensures { λ r. ⌜ r ≡ pinsOf PRECHARGE bank 0 ⌝ }
 {
-    pins::BANK * bank(s, q) + CLOSE_PINS
+    pins::BANK * bank + CLOSE_PINS
 }
 
 // WRITE or READ on the command pins.
@@ -108,13 +109,14 @@ fn column_pins(column: u32, closed: bool) -> u32
     column % 1024 + ten(closed) + 2048 * (column / 1024)
 }
 
-// With rows closed, or left open.
-pub fn burst_pins(s: &Settings, q: u32, closed: bool) -> u32
+// Of the request's bank, with rows closed or left open.
+pub fn burst_pins(s: &Settings, q: u32, bank: u32, closed: bool) -> u32
     requires { ⌜ Asked (settingsOf (now s)) q ⌝ }
+    requires { ⌜ bank ≡ cellBank (settingsOf (now s)) (firstCell q) ⌝ }
     ensures { λ r. ⌜ r ≡ burstPins closed (settingsOf (now (s .entry))) q ⌝ }
 {
     let code = burst_code(asks_write(q));
-    column_pins(column(s, q), closed) + pins::BANK * bank(s, q) + code
+    column_pins(column(s, q), closed) + pins::BANK * bank + code
 }
 
 // The cells of the part, which has four banks.

@@ -47,25 +47,28 @@ either true a b = a
 either false a b = b
 
 module _ (s : Settings) where
-  module _ (q : ℕ) where
-    pub active-grows : (x : Draft) → Grows 1 x (activating s q x)
+  module _ (b : ℕ) where
+    active-grows : (row : ℕ) (x : Draft) → Grows 1 x (activating s b row x)
     unfolding activating
-    active-grows x = noted-grows x _ _ _ _
+    active-grows row x = noted-grows x _ _ _ _
 
-    pub close-grows : (x : Draft) → Grows 1 x (closing s q x)
+    pub close-grows : (x : Draft) → Grows 1 x (closing s b x)
     unfolding closing
     close-grows x = noted-grows x _ _ _ _
 
-    pub opening-grows : (x : Draft) → Grows 2 x (opening s q x)
+    pub opening-grows : (row : ℕ) (x : Draft) → Grows 2 x (opening s b row x)
     unfolding opening
-    opening-grows x =
-        either (eqb (at (x .deadlines) (OPENED + cellBank s (firstCell q))) 0) (grows-less (active-grows x) (omega arith))
-        (either (eqb (at (x .standing) (ROW + cellBank s (firstCell q))) (cellRow s (firstCell q))) (grows-less (grows-none x) (omega arith))
-        (grows-on (close-grows x) (active-grows (closing s q x))))
+    opening-grows row x =
+        either (eqb (at (x .deadlines) (OPENED + b)) 0) (grows-less (active-grows row x) (omega arith))
+        (either (eqb (at (x .standing) (ROW + b)) row) (grows-less (grows-none x) (omega arith))
+        (grows-on (close-grows x) (active-grows row (closing s b x))))
 
-    pub request-grows : (closed : Bool) (x : Draft) → Grows 3 x (requesting s q closed x)
-    unfolding requesting bursting
-    request-grows closed x = grows-on (opening-grows x) (noted-grows (opening s q x) _ _ _ _)
+  pub request-grows : (q : ℕ) (closed : Bool) (x : Draft) → Grows 3 x (requesting s q closed x)
+  unfolding requesting bursting
+  request-grows q closed x =
+      let b = cellBank s (firstCell q) in
+      let row = cellRow s (firstCell q) in
+      grows-on (opening-grows b row x) (noted-grows (opening s b row x) _ _ _ _)
 
   pub idle-grows : (x : Draft) → Grows 1 x (idling s x)
   unfolding idling closingAll

@@ -6,7 +6,7 @@ use mathlib.Core.Path.{_≡_, refl, sym, ap, _∙_}
 use lib.Dec.{ltb, eqb}
 use borrow.Author.Tests.{eq-eqb, ne-eqb}
 use Rattle.reading.specs.Settings.{Settings}
-use Rattle.reading.specs.Schedule.{firstCell, cellBank, cellRow}
+use Rattle.reading.specs.Schedule.{asksWrite, firstCell, cellBank, cellRow, burstPins}
 use Rattle.deadlines.specs.Deadlines.{OPENED, OVERDUE, at, paceOf, allIdle, closeAllAfter}
 use Rattle.plan.specs.Behind.{ROW, FREE}
 use Rattle.plan.specs.Soonest.{closeAllSoonest, refreshSoonest}
@@ -18,33 +18,28 @@ use Rattle.serving.specs.Told.{told}
 
 -- ---- the row
 
-module _ (s : Settings) (q : ℕ) (x : Draft) {b : ℕ} (bb : b ≡ cellBank s (firstCell q)) where
-  told-by : {v : Bool} → eqb (at (x .deadlines) (OPENED + b)) 0 ≡ v → eqb (at (x .deadlines) (OPENED + cellBank s (firstCell q))) 0 ≡ v
-  told-by e = ap (λ (i : ℕ). eqb (at (x .deadlines) (OPENED + i)) 0) (sym bb) ∙ e
-
-  pub opened-idle : at (x .deadlines) (OPENED + b) ≡ 0 → {y : Draft} → y ≡ activating s q x → y ≡ opening s q x
+module _ (s : Settings) (b row : ℕ) (x : Draft) where
+  pub opened-idle : at (x .deadlines) (OPENED + b) ≡ 0 → {y : Draft} → y ≡ activating s b row x → y ≡ opening s b row x
   unfolding opening
-  opened-idle e f = rw (told-by (eq-eqb (at (x .deadlines) (OPENED + b)) 0 e)) f
+  opened-idle e f = rw (eq-eqb (at (x .deadlines) (OPENED + b)) 0 e) f
 
-  module _ (busy : at (x .deadlines) (OPENED + b) ≡ 0 → ⊥) {row : ℕ} (rr : row ≡ cellRow s (firstCell q)) where
-    row-by : {v : Bool} → eqb (at (x .standing) (ROW + b)) row ≡ v → eqb (at (x .standing) (ROW + cellBank s (firstCell q))) (cellRow s (firstCell q)) ≡ v
-    row-by e = (λ i. eqb (at (x .standing) (ROW + sym bb i)) (sym rr i)) ∙ e
-
-    pub opened-there : at (x .standing) (ROW + b) ≡ row → x ≡ opening s q x
+  module _ (busy : at (x .deadlines) (OPENED + b) ≡ 0 → ⊥) where
+    pub opened-there : at (x .standing) (ROW + b) ≡ row → x ≡ opening s b row x
     unfolding opening
-    opened-there e = rw (told-by (ne-eqb (at (x .deadlines) (OPENED + b)) 0 busy), row-by (eq-eqb (at (x .standing) (ROW + b)) row e))
+    opened-there e = rw (ne-eqb (at (x .deadlines) (OPENED + b)) 0 busy, eq-eqb (at (x .standing) (ROW + b)) row e)
 
-    pub opened-other : (at (x .standing) (ROW + b) ≡ row → ⊥) → {y z : Draft} → y ≡ closing s q x → z ≡ activating s q y → z ≡ opening s q x
+    pub opened-other : (at (x .standing) (ROW + b) ≡ row → ⊥) → {y z : Draft} → y ≡ closing s b x → z ≡ activating s b row y → z ≡ opening s b row x
     unfolding opening
     opened-other e f g =
-        rw (told-by (ne-eqb (at (x .deadlines) (OPENED + b)) 0 busy), row-by (ne-eqb (at (x .standing) (ROW + b)) row e)) (g ∙ ap (activating s q) f)
+        rw (ne-eqb (at (x .deadlines) (OPENED + b)) 0 busy, ne-eqb (at (x .standing) (ROW + b)) row e) (g ∙ ap (activating s b row) f)
 
 -- ---- a request, a refresh
 
 module _ (s : Settings) (x : Draft) {y z : Draft} where
-  pub requested : (q : ℕ) (closed : Bool) → y ≡ opening s q x → z ≡ bursting s q closed y → z ≡ requesting s q closed x
+  pub requested : (q : ℕ) (closed : Bool) {b row pins : ℕ} {write : Bool} → b ≡ cellBank s (firstCell q) → row ≡ cellRow s (firstCell q) → write ≡ asksWrite q →
+      pins ≡ burstPins closed s q → y ≡ opening s b row x → z ≡ bursting s closed write b pins y → z ≡ requesting s q closed x
   unfolding requesting
-  requested q closed e f = f ∙ ap (bursting s q closed) e
+  requested q closed bb rr ww pp e f = f ∙ (λ i. bursting s closed (ww i) (bb i) (pp i) ((e ∙ (λ j. opening s (bb j) (rr j) x)) i))
 
   pub refreshed : y ≡ idling s x → z ≡ refreshingIdle s y → z ≡ refreshing s x
   unfolding refreshing

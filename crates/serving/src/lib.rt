@@ -10,11 +10,12 @@ use soonest::FREE;
 use soonest::ROW;
 use soonest::Standing;
 ghost use mathlib.Core.Path.{_≡_};
+ghost use Prim.Native.Nat.{_<_};
 ghost use Rattle.reading.specs.Settings.{settingsOf};
 ghost use Rattle.deadlines.specs.Deadlines.{paceOf, allIdle};
 ghost use Rattle.requests.specs.Asked.{Asked};
 ghost use Rattle.plan.specs.Draft.{opening, requesting, idling, refreshing, closedRefreshAt, timely, turned, kept};
-ghost use Rattle.drafts.specs.Room.{Room, Asks, draft};
+ghost use Rattle.drafts.specs.Room.{Room, draft};
 ghost use mathlib.Core.List.{[]};
 ghost use Rattle.serving.specs.Told.{told};
 
@@ -24,30 +25,30 @@ pub enum Turn {
     Late,
 }
 
-// What opens the request's row in its bank b: nothing, ACTIVE, or PRECHARGE and ACTIVE.
+// What opens a row of bank b: nothing, ACTIVE, or PRECHARGE and ACTIVE.
 fn open_row(
     s: &Settings,
     d: &mut Deadlines,
     k: &mut Standing,
     words: &mut [u32],
     pace: &Pace,
-    q: u32,
     b: usize,
+    row: u32,
 )
-    requires { ⌜ Asks (settingsOf (now s)) q b ⌝ }
+    requires { ⌜ (b < 4) × (row < 16384) ⌝ }
     requires { ⌜ Room (now k) (now words) 2 ⌝ }
     requires { ⌜ now pace ≡ paceOf (settingsOf (now s) .mode) ⌝ }
-    ensures { λ r. ⌜ draft (now (d .exit)) (now (k .exit)) (now (words .exit)) ≡ opening (settingsOf (now (s .entry))) q (draft (now (d .entry)) (now (k .entry)) (now (words .entry))) ⌝ }
+    ensures { λ r. ⌜ draft (now (d .exit)) (now (k .exit)) (now (words .exit)) ≡ opening (settingsOf (now (s .entry))) b row (draft (now (d .entry)) (now (k .entry)) (now (words .entry))) ⌝ }
 {
     if d[OPENED + b] == 0 {
-        drafts::activate(s, d, k, words, q, b);
+        drafts::activate(s, d, k, words, b, row);
         return;
     }
-    if k[ROW + b] == requests::row(s, q) as u64 {
+    if k[ROW + b] == row as u64 {
         return;
     }
-    drafts::close(s, d, k, words, pace, q, b);
-    drafts::activate(s, d, k, words, q, b);
+    drafts::close(s, d, k, words, pace, b);
+    drafts::activate(s, d, k, words, b, row);
 }
 
 // Its row opened, then READ or WRITE.
@@ -65,9 +66,21 @@ fn request(
     requires { ⌜ now pace ≡ paceOf (settingsOf (now s) .mode) ⌝ }
     ensures { λ r. ⌜ draft (now (d .exit)) (now (k .exit)) (now (words .exit)) ≡ requesting (settingsOf (now (s .entry))) q closed (draft (now (d .entry)) (now (k .entry)) (now (words .entry))) ⌝ }
 {
-    let b = requests::bank(s, q) as usize;
-    open_row(s, d, k, words, pace, q, b);
-    drafts::burst(s, d, k, words, pace, closed, q, b);
+    let bank = requests::bank(s, q);
+    let b = bank as usize;
+    open_row(s, d, k, words, pace, b, requests::row(s, q));
+    let pins = requests::burst_pins(s, q, bank, closed);
+    drafts::burst(
+        s,
+        d,
+        k,
+        words,
+        pace,
+        closed,
+        requests::asks_write(q),
+        b,
+        pins,
+    );
 }
 
 fn all_idle(d: &Deadlines) -> bool

@@ -1,6 +1,6 @@
-use Rattle.requests.proofs.Asking.{bank-low}
 use native.Mathlib.Omega.{arith}
 use Rattle.reading.specs.Settings.{settingsOf}
+use Rattle.requests.proofs.Asking.{bank-low}
 use borrow.Author.Needs.{needs}
 use Rattle.requests.proofs.burst_pins.Statement.{statement}
 use Rattle.requests.proofs.burst_pins.Tie as tie
@@ -17,56 +17,51 @@ column-requires c κs = search needs
 column-pins-requires : tie.Need-column-pins-requires
 column-pins-requires c κs = search needs
 
-bank-requires : tie.Need-bank-requires
-bank-requires c κs = search needs
-
 mul-result : tie.Need-mul-result
 mul-result c =
-    let at-burst-code = c .before .before .before in
-    let start = at-burst-code .before .before in
+    let coded = c .before .before in
+    let start = coded .before .before in
     omega (
       arith,
-      c .bank .ensures,
-      c .before .column-pins .ensures .1,
-      at-burst-code .burst-code .ensures .1,
-      bank-low (settingsOf (start .args .s .now)) (start .args .q) (start .pre),
+      c .column-pins .ensures .1,
+      coded .burst-code .ensures .1,
+      start .pre .1,
+      bank-low (settingsOf (start .args .s .now)) (start .args .q) (start .pre .0),
     )
 
 add-result : tie.Need-add-result
 add-result c =
-    let at-burst-code = c .before .before .before in
-    let start = at-burst-code .before .before in
+    let coded = c .before .before in
+    let start = coded .before .before in
     omega (
       arith,
-      c .bank .ensures,
-      c .before .column-pins .ensures .1,
-      at-burst-code .burst-code .ensures .1,
-      bank-low (settingsOf (start .args .s .now)) (start .args .q) (start .pre),
+      c .column-pins .ensures .1,
+      coded .burst-code .ensures .1,
+      start .pre .1,
+      bank-low (settingsOf (start .args .s .now)) (start .args .q) (start .pre .0),
     )
 
 add-result-2 : tie.Need-add-result-2
 add-result-2 c =
-    let at-burst-code = c .before .before .before in
-    let start = at-burst-code .before .before in
+    let coded = c .before .before in
+    let start = coded .before .before in
     omega (
       arith,
-      c .bank .ensures,
-      c .before .column-pins .ensures .1,
-      at-burst-code .burst-code .ensures .1,
-      bank-low (settingsOf (start .args .s .now)) (start .args .q) (start .pre),
+      c .column-pins .ensures .1,
+      coded .burst-code .ensures .1,
+      start .pre .1,
+      bank-low (settingsOf (start .args .s .now)) (start .args .q) (start .pre .0),
     )
 
 returns : tie.Need-returns
 returns c =
-    let at-column = c .before .before in
-    let at-burst-code = at-column .before in
-    let at-asks-write = at-burst-code .before in
+    let coded = c .before .before in
     rw (
-      c .bank .ensures,
-      c .before .column-pins .ensures .0,
-      at-column .column .ensures .0,
-      at-burst-code .burst-code .ensures .0,
-      at-asks-write .asks-write .ensures,
+      c .column-pins .ensures .0,
+      c .before .column .ensures .0,
+      coded .burst-code .ensures .0,
+      coded .before .asks-write .ensures,
+      coded .before .before .pre .1,
     ) (omega arith)
 
 pub burst-pins-spec : {M : Type 1} → statement M
@@ -77,7 +72,6 @@ burst-pins-spec =
     burst-code-requires
     column-requires
     column-pins-requires
-    bank-requires
     mul-result
     add-result
     add-result-2

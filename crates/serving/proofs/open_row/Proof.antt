@@ -1,7 +1,6 @@
 use native.Mathlib.Omega.{arith}
 use Rattle.reading.specs.Settings.{settingsOf}
 use Rattle.drafts.specs.Room.{draft}
-use Rattle.drafts.proofs.Commands.{low}
 use Rattle.serving.proofs.Growing.{close-grows, room-after, room-for}
 use Rattle.serving.proofs.Serves.{opened-idle, opened-there, opened-other}
 use borrow.Author.Needs.{needs}
@@ -12,10 +11,10 @@ add-if1 : tie.Need-add-if1
 add-if1 c = search needs
 
 mul-if1 : tie.Need-mul-if1
-mul-if1 c = omega (arith, low (c .before .pre .0))
+mul-if1 c = search needs
 
 element-copy-out-if1 : tie.Need-element-copy-out-if1
-element-copy-out-if1 c = omega (arith, low (c .before .pre .0))
+element-copy-out-if1 c = search needs
 
 activate-requires : tie.Need-activate-requires
 activate-requires c κs = search needs
@@ -28,40 +27,33 @@ returns c =
     let at-activate = c .before .before in
     let at-if1 = at-activate .before .before .before .before in
     let start = at-if1 .before .before .before in
-    opened-idle (settingsOf (start .args .s .now)) (start .args .q) (draft (start .args .d .now) (start .args .k .now) (start .args .words .now)) (start .pre .0 .bank) (at-if1 .if1 .taken) (at-activate .activate .ensures)
+    opened-idle (settingsOf (start .args .s .now)) (start .args .b) (start .args .row) (draft (start .args .d .now) (start .args .k .now) (start .args .words .now)) (at-if1 .if1 .taken) (at-activate .activate .ensures)
 
 add-if2 : tie.Need-add-if2
 add-if2 c = search needs
 
 mul-if2 : tie.Need-mul-if2
-mul-if2 c = omega (arith, low (c .before .before .before .pre .0))
+mul-if2 c = search needs
 
 element-copy-out-if2 : tie.Need-element-copy-out-if2
-element-copy-out-if2 c = omega (arith, low (c .before .before .before .pre .0))
-
-row-requires : tie.Need-row-requires
-row-requires c κs = search needs
-
-cast-if2 : tie.Need-cast-if2
-cast-if2 c = search needs
+element-copy-out-if2 c = search needs
 
 returns-2 : tie.Need-returns-2
 returns-2 c =
-    let at-row = c .before in
-    let at-if1 = at-row .before .before in
+    let at-if1 = c .before .before in
     let start = at-if1 .before .before .before in
-    opened-there (settingsOf (start .args .s .now)) (start .args .q) (draft (start .args .d .now) (start .args .k .now) (start .args .words .now)) (start .pre .0 .bank) (at-if1 .if1 .left) (at-row .row .ensures .0) (c .if2 .taken)
+    opened-there (settingsOf (start .args .s .now)) (start .args .b) (start .args .row) (draft (start .args .d .now) (start .args .k .now) (start .args .words .now)) (at-if1 .if1 .left) (c .if2 .taken)
 
 close-requires : tie.Need-close-requires
 close-requires c κs =
-    let start = c .before .before .before .before .before .before .before .before .before in
-    (start .pre .0, (room-for 2 1 (start .pre .1 .0) (omega arith), start .pre .1 .1))
+    let start = c .before .before .before .before .before .before .before .before in
+    (start .pre .0 .0, (room-for 2 1 (start .pre .1 .0) (omega arith), start .pre .1 .1))
 
 activate-requires-2 : tie.Need-activate-requires-2
 activate-requires-2 c κs =
     let at-close = c .before .before .before .before .before in
-    let start = at-close .before .before .before .before .before .before .before .before .before .before in
-    (start .pre .0, room-after 1 1 (start .pre .1 .0) (close-grows (settingsOf (start .args .s .now)) (start .args .q) (draft (start .args .d .now) (start .args .k .now) (start .args .words .now))) (at-close .close .ensures))
+    let start = at-close .before .before .before .before .before .before .before .before .before in
+    (start .pre .0, room-after 1 1 (start .pre .1 .0) (close-grows (settingsOf (start .args .s .now)) (start .args .b) (draft (start .args .d .now) (start .args .k .now) (start .args .words .now))) (at-close .close .ensures))
 
 same-length-2 : tie.Need-same-length-2
 same-length-2 c = search needs
@@ -71,11 +63,9 @@ returns-3 c =
     let at-activate2 = c .before .before in
     let at-close = at-activate2 .before .before .before .before .before .before in
     let at-if2 = at-close .before .before .before .before in
-    let at-row = at-if2 .before in
-    let at-if1 = at-row .before .before in
+    let at-if1 = at-if2 .before .before in
     let start = at-if1 .before .before .before in
-    opened-other (settingsOf (start .args .s .now)) (start .args .q) (draft (start .args .d .now) (start .args .k .now) (start .args .words .now)) (start .pre .0 .bank) (at-if1 .if1 .left) (at-row .row .ensures .0) (at-if2 .if2 .left)
-    (at-close .close .ensures) (at-activate2 .activate2 .ensures)
+    opened-other (settingsOf (start .args .s .now)) (start .args .b) (start .args .row) (draft (start .args .d .now) (start .args .k .now) (start .args .words .now)) (at-if1 .if1 .left) (at-if2 .if2 .left) (at-close .close .ensures) (at-activate2 .activate2 .ensures)
 
 pub open-row-spec : {M : Type 1} → statement M
 open-row-spec =
@@ -90,8 +80,6 @@ open-row-spec =
     add-if2
     mul-if2
     element-copy-out-if2
-    row-requires
-    cast-if2
     returns-2
     close-requires
     activate-requires-2
