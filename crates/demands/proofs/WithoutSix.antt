@@ -1,22 +1,22 @@
 -- Rule 6 is asked no more, and no answer is another for that: judged and placed by rule 6 too, every capture, every burst list
 -- and every schedule gets the answer that it gets without.
-use Prim.Native.Nat.{ℕ, _+_, _≤_}
+use Prim.Native.Nat.{ℕ, _+_}
 use mathlib.Core.Bool.{Bool, true, false, not}
 use mathlib.Core.List.{List, [], _∷_, _++_, Memᴰ·append-left}
 use mathlib.Core.Option.{Option, none, some}
-use mathlib.Core.Path.{_≡_, refl, sym, ap, _∙_}
+use mathlib.Core.Path.{_≡_, refl, ap}
 use native.Mathlib.Omega.{arith}
 use lib.Dec.{eqb, ltb}
 use lib.ListN.{length}
 use borrow.Author.Tests.{eqb-true, ltb-false, not-false}
 use Rattle.reading.specs.Search.{given, orElse}
-use Rattle.reading.specs.Settings.{Settings, settingsCount, settingsOf, outOfRange, contradiction, Consistent, badSetting}
+use Rattle.reading.specs.Settings.{Settings, settingsCount, settingsOf, outOfRange, Consistent, badSetting}
 use Rattle.reading.specs.Capture.{Event, eventCount, eventsOf, eventBytes, settingWords, lengthFits, headerFits, pinLimit, badEvent}
 use Rattle.reading.specs.Part.{start}
 use Rattle.reading.specs.Rules.{aboveSix, placing, rules, placingWithSix, rulesWithSix}
 use Rattle.reading.specs.Verdict.{Verdict, verdictBy, judgedOf}
 use Rattle.reading.specs.Schedule.{Schedule, policyFits, closesRows, badRequest, scheduleBy, captureOf}
-use Rattle.reading.specs.Answers.{Answer, answered, Outcome, unless, accepted, settingsIn, notClean, cellsIn, fitting, leaves, whenPlanned, verdictIn, judgeAnswer, cellsOutcome, scheduleOutcome}
+use Rattle.reading.specs.Answers.{Answer, answered, unless, accepted, settingsIn, notClean, cellsIn, fitting, leaves, whenPlanned, verdictIn, judgeAnswer, cellsOutcome, scheduleOutcome}
 use Rattle.reading.proofs.Six.{same-judged, start-rest}
 use Rattle.plan.proofs.Ranged.{fourteen-old, ranged}
 use Rattle.plan.proofs.Ready.{requests-fit}

@@ -1,12 +1,12 @@
 -- Why rule 6 need not be asked: where tRC is at most tRAS + tRP, rules 3, 5 and 9 and the cycle of an auto precharge keep the
 -- ACTIVEs of a bank tRC apart, so no event breaks rule 6 and no lower one. Both readings, with the rule and without, agree.
-use Prim.Native.Nat.{ℕ, zero, suc, _+_, _≤_, _<_}
+use Prim.Native.Nat.{ℕ, zero, suc, _+_, _<_}
 use mathlib.Core.Bool.{Bool, true, false, cond, not, _&&_, true≢false, false≢true}
 use mathlib.Core.List.{List, [], _∷_, _++_, List·Memᴰ, Memᴰ·append-right}
 use mathlib.Core.Option.{Option, none, some}
-use mathlib.Core.Path.{_≡_, refl, sym, ap, _∙_}
+use mathlib.Core.Path.{_≡_, refl, ap, _∙_}
 use native.Mathlib.Omega.{arith}
-use lib.Dec.{leb, eqb}
+use lib.Dec.{eqb}
 use borrow.Author.Tests.{leb-true, le-leb, not-true, not-false}
 use Rattle.reading.specs.Search.{implies, every, find, after, orZero, later}
 use Rattle.reading.specs.Mode.{h}
@@ -17,7 +17,7 @@ use Rattle.reading.specs.Part.{Bank, Part, start, step, openOn, idleFrom
 use Rattle.reading.specs.Rules.{everyBank, belowSix, keepsRule, rule3, rule5, rule6, rule9, lowestBroken}
 use Rattle.reading.proofs.Found.{find-none, later-first}
 use Rattle.reading.specs.Schedule.{passes}
-use Rattle.reading.specs.Verdict.{Verdict, judgeBy, verdictBy, brokenOr}
+use Rattle.reading.specs.Verdict.{judgeBy, brokenOr}
 
 -- ---- lists of rules that differ in one
 

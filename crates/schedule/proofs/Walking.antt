@@ -2,7 +2,7 @@
 use Prim.Native.Nat.{ℕ, suc, _+_, _*_, _≤_, _<_}
 use mathlib.Core.Bool.{Bool, true, false, cond}
 use mathlib.Core.List.{List, [], _∷_}
-use mathlib.Core.Option.{Option, none, some}
+use mathlib.Core.Option.{Option}
 use mathlib.Core.Path.{_≡_, refl, sym, ap, _∙_}
 use native.Mathlib.Numerals.{add-one}
 use native.Mathlib.Omega.{arith}
@@ -12,8 +12,7 @@ use Rattle.reading.specs.Settings.{Settings, settingsCount, settingsOf}
 use Rattle.reading.specs.Capture.{Event}
 use Rattle.reading.specs.Rules.{placing}
 use Rattle.reading.specs.Schedule.{Schedule, planned, late, requestFits, freeFrom, served, whenServed, scheduleFrom, scheduleBy, eventWords}
-use Rattle.words.proofs.Runs.{sets-append, none-behind}
-use Rattle.words.proofs.Events.{words-length, words-append}
+use Rattle.words.proofs.Runs.{none-behind}
 use Rattle.settings.proofs.Fitting.{in-range}
 use Rattle.deadlines.specs.Deadlines.{at, startOf}
 use Rattle.bridge.proofs.Turn.{start-laid}
