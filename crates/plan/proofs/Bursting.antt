@@ -1,17 +1,17 @@
 -- READ or WRITE of a bank that is open, with auto precharge or without, on a part that a schedule reached.
 use Prim.Native.Nat.{ℕ, suc, _+_, _≤_, _<_}
 use mathlib.Core.Bool.{Bool, true, false, cond, _&&_}
-use mathlib.Core.List.{List, _∷_, map}
-use mathlib.Core.Path.{_≡_, refl, sym, ap, _∙_}
+use mathlib.Core.List.{List, map}
+use mathlib.Core.Path.{_≡_, sym, ap, _∙_}
 use native.Mathlib.Nat.{le-trans}
 use lib.Dec.{leb, eqb}
 use lib.ListN.{set}
-use Rattle.reading.specs.Search.{find, later}
+use Rattle.reading.specs.Search.{find}
 use Rattle.reading.specs.Mode.{h}
 use Rattle.reading.specs.Settings.{Settings}
 use Rattle.reading.specs.Commands.{READ, WRITE, Command}
 use Rattle.reading.specs.Sleep.{sleepAtStart}
-use Rattle.reading.specs.Bursts.{Burst, reads}
+use Rattle.reading.specs.Bursts.{reads}
 use Rattle.reading.specs.Part.{Part, autoPrecharge, cutBy, partAfter, lastRead, lastWrite}
 use Rattle.reading.specs.Schedule.{cutsNothing}
 use Rattle.reading.proofs.Cuts.{All}

@@ -2,8 +2,8 @@
 use Prim.Native.Nat.{ℕ, zero, suc, _+_, _*_, _%_, _^_, _≤_, _<_}
 use mathlib.Core.Bool.{Bool, true, false, cond, not, _&&_}
 use mathlib.Core.List.{List, [], _∷_, _++_, append-assoc}
-use mathlib.Core.Option.{Option, none, some}
-use mathlib.Core.Path.{_≡_, refl, sym, ap, _∙_, subst}
+use mathlib.Core.Option.{none, some}
+use mathlib.Core.Path.{_≡_, refl, sym, ap, _∙_}
 use native.Mathlib.Nat.{mod-eq-of-lt}
 use native.Mathlib.Numerals.{add-one}
 use native.Mathlib.Omega.{arith}
@@ -13,7 +13,7 @@ use lib.Seq.{sets, length-sets, take-append-seam, take-take, take-suc-set, take-
 use Rattle.reading.specs.Settings.{Settings}
 use Rattle.reading.specs.Capture.{Event}
 use Rattle.reading.specs.Rules.{everyBank, placing}
-use Rattle.reading.specs.Schedule.{asksWrite, firstCell, cellBank, cellRow, requestFits, activePins, burstPins, closePins, closeAllPins, refreshPins, rowCommands}
+use Rattle.reading.specs.Schedule.{asksWrite, firstCell, cellBank, cellRow, requestFits, activePins, burstPins, closePins, closeAllPins, rowCommands}
 use Rattle.reading.specs.Schedule.{freeFrom, placed, send, sendAll, sendRequest, sendRefresh, refreshInTime, served, eventWords}
 use Rattle.deadlines.specs.Deadlines.{OPENED, OVERDUE, at, paceOf, allIdle, activeAfter, closeAfter, closeAllAfter, refreshAfter}
 use Rattle.bridge.specs.Summary.{laid, summary}
@@ -28,9 +28,9 @@ use Rattle.plan.proofs.Ranged.{Ranged}
 use Rattle.plan.proofs.Sending.{length-sent}
 use Rattle.plan.proofs.Reached.{Reached, Sent}
 use Rattle.plan.proofs.Awake.{awake-now}
-use Rattle.plan.proofs.Placed.{Open, OnRow, Idle, refresh-sent, close-all-sent, close-sent, close-shuts, active-sent, active-opens, burst-sent}
+use Rattle.plan.proofs.Placed.{Open, OnRow, refresh-sent, close-all-sent, close-sent, close-shuts, active-sent, burst-sent}
 use Rattle.plan.proofs.Captured.{words-length}
-use Rattle.plan.proofs.Leading.{overdueOf, Rowed, rowed, Requested, requested, request-is, idled, Idled, all-idle, refresh-is, refreshedAt, Refreshed, refreshed, in-time}
+use Rattle.plan.proofs.Leading.{overdueOf, rowed, Requested, requested, request-is, idled, all-idle, refresh-is, refreshedAt, Refreshed, refreshed, in-time}
 
 -- ---- the words of the events
 

@@ -1,6 +1,6 @@
 -- The commands of a request and of a refresh, behind what a schedule reached.
 use Prim.Native.Nat.{ℕ, suc, _+_, _≤_, _<_}
-use mathlib.Core.Bool.{Bool, true, false, cond, not, _&&_}
+use mathlib.Core.Bool.{Bool, true, false, cond, not}
 use mathlib.Core.List.{List, [], _∷_, _++_}
 use mathlib.Core.Path.{_≡_, refl, sym, ap, _∙_, subst}
 use native.Mathlib.Nat.{le-refl}
@@ -9,13 +9,12 @@ use lib.Dec.{eqb, ltb}
 use lib.ListN.{length}
 use borrow.Author.Tests.{eqb-true, lt-ltb, not-true}
 use Rattle.reading.specs.Settings.{Settings}
-use Rattle.reading.specs.RefreshClock.{Clock, inTime}
+use Rattle.reading.specs.RefreshClock.{inTime}
 use Rattle.reading.specs.Capture.{Event}
 use Rattle.reading.specs.Commands.{commandOf}
-use Rattle.reading.specs.Part.{Part}
 use Rattle.reading.specs.Verdict.{clean, verdictOf}
 use Rattle.reading.specs.Rules.{everyBank, placing}
-use Rattle.reading.specs.Schedule.{firstCell, cellBank, cellRow, requestFits, activePins, burstPins, closePins, closeAllPins, refreshPins, rowCommands, refreshCommands}
+use Rattle.reading.specs.Schedule.{firstCell, cellBank, cellRow, requestFits, activePins, burstPins, closePins, closeAllPins, refreshPins, rowCommands}
 use Rattle.reading.specs.Schedule.{freeFrom, lastFrom, placed, send, sendAll, sendRequest, sendRefresh, refreshInTime}
 use Rattle.reading.proofs.Six.{every-bank}
 use Rattle.bridge.specs.Summary.{overdueBy}

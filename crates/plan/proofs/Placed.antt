@@ -1,46 +1,44 @@
 -- The commands of a schedule: each goes to the latest of its waits, and leaves the deadlines and the standing of a step.
 use Prim.Native.Nat.{ℕ, suc, _+_, _^_, _≤_, _<_}
 use mathlib.Core.Bool.{Bool, true, false, cond, not, _&&_, and-true}
-use mathlib.Core.List.{List, _∷_, map}
-use mathlib.Core.Path.{_≡_, refl, sym, ap, _∙_, subst}
+use mathlib.Core.List.{List, _∷_}
+use mathlib.Core.Path.{_≡_, refl, sym, ap, _∙_}
 use native.Mathlib.Nat.{le-trans}
 use native.Mathlib.Omega.{arith}
-use lib.Dec.{leb, ltb, eqb}
+use lib.Dec.{leb, eqb}
 use lib.ListN.{length, set}
-use borrow.Author.Tests.{eq-eqb, lt-ltb, ne-eqb}
+use borrow.Author.Tests.{eq-eqb}
 use Rattle.reading.specs.Words.{bit}
 use Rattle.reading.specs.Search.{find, later}
 use Rattle.reading.specs.Settings.{Settings}
 use Rattle.reading.specs.Capture.{Event}
 use Rattle.reading.specs.Commands.{PRECHARGE, AUTO-REFRESH, Command, commandOf}
-use Rattle.reading.specs.Bursts.{Burst, reads}
-use Rattle.reading.specs.Part.{Bank, Part, idleFrom, closes, cuts, cutBy, partAfter, lastRead, lastWrite}
+use Rattle.reading.specs.Bursts.{reads}
+use Rattle.reading.specs.Part.{Bank, Part, idleFrom, cuts, partAfter, lastRead, lastWrite}
 use Rattle.reading.specs.Rules.{placing}
 use Rattle.reading.specs.Schedule.{asksWrite, firstCell, cellBank, cellRow, cellColumn, requestFits, activePins, columnPins, burstPins, closePins, closeAllPins, refreshPins}
-use Rattle.reading.specs.Schedule.{cutsNothing, passes, goes, freeFrom, placed, send}
+use Rattle.reading.specs.Schedule.{cutsNothing, goes, freeFrom, placed, send}
 use Rattle.reading.proofs.Cuts.{All}
 use Rattle.deadlines.specs.Deadlines.{refreshWaits, paceOf, soonest, activeAfter, closeAfter, closeAllAfter, refreshAfter}
-use Rattle.bridge.specs.Summary.{Held, laid, summary}
 use Rattle.bridge.proofs.Tests.{leb-later}
-use Rattle.bridge.proofs.Bursts.{find-all}
 use Rattle.bridge.proofs.Rules.{does}
-use Rattle.bridge.proofs.Next.{Sound, active-next, close-next, close-all-next, refresh-next}
+use Rattle.bridge.proofs.Next.{active-next, close-next, close-all-next, refresh-next}
 use Rattle.bridge.proofs.Kept.{kept-plain}
 use Rattle.memory.proofs.Pins.{bank-small, column-small, column-back, activeCommand, closeCommand, active-carried, burst-carried, close-carried, close-all-carried, refresh-carried}
-use Rattle.memory.proofs.Part.{Serving, serving-on, serving-more, active-row}
-use Rattle.plan.specs.Behind.{ROW, FREE, EVENTS, READ-END, cutEnd, stood, partOf, deadlinesOf, standingOf}
+use Rattle.memory.proofs.Part.{serving-on, serving-more, active-row}
+use Rattle.plan.specs.Behind.{ROW, cutEnd, stood, partOf, deadlinesOf, standingOf}
 use Rattle.plan.specs.Soonest.{activeSoonest, burstSoonest, closeWaits, closeSoonest, closeAllSoonest, refreshSoonest}
 use Rattle.plan.specs.Draft.{burstAfter, burstEnds}
 use Rattle.plan.proofs.Ranged.{Ranged}
 use Rattle.plan.proofs.Pins.{row-low, active-small, burst-small, close-small, close-all-small, refresh-small}
 use Rattle.plan.proofs.Passing.{passed, waited, carried-passes, active-passed, close-passed, close-all-passed, refresh-passed}
 use Rattle.plan.proofs.Uncut.{Whole, serving-whole, nothing-cut, close-uncut, close-all-uncut}
-use Rattle.plan.proofs.Near.{Near, wait, end-most, near-active, near-close, near-close-all, near-refresh, active-most, burst-most, close-most, close-all-most, refresh-most}
+use Rattle.plan.proofs.Near.{wait, end-most, near-active, near-close, near-close-all, near-refresh, active-most, burst-most, close-most, close-all-most, refresh-most}
 use Rattle.plan.proofs.Sending.{Goes, goes-free, goes-soonest}
 use Rattle.plan.proofs.Reached.{Reached, Sent, part-is, stays, sent}
 use Rattle.plan.proofs.Awake.{awake, awake-now, awake-clock}
 use Rattle.plan.proofs.Standing.{kept-row, opened-row, row-stood}
-use Rattle.plan.proofs.Bursting.{standingBy, bursts, burst-going, burst-leaves, burst-sound, burst-near, burst-clock, burst-stood}
+use Rattle.plan.proofs.Bursting.{bursts, burst-going, burst-leaves, burst-sound, burst-near, burst-clock, burst-stood}
 
 -- all banks are idle
 abbrev pub Idle : Settings → List Event → Type 0

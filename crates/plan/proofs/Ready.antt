@@ -31,7 +31,7 @@ use Rattle.plan.proofs.Ranged.{Ranged}
 use Rattle.plan.proofs.Reached.{Rises, Reached, start-reached}
 use Rattle.plan.proofs.Awake.{Sleepless, sleepless}
 use Rattle.plan.proofs.Placed.{refresh-sent}
-use Rattle.plan.proofs.Leading.{overdueOf, Leads, Requested, requested, Refreshed, refreshedAt, refreshed, in-time}
+use Rattle.plan.proofs.Leading.{overdueOf, requested, Refreshed, refreshedAt, refreshed, in-time}
 
 -- between requests: all events are clean, and an AUTO REFRESH placed next comes in time
 pub record Ready (s : Settings) (asked : List ℕ) (es : List Event) : Type 0 where

@@ -1,20 +1,20 @@
 -- When a command cuts nothing: behind a part whose bursts have all their pairs, from one cycle on, the end of the last read or of
 -- the last write that it could cut.
 use Prim.Native.Nat.{ℕ, _+_, _≤_, _<_}
-use mathlib.Core.Bool.{Bool, true, false, cond, not, _&&_, and-false}
+use mathlib.Core.Bool.{Bool, true, false, cond, _&&_, and-false}
 use mathlib.Core.List.{List, [], _∷_, map}
 use mathlib.Core.Logic.{_⊎_, inl, inr}
 use mathlib.Core.Option.{Option, none, some}
 use mathlib.Core.Path.{_≡_, refl, sym, ap, _∙_}
 use native.Mathlib.Omega.{arith}
 use lib.Dec.{leb, ltb, eqb, leb·zero}
-use borrow.Author.Tests.{leb-true, leb-false, le-leb, lt-ltb, eq-eqb, eqb-true, eqb-false, ne-eqb, not-true, not-false}
+use borrow.Author.Tests.{leb-true, leb-false, le-leb, lt-ltb, eq-eqb, eqb-true, ne-eqb, not-true}
 use Rattle.reading.specs.Search.{ever, every, find, lesser}
 use Rattle.reading.specs.Mode.{h}
 use Rattle.reading.specs.Settings.{Settings}
 use Rattle.reading.specs.Commands.{READ, WRITE, PRECHARGE, Command, names}
-use Rattle.reading.specs.Bursts.{Burst, reads, wholeEnd, dataEnd, withPairs}
-use Rattle.reading.specs.Part.{Part, cuts, cutBy, closes}
+use Rattle.reading.specs.Bursts.{Burst, reads, wholeEnd, withPairs}
+use Rattle.reading.specs.Part.{Part, cuts, cutBy}
 use Rattle.reading.specs.Schedule.{cutsNothing}
 use Rattle.reading.proofs.Cuts.{All, nil, cons, auto-uncut}
 use Rattle.bridge.specs.Summary.{readerOf}
