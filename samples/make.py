@@ -11,9 +11,10 @@ import sys
 HERE = os.path.dirname(os.path.abspath(__file__))
 TESTS = os.path.join(HERE, "..", "tests")
 sys.path.insert(0, TESTS)
-from captures import (A10, ACTIVE, AUTO_REFRESH, LOW, NOP, PRECHARGE, READ, bank, blanked, broken_lines, capture,
-                      cas_latency, clean_lines, column, mode_word, nine_owed)
+from captures import (A10, ACTIVE, AUTO_REFRESH, LOW, NOP, PRECHARGE, READ, WRITE, bank, blanked, broken_lines, capture,
+                      cas_latency, clean_lines, column, events_in, mode_word, nine_owed)
 from controller import Controller
+from scheduler import CLOSED_ROWS, OPEN_ROWS, WRITES, scheduled
 
 # The columns that are settings, in the order of document 01's table.
 SETTINGS = ["lane", "rowbits", "colbits", "mode", "tRCD", "tRP", "tRAS", "tRC", "tRRD", "tWR", "tWTR", "tRFC", "tMRD",
@@ -294,6 +295,41 @@ def blanked_one(name):
     return make
 
 
+# ---- samples written by the library's scheduler: clean, since every schedule is
+
+SERVED_SEED = 8
+
+
+def requests_of(part, events):
+    """The bursts of a controller's traffic, each as a request."""
+    requests, rows = [], {}
+    for _, pins in events:
+        command, of_bank = pins & 0xF0000, pins >> 14 & 3
+        if command == ACTIVE:
+            rows[of_bank] = pins & 0x3FFF
+        elif command in (READ, WRITE):
+            at = pins & 0x3FF | (pins >> 11 & 1) << 10
+            cell = (of_bank << part["rowbits"] | rows[of_bank]) << part["colbits"] | at
+            requests.append(cell | (WRITES if command == WRITE else 0))
+    return requests
+
+
+def clean_schedule(part, policy):
+    """Both policies serve the same traffic."""
+    c = Controller(part, SERVED_SEED)
+    c.run(900)
+    data = scheduled(settings_of(part), requests_of(part, c.events), policy)
+    return data, clean_lines(events_in(data))
+
+
+def open_rows(part, seed):
+    return clean_schedule(part, OPEN_ROWS)
+
+
+def closed_rows(part, seed):
+    return clean_schedule(part, CLOSED_ROWS)
+
+
 def case_b(part, seed):
     events = [(0, ACTIVE), (2, READ)]
     return capture(events), broken_lines(events, 8, 1)
@@ -340,6 +376,8 @@ SAMPLES = [
     ("tWR-edition-1", ("MT46H32M32LF", "-75 CL3"), precharge_before_a_pair_is_in,
      "edition 1: PRECHARGE a cycle too soon after a WRITE to leave it one pair"),
     ("tWTR-blanked", ("MT46H64M16LF", "-5 CL3"), blanked_one("tWTR"), "the sample tWTR, rows and columns blanked"),
+    ("schedule-open-rows", ("MT46H64M16LF", "-5 CL3"), open_rows, "written by `morgazell_schedule`, rows left open"),
+    ("schedule-closed-rows", ("MT46H64M16LF", "-5 CL3"), closed_rows, "the same requests, each row closed behind its burst"),
 ]
 
 

@@ -98,6 +98,10 @@ def event_in(data, i):
     return struct.unpack_from("<2I", data, events_at(data) + 8 * i)
 
 
+def events_in(data):
+    return [event_in(data, i) for i in range((len(data) - events_at(data)) // 8)]
+
+
 def with_settings(data, settings):
     """The same capture under other settings, as many as it has."""
     return data[:SETTINGS_AT] + words(settings) + data[events_at(data):]

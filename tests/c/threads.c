@@ -7,7 +7,7 @@
 
 #include "inputs.h"
 
-enum { ROUNDS = 300, INPUTS = 4, MOST_CELLS = 128000, MOST_BYTES = 48080, REQUESTS = 500 };
+enum { ROUNDS = 300, INPUTS = 4, MOST_CELLS = 128000, MOST_BYTES = 64080, REQUESTS = 500 };
 
 struct left {
     uint64_t judged, listed, scheduled, blanked;

@@ -51,7 +51,9 @@ returns c =
     let at-active = at-cycle-for .before in
     let start = at-active .before .before .before .before in
     let x = draft (start .args .d .now) (start .args .k .now) (start .args .words .now) in
-    activated x (at-cycle-for .cycle-for .ensures) (at-note .note .ensures .0) (at-note .note .ensures .1) (settingsOf (start .args .s .now)) (start .args .b) (start .args .row) (at-active .active .ensures) (at-active-pins .active-pins .ensures) (at-active-after .active-after .ensures) refl
+    activated x (at-cycle-for .cycle-for .ensures) (at-note .note .ensures .0) (at-note .note .ensures .1) (settingsOf (start .args .s .now))
+    (start .args .b) (start .args .row) (at-active .active .ensures) (at-active-pins .active-pins .ensures)
+    (at-active-after .active-after .ensures) refl
 
 pub activate-spec : {M : Type 1} → statement M
 activate-spec =

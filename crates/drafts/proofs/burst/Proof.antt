@@ -35,7 +35,9 @@ returns c =
     let at-burst = at-cycle-for .before in
     let start = at-burst .before .before .before .before .before in
     let x = draft (start .args .d .now) (start .args .k .now) (start .args .words .now) in
-    burst x (at-cycle-for .cycle-for .ensures) (at-note .note .ensures .0) (at-note .note .ensures .1) (settingsOf (start .args .s .now)) (start .args .b) (start .args .closed) (start .args .write) (start .args .pins) (at-burst .burst .ensures) refl (at-give .give .ensures .0) (at-give .give .ensures .1)
+    burst x (at-cycle-for .cycle-for .ensures) (at-note .note .ensures .0) (at-note .note .ensures .1) (settingsOf (start .args .s .now))
+    (start .args .b) (start .args .closed) (start .args .write) (start .args .pins) (at-burst .burst .ensures) refl (at-give .give .ensures .0)
+    (at-give .give .ensures .1)
 
 pub burst-spec : {M : Type 1} → statement M
 burst-spec =

@@ -42,7 +42,8 @@ returns c =
     let at-close = at-cycle-for .before in
     let start = at-close .before .before .before .before .before in
     let x = draft (start .args .d .now) (start .args .k .now) (start .args .words .now) in
-    closed x (at-cycle-for .cycle-for .ensures) (at-note .note .ensures .0) (at-note .note .ensures .1) (settingsOf (start .args .s .now)) (start .args .b) (start .pre .1 .1) (at-close .close .ensures) (at-close-pins .close-pins .ensures) (at-close-after .close-after .ensures) refl
+    closed x (at-cycle-for .cycle-for .ensures) (at-note .note .ensures .0) (at-note .note .ensures .1) (settingsOf (start .args .s .now))
+    (start .args .b) (start .pre .1 .1) (at-close .close .ensures) (at-close-pins .close-pins .ensures) (at-close-after .close-after .ensures) refl
 
 pub close-spec : {M : Type 1} → statement M
 close-spec =

@@ -35,7 +35,8 @@ returns c =
     let at-close-all = at-cycle-for .before in
     let start = at-close-all .before .before .before .before .before in
     let x = draft (start .args .d .now) (start .args .k .now) (start .args .words .now) in
-    all-closed x (at-cycle-for .cycle-for .ensures) (at-note .note .ensures .0) (at-note .note .ensures .1) (settingsOf (start .args .s .now)) (start .pre .1) (at-close-all .close-all .ensures) refl (at-close-all-after .close-all-after .ensures) refl
+    all-closed x (at-cycle-for .cycle-for .ensures) (at-note .note .ensures .0) (at-note .note .ensures .1) (settingsOf (start .args .s .now))
+    (start .pre .1) (at-close-all .close-all .ensures) refl (at-close-all-after .close-all-after .ensures) refl
 
 pub close-all-spec : {M : Type 1} → statement M
 close-all-spec =

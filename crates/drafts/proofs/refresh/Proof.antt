@@ -35,7 +35,8 @@ returns c =
     let at-refresh = at-cycle-for .before in
     let start = at-refresh .before .before .before .before in
     let x = draft (start .args .d .now) (start .args .k .now) (start .args .words .now) in
-    refreshed x (at-cycle-for .cycle-for .ensures) (at-note .note .ensures .0) (at-note .note .ensures .1) (settingsOf (start .args .s .now)) (at-refresh .refresh .ensures) refl (at-refresh-after .refresh-after .ensures) refl
+    refreshed x (at-cycle-for .cycle-for .ensures) (at-note .note .ensures .0) (at-note .note .ensures .1) (settingsOf (start .args .s .now))
+    (at-refresh .refresh .ensures) refl (at-refresh-after .refresh-after .ensures) refl
 
 pub refresh-spec : {M : Type 1} → statement M
 refresh-spec =

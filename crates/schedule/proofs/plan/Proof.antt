@@ -59,7 +59,8 @@ returns c =
     let at-serve = c .before .before .before .before in
     let loop = at-serve .before .before .before .before .before .before .before in
     let start = loop .before .before .before .before .before .before in
-    walk-stops (start .args .s .now) (start .args .requests .now) (start .args .closed) (start .args .words .now) (start .pre) (loop .requests .inv) (omega arith) (at-serve .serve .ensures .0) (c .enum-told2 .given .1)
+    walk-stops (start .args .s .now) (start .args .requests .now) (start .args .closed) (start .args .words .now) (start .pre) (loop .requests .inv)
+    (omega arith) (at-serve .serve .ensures .0) (c .enum-told2 .given .1)
 
 add-i : tie.Need-add-i Inv-requests μ-requests
 add-i c = omega arith
@@ -72,7 +73,8 @@ requests-again c =
     let at-serve = c .before .before .before .before in
     let loop = at-serve .before .before .before .before .before .before .before in
     let start = loop .before .before .before .before .before .before in
-    walk-on (start .args .s .now) (start .args .requests .now) (start .args .closed) (start .args .words .now) (start .pre) (loop .requests .inv) (omega arith) (at-serve .serve .ensures .0) (c .enum-told .given .1) (at-serve .serve .ensures .1)
+    walk-on (start .args .s .now) (start .args .requests .now) (start .args .closed) (start .args .words .now) (start .pre) (loop .requests .inv)
+    (omega arith) (at-serve .serve .ensures .0) (c .enum-told .given .1) (at-serve .serve .ensures .1)
 
 array-read-t28 : tie.Need-array-read-t28 Inv-requests μ-requests
 array-read-t28 c = search needs

@@ -26,7 +26,8 @@ returns-2 c =
     let at-if1 = at-close-all .before .before .before .before in
     let at-all-idle = at-if1 .before in
     let start = at-all-idle .before .before .before in
-    idle-closed (settingsOf (start .args .s .now)) (draft (start .args .d .now) (start .args .k .now) (start .args .words .now)) (at-all-idle .all-idle .ensures) (at-if1 .if1 .left) (at-close-all .close-all .ensures)
+    idle-closed (settingsOf (start .args .s .now)) (draft (start .args .d .now) (start .args .k .now) (start .args .words .now))
+    (at-all-idle .all-idle .ensures) (at-if1 .if1 .left) (at-close-all .close-all .ensures)
 
 pub idle-spec : {M : Type 1} → statement M
 idle-spec = tie.close (tie.spec all-idle-requires returns close-all-requires same-length returns-2)

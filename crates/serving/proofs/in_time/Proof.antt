@@ -29,7 +29,8 @@ returns c =
     let at-if1 = at-refresh .before .before in
     let at-all-idle = at-if1 .before in
     let start = at-all-idle .before in
-    timely-idle (settingsOf (start .args .s .now)) (start .args .d .now) (start .args .k .now) (at-all-idle .all-idle .ensures) (at-if1 .if1 .taken) (at-refresh .refresh .ensures) (at-cycle-for .cycle-for .ensures)
+    timely-idle (settingsOf (start .args .s .now)) (start .args .d .now) (start .args .k .now) (at-all-idle .all-idle .ensures) (at-if1 .if1 .taken)
+    (at-refresh .refresh .ensures) (at-cycle-for .cycle-for .ensures)
 
 closed-refresh-at-requires : tie.Need-closed-refresh-at-requires
 closed-refresh-at-requires c κs = search needs
@@ -46,7 +47,8 @@ returns-2 c =
     let at-if1 = at-closed-refresh-at .before in
     let at-all-idle = at-if1 .before in
     let start = at-all-idle .before in
-    timely-open (settingsOf (start .args .s .now)) (start .args .d .now) (start .args .k .now) (at-all-idle .all-idle .ensures) (at-if1 .if1 .left) (at-closed-refresh-at .closed-refresh-at .ensures)
+    timely-open (settingsOf (start .args .s .now)) (start .args .d .now) (start .args .k .now) (at-all-idle .all-idle .ensures) (at-if1 .if1 .left)
+    (at-closed-refresh-at .closed-refresh-at .ensures)
 
 pub in-time-spec : {M : Type 1} → statement M
 in-time-spec =

@@ -27,7 +27,8 @@ returns c =
     let at-activate = c .before .before in
     let at-if1 = at-activate .before .before .before .before in
     let start = at-if1 .before .before .before in
-    opened-idle (settingsOf (start .args .s .now)) (start .args .b) (start .args .row) (draft (start .args .d .now) (start .args .k .now) (start .args .words .now)) (at-if1 .if1 .taken) (at-activate .activate .ensures)
+    opened-idle (settingsOf (start .args .s .now)) (start .args .b) (start .args .row)
+    (draft (start .args .d .now) (start .args .k .now) (start .args .words .now)) (at-if1 .if1 .taken) (at-activate .activate .ensures)
 
 add-if2 : tie.Need-add-if2
 add-if2 c = search needs
@@ -42,7 +43,8 @@ returns-2 : tie.Need-returns-2
 returns-2 c =
     let at-if1 = c .before .before in
     let start = at-if1 .before .before .before in
-    opened-there (settingsOf (start .args .s .now)) (start .args .b) (start .args .row) (draft (start .args .d .now) (start .args .k .now) (start .args .words .now)) (at-if1 .if1 .left) (c .if2 .taken)
+    opened-there (settingsOf (start .args .s .now)) (start .args .b) (start .args .row)
+    (draft (start .args .d .now) (start .args .k .now) (start .args .words .now)) (at-if1 .if1 .left) (c .if2 .taken)
 
 close-requires : tie.Need-close-requires
 close-requires c κs =
@@ -65,7 +67,9 @@ returns-3 c =
     let at-if2 = at-close .before .before .before .before in
     let at-if1 = at-if2 .before .before in
     let start = at-if1 .before .before .before in
-    opened-other (settingsOf (start .args .s .now)) (start .args .b) (start .args .row) (draft (start .args .d .now) (start .args .k .now) (start .args .words .now)) (at-if1 .if1 .left) (at-if2 .if2 .left) (at-close .close .ensures) (at-activate2 .activate2 .ensures)
+    opened-other (settingsOf (start .args .s .now)) (start .args .b) (start .args .row)
+    (draft (start .args .d .now) (start .args .k .now) (start .args .words .now)) (at-if1 .if1 .left) (at-if2 .if2 .left) (at-close .close .ensures)
+    (at-activate2 .activate2 .ensures)
 
 pub open-row-spec : {M : Type 1} → statement M
 open-row-spec =

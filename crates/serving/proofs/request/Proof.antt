@@ -60,7 +60,8 @@ returns c =
     let at-row = at-open-row .before in
     let at-bank = at-row .before .before .before .before in
     let start = at-bank .before .before in
-    requested (settingsOf (start .args .s .now)) (draft (start .args .d .now) (start .args .k .now) (start .args .words .now)) (start .args .q) (start .args .closed) (at-bank .bank .ensures) (at-row .row .ensures .0) (at-asks-write .asks-write .ensures)
+    requested (settingsOf (start .args .s .now)) (draft (start .args .d .now) (start .args .k .now) (start .args .words .now)) (start .args .q)
+    (start .args .closed) (at-bank .bank .ensures) (at-row .row .ensures .0) (at-asks-write .asks-write .ensures)
     (at-burst-pins .burst-pins .ensures) (at-open-row .open-row .ensures) (at-burst .burst .ensures)
 
 pub request-spec : {M : Type 1} → statement M

@@ -23,7 +23,9 @@ returns c =
     let at-in-time = c .before in
     let at-request = at-in-time .before .before .before .before .before in
     let start = at-request .before .before .before .before .before .before .before in
-    turn-alone (settingsOf (start .args .s .now)) (start .args .closed) (start .args .q) (draft (start .args .d .now) (start .args .k .now) (start .args .words .now)) (at-request .request .ensures) (at-in-time .in-time .ensures) (c .if1 .taken)
+    turn-alone (settingsOf (start .args .s .now)) (start .args .closed) (start .args .q)
+    (draft (start .args .d .now) (start .args .k .now) (start .args .words .now)) (at-request .request .ensures) (at-in-time .in-time .ensures)
+    (c .if1 .taken)
 
 refresh-requires : tie.Need-refresh-requires
 refresh-requires c κs = search needs
@@ -51,7 +53,9 @@ returns-2 c =
     let at-in-time = at-if1 .before in
     let at-request = at-in-time .before .before .before .before .before in
     let start = at-request .before .before .before .before .before .before .before in
-    turn-behind (settingsOf (start .args .s .now)) (start .args .closed) (start .args .q) (draft (start .args .d .now) (start .args .k .now) (start .args .words .now)) (at-request .request .ensures) (at-in-time .in-time .ensures) (at-if1 .if1 .left)
+    turn-behind (settingsOf (start .args .s .now)) (start .args .closed) (start .args .q)
+    (draft (start .args .d .now) (start .args .k .now) (start .args .words .now)) (at-request .request .ensures) (at-in-time .in-time .ensures)
+    (at-if1 .if1 .left)
     (at-refresh .refresh .ensures) (at-request2 .request2 .ensures) (at-in-time2 .in-time2 .ensures) (c .if2 .taken)
 
 same-length-3 : tie.Need-same-length-3
@@ -66,7 +70,9 @@ returns-3 c =
     let at-in-time = at-if1 .before in
     let at-request = at-in-time .before .before .before .before .before in
     let start = at-request .before .before .before .before .before .before .before in
-    turn-late (settingsOf (start .args .s .now)) (start .args .closed) (start .args .q) (draft (start .args .d .now) (start .args .k .now) (start .args .words .now)) (at-request .request .ensures) (at-in-time .in-time .ensures) (at-if1 .if1 .left)
+    turn-late (settingsOf (start .args .s .now)) (start .args .closed) (start .args .q)
+    (draft (start .args .d .now) (start .args .k .now) (start .args .words .now)) (at-request .request .ensures) (at-in-time .in-time .ensures)
+    (at-if1 .if1 .left)
     (at-refresh .refresh .ensures) (at-request2 .request2 .ensures) (at-in-time2 .in-time2 .ensures) (c .if2 .left)
 
 pub serve-spec : {M : Type 1} → statement M
