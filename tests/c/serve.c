@@ -5,8 +5,9 @@
  *     1, 2   elements of the inputs: bytes of a capture and 0; words of settings and of requests
  *     3      elements of the lent buffer
  *     4      elements behind it that the call must not touch
- * then for a schedule its row policy, a word; then the inputs, then the buffer with what lies behind it. The answer is the packed number and, in the same length,
- * the buffer with what lies behind it. Words are little-endian, as the processor has them.
+ * then for a schedule its row policy, a word; then the inputs, then the buffer with what lies behind it. The answer is the
+ * packed number and, in the same length, the buffer with what lies behind it. Words are little-endian, as the processor
+ * has them.
  *
  * Inputs end where a page begins that nothing may touch, so a read behind an input ends the program. */
 #define _GNU_SOURCE
