@@ -1,13 +1,13 @@
 -- The cells of a capture's bursts, event by event: each burst as the events behind it leave it.
 use Prim.Native.Nat.{ℕ, suc, _*_}
-use mathlib.Core.Bool.{Bool, true, false, cond, _&&_}
+use mathlib.Core.Bool.{Bool, true, false, cond, _&&_, and-false}
 use mathlib.Core.List.{List, [], _∷_, _++_, map, reverse, append-nil, append-assoc, map-id, reverse-cons}
 use mathlib.Core.Path.{_≡_, refl, sym, ap, _∙_}
 use lib.Dec.{eqb}
 use Rattle.reading.specs.Mode.{h}
 use Rattle.reading.specs.Settings.{Settings, newer}
 use Rattle.reading.specs.Capture.{Event}
-use Rattle.reading.specs.Commands.{commandOf}
+use Rattle.reading.specs.Commands.{WRITE, is, commandOf}
 use Rattle.reading.specs.Bursts.{Burst, withPairs, columnOf, beatCell, burstCells}
 use Rattle.reading.specs.Part.{Part, start, cutBy, burstGiven, burstsAfter, step, run}
 use Rattle.reading.specs.Cells.{burstsOf, cellsOf}
@@ -15,12 +15,13 @@ use Rattle.reading.proofs.Cuts.{All, nil, cons}
 use Rattle.reading.proofs.Alone.{Stands, standing, standing-pairs, standsAfter, cutAlone}
 use Rattle.pins.specs.Pins.{codeOf, bankOf, addressOf, tenOf}
 use Rattle.pins.proofs.Commands.{write-is}
-use Rattle.beats.specs.Kept.{gives, keptOf}
+use Rattle.beats.specs.Kept.{gives, cutAhead, keptWhole, keptOf}
 use Rattle.beats.specs.Rows.{firstCell, beatCells}
 use Rattle.beats.proofs.Commands.{gives-is}
 use Rattle.beats.proofs.Events.{Rises}
 use Rattle.beats.proofs.Cut.{cutByAll, cut-ahead, auto-kept}
-use Rattle.beats.proofs.Interrupted.{first-of, second-of, interrupted-ahead}
+use Rattle.beats.proofs.Interrupting.{interrupted-ahead}
+use Rattle.beats.proofs.Looking.{kept-nothing}
 use Rattle.beats.proofs.Storing.{no-cells}
 
 -- the cells of the burst that an event gives; the events behind it are es
@@ -55,24 +56,27 @@ module _ (s : Settings) (p : Part) (e : Event) (es : List Event) (r : Rises (suc
   given = burstGiven s p (e .cycle) (commandOf (e .pins))
 
   kept-in-the-end : leftOf s (step s p e) es given ≡ withPairs (keptOf s (p .mode) e es) given
-  unfolding keptOf
-  kept-in-the-end = go (tenOf (e .pins)) refl (newer s && eqb (codeOf (e .pins)) 2) refl
+  unfolding keptOf keptWhole
+  kept-in-the-end = go (tenOf (e .pins)) refl (newer s) refl (eqb (codeOf (e .pins)) 2) refl
     where
       stands : Stands
       stands = standing (step s p e) given
 
-      go : (v : Bool) → tenOf (e .pins) ≡ v → (i : Bool) → (newer s && eqb (codeOf (e .pins)) 2) ≡ i →
+      -- one that READ and PRECHARGE do not interrupt
+      calm : tenOf (e .pins) ≡ false → (newer s && is WRITE (commandOf (e .pins))) ≡ false → leftOf s (step s p e) es given ≡ withPairs (cutAhead (p .mode) e es) given
+      calm a q = cut-ahead s (e .pins) given (write-is (e .pins)) refl a q es stands (suc (e .cycle)) (h (p .mode)) r
+
+      go : (v : Bool) → tenOf (e .pins) ≡ v → (n : Bool) → newer s ≡ n → (w : Bool) → eqb (codeOf (e .pins)) 2 ≡ w →
           leftOf s (step s p e) es given ≡ withPairs (keptOf s (p .mode) e es) given
-      go true a i q = auto-kept s es stands given a ∙ rw (g, a)
-      go false a true q =
-          let write = second-of (newer s) (eqb (codeOf (e .pins)) 2) q in
-          let both = u .given write a in
-          interrupted-ahead s given (first-of (newer s) (eqb (codeOf (e .pins)) 2) q) (write-is (e .pins) ∙ write) a es stands (suc (e .cycle))
+      go true a n i w q = auto-kept s es stands given a ∙ rw (g, a, and-false (eqb (codeOf (e .pins)) 2), and-false (newer s))
+      go false a true i true q =
+          let both = u .given q a in
+          interrupted-ahead s given i (write-is (e .pins) ∙ q) a es stands (suc (e .cycle))
           (ap (λ (f : Stands). f .last) both) (ap (λ (f : Stands). f .row) both) refl r
-          ∙ rw (g, a, q)
-      go false a false q =
-          cut-ahead s (e .pins) given (write-is (e .pins)) refl a (ap (λ (z : Bool). newer s && z) (write-is (e .pins)) ∙ q) es stands (suc (e .cycle)) (h (p .mode)) r
-          ∙ rw (g, a, q)
+          ∙ rw (a, i, q)
+      go false a true i false q =
+          calm a (ap (λ (z : Bool). newer s && z) (write-is (e .pins) ∙ q) ∙ and-false (newer s)) ∙ rw (g, a, q, and-false (newer s))
+      go false a false i w q = calm a (rw i) ∙ rw (g, a, i)
 
 module _ (s : Settings) where
   cells-append : (xs ys : List Burst) → cellsOf s (xs ++ ys) ≡ cellsOf s xs ++ cellsOf s ys
@@ -100,14 +104,17 @@ module _ (s : Settings) where
 
     one-event : Rises (suc (e .cycle)) es → Told s p e → (xs : List Burst) (v : Bool) → gives (e .pins) ≡ v →
         cellsOf s (reverse (map rest (cond v (x ∷ xs) xs))) ≡ cellsOf s (reverse (map rest xs)) ++ eventCells s p e es
-    unfolding keptOf
     one-event r u xs true g =
         cells-last (rest x) (map rest xs)
         ∙ ap (λ (cs : List ℕ). cellsOf s (reverse (map rest xs)) ++ cs)
         (ap (burstCells s) (kept-in-the-end s p e es r g u) ∙ kept-cells (keptOf s (p .mode) e es))
     one-event r u xs false g =
+        let row = firstCell s (bankOf (e .pins)) (p .banks (bankOf (e .pins)) .row) in
+        let column = columnOf s (addressOf (e .pins)) in
+        let none : eventCells s p e es ≡ [] =
+        ap (λ (n : ℕ). beatCells row (p .mode) column (2 * n)) (sym (kept-nothing s (p .mode) e es g)) ∙ no-cells row (p .mode) column in
         sym (append-nil (cellsOf s (reverse (map rest xs))))
-        ∙ ap (λ (cs : List ℕ). cellsOf s (reverse (map rest xs)) ++ cs) (sym (rw g (no-cells _ _ _)))
+        ∙ ap (λ (cs : List ℕ). cellsOf s (reverse (map rest xs)) ++ cs) (sym none)
 
   -- a burst that an event cuts, and those behind it
   stands-on : (p : Part) (e : Event) (es : List Event) {xs : List Burst} →

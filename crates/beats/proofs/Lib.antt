@@ -4,7 +4,7 @@ pub mod Storing
 pub mod Events
 pub mod Commands
 pub mod Cut
-pub mod Interrupted
+pub mod Interrupting
 pub mod Looking
 mod Searching
 pub mod Ahead

@@ -1,6 +1,6 @@
 -- A turn of the look ahead: as long as nothing cut the burst, the events from j on decide what it keeps.
 use Prim.Native.Nat.{ℕ, suc, _+_, _-_, _≤_, _<_}
-use mathlib.Core.Bool.{Bool, true, false, cond, _&&_}
+use mathlib.Core.Bool.{Bool, true, false, cond, not, _&&_, _||_}
 use mathlib.Core.List.{List, [], _∷_}
 use mathlib.Core.Path.{_≡_, refl, sym, ap, _∙_}
 use native.Mathlib.Omega.{arith}
@@ -11,7 +11,7 @@ use Rattle.reading.specs.Mode.{h}
 use Rattle.reading.specs.Settings.{Settings, newer}
 use Rattle.reading.specs.Capture.{Event, eventAt}
 use Rattle.pins.specs.Pins.{codeOf, bankOf, tenOf}
-use Rattle.beats.specs.Kept.{Fit, eventsFrom, gives, cutsBurst, keptBy, keptAhead, cutAhead, leftBy, nextLeaves, rowLeaves, interruptedAhead, keptOf}
+use Rattle.beats.specs.Kept.{Fit, eventsFrom, gives, cutsBurst, keptBy, keptAhead, cutAhead, leftBy, nextLeaves, rowLeaves, interruptedAhead, interruptible, keptWhole, keptOf}
 use Rattle.beats.proofs.Columns.{half-le}
 use Rattle.beats.proofs.Events.{next-event, no-event, rise-behind}
 use Rattle.beats.proofs.Cut.{cut-once}
@@ -98,42 +98,56 @@ next-le s k pairs (e ∷ es) = go (gives (e .pins)) (next-le s k pairs es)
     go false ih = ih
 
 pub kept-half : (s : Settings) (mode : ℕ) (e : Event) (es : List Event) → keptOf s mode e es ≤ h mode
-unfolding keptOf
-kept-half s mode e es = go (gives (e .pins)) (tenOf (e .pins)) (newer s && eqb (codeOf (e .pins)) 2)
+unfolding keptOf keptWhole
+kept-half s mode e es = go (interruptible s (e .pins)) (gives (e .pins)) (tenOf (e .pins))
   where
-    go : (v a i : Bool) → cond v (cond a (h mode) (cond i (interruptedAhead s mode e es) (cutAhead mode e es))) 0 ≤ h mode
-    go true true i = omega arith
-    go true false true =
+    go : (i v a : Bool) → cond i (interruptedAhead s mode e es) (cond v (cond a (h mode) (cutAhead mode e es)) 0) ≤ h mode
+    go true v a =
         omega (
           arith,
           lesser-le (nextLeaves s (e .cycle) (h mode) es) (rowLeaves s (bankOf (e .pins)) (e .cycle) (h mode) es),
           next-le s (e .cycle) (h mode) es,
         )
-    go true false false = ahead-le (e .pins) (e .cycle) (e .cycle + h mode) (h mode) es
-    go false a i = omega arith
+    go false true true = omega arith
+    go false true false = ahead-le (e .pins) (e .cycle) (e .cycle + h mode) (h mode) es
+    go false false a = omega arith
 
 pub kept-le : (s : Settings) (mode : ℕ) (e : Event) (es : List Event) → keptOf s mode e es ≤ 64
 kept-le s mode e es = omega (arith, half-le mode, kept-half s mode e es)
 
 -- the pairs of an event, by what was read of its pins
-module _ (s : Settings) (mode : ℕ) (e : Event) (es : List Event) {pins : ℕ} (p : pins ≡ e .pins) {given : Bool} (g : given ≡ gives pins) where
-  pub kept-none : given ≡ false → 0 ≡ keptOf s mode e es
-  unfolding keptOf
+module _ (mode : ℕ) (e : Event) (es : List Event) {pins : ℕ} (p : pins ≡ e .pins) {given : Bool} (g : given ≡ gives pins) where
+  pub kept-none : given ≡ false → 0 ≡ keptWhole mode e es
+  unfolding keptWhole
   kept-none f = rw (← p, ← g, f)
 
   module _ (f : given ≡ true) {auto : Bool} (a : auto ≡ tenOf pins) where
-    pub kept-all : {half : ℕ} → auto ≡ true → half ≡ h mode → half ≡ keptOf s mode e es
-    unfolding keptOf
+    pub kept-all : {half : ℕ} → auto ≡ true → half ≡ h mode → half ≡ keptWhole mode e es
+    unfolding keptWhole
     kept-all t i = rw (← p, ← g, f, ← a, t) i
 
-    module _ {early : Bool} (q : early ≡ (newer s && eqb (codeOf pins) 2)) (t : auto ≡ false) where
-      kept-by : {pairs : ℕ} (v : Bool) → early ≡ v → pairs ≡ cond v (interruptedAhead s mode e es) (cutAhead mode e es) → pairs ≡ keptOf s mode e es
-      unfolding keptOf
-      kept-by v k i =
-          i ∙ rw (ap gives (sym p) ∙ sym g ∙ f, ap tenOf (sym p) ∙ sym a ∙ t, ap (λ (w : ℕ). newer s && eqb (codeOf w) 2) (sym p) ∙ sym q ∙ k)
+    pub kept-cut : {pairs : ℕ} → auto ≡ false → pairs ≡ cutAhead mode e es → pairs ≡ keptWhole mode e es
+    unfolding keptWhole
+    kept-cut t i = i ∙ rw (ap gives (sym p) ∙ sym g ∙ f, ap tenOf (sym p) ∙ sym a ∙ t)
 
-      pub kept-cut : {pairs : ℕ} → early ≡ false → pairs ≡ cutAhead mode e es → pairs ≡ keptOf s mode e es
-      kept-cut k i = kept-by false k i
+-- and of any burst, by whether it can be interrupted
+module _ (s : Settings) (mode : ℕ) (e : Event) (es : List Event) {pins : ℕ} (p : pins ≡ e .pins) {early : Bool} (q : early ≡ interruptible s pins) where
+  pub kept-early : {pairs : ℕ} → early ≡ true → pairs ≡ interruptedAhead s mode e es → pairs ≡ keptOf s mode e es
+  unfolding keptOf
+  kept-early k i = i ∙ rw (ap (interruptible s) (sym p) ∙ sym q ∙ k)
 
-      pub kept-interrupted : {pairs : ℕ} → early ≡ true → pairs ≡ interruptedAhead s mode e es → pairs ≡ keptOf s mode e es
-      kept-interrupted k i = kept-by true k i
+  pub kept-else : {pairs : ℕ} → early ≡ false → pairs ≡ keptWhole mode e es → pairs ≡ keptOf s mode e es
+  unfolding keptOf
+  kept-else k i = i ∙ rw (ap (interruptible s) (sym p) ∙ sym q ∙ k)
+
+-- none where it gives none
+pub kept-nothing : (s : Settings) (mode : ℕ) (e : Event) (es : List Event) → gives (e .pins) ≡ false → 0 ≡ keptOf s mode e es
+unfolding keptOf keptWhole
+kept-nothing s mode e es g = go (eqb (codeOf (e .pins)) 10) (eqb (codeOf (e .pins)) 2) (newer s) (tenOf (e .pins)) g
+  where
+    go : (u v n a : Bool) → (u || v) ≡ false →
+        0 ≡ cond (n && (v && not a)) (interruptedAhead s mode e es) (cond (u || v) (cond a (h mode) (cutAhead mode e es)) 0)
+    go true v n a k = absurd (let z : _≡_ {A = ℕ} 0 1 = cc in omega arith)
+    go false true n a k = absurd (let z : _≡_ {A = ℕ} 0 1 = cc in omega arith)
+    go false false true a k = refl
+    go false false false a k = refl

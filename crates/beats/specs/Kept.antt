@@ -1,6 +1,6 @@
 -- The pairs that a burst keeps, found by looking ahead at the events behind it.
 use Prim.Native.Nat.{ℕ, _+_, _-_, _*_, _≤_, _<_}
-use mathlib.Core.Bool.{Bool, true, cond, _&&_, _||_}
+use mathlib.Core.Bool.{Bool, true, cond, not, _&&_, _||_}
 use mathlib.Core.List.{List, [], _∷_, map}
 use mathlib.Core.Path.{_≡_}
 use lib.ListN.{length}
@@ -25,9 +25,13 @@ eventsFrom bytes n i = map (eventAt bytes) (count i (n - i))
 abbrev pub gives : ℕ → Bool
 gives w = eqb (codeOf w) 10 || eqb (codeOf w) 2
 
+-- with A10 high PRECHARGE names all banks
+abbrev pub namesBank : ℕ → ℕ → Bool
+namesBank bank w = tenOf w || eqb bank (bankOf w)
+
 -- the pins ask for a PRECHARGE of the bank
 abbrev pub shutsBank : ℕ → ℕ → Bool
-shutsBank bank w = eqb (codeOf w) 4 && (tenOf w || eqb bank (bankOf w))
+shutsBank bank w = eqb (codeOf w) 4 && namesBank bank w
 
 -- the pins w cut the burst that the pins b gave
 abbrev pub cutsBurst : ℕ → ℕ → Bool
@@ -70,8 +74,13 @@ rowLeaves s bank k pairs (e ∷ es) =
 abbrev pub interruptedAhead : Settings → ℕ → Event → List Event → ℕ
 interruptedAhead s mode e es = lesser (nextLeaves s (e .cycle) (h mode) es) (rowLeaves s (bankOf (e .pins)) (e .cycle) (h mode) es)
 
--- the pairs of the burst that an event gives, none if it gives none
+-- in the newer edition READ and PRECHARGE interrupt a write without auto precharge
+abbrev pub interruptible : Settings → ℕ → Bool
+interruptible s w = newer s && (eqb (codeOf w) 2 && not (tenOf w))
+
+-- the pairs of any other burst that an event gives, none if it gives none
+unfoldable pub keptWhole : ℕ → Event → List Event → ℕ
+keptWhole mode e es = cond (gives (e .pins)) (cond (tenOf (e .pins)) (h mode) (cutAhead mode e es)) 0
+
 unfoldable pub keptOf : Settings → ℕ → Event → List Event → ℕ
-keptOf s mode e es =
-    cond (gives (e .pins))
-    (cond (tenOf (e .pins)) (h mode) (cond (newer s && eqb (codeOf (e .pins)) 2) (interruptedAhead s mode e es) (cutAhead mode e es))) 0
+keptOf s mode e es = cond (interruptible s (e .pins)) (interruptedAhead s mode e es) (keptWhole mode e es)

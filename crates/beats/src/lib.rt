@@ -9,18 +9,19 @@ use settings::places::ROW_BITS;
 use settings::places::T_WR;
 use settings::places::T_WTR;
 ghost use mathlib.Core.Path.{_≡_};
-ghost use mathlib.Core.Bool.{true, false, cond, _&&_};
+ghost use mathlib.Core.Bool.{true, false, cond};
 ghost use Prim.Native.Nat.{_+_, _-_, _*_, _^_, _%_, _≤_, _<_};
 ghost use lib.ListN.{length};
 ghost use lib.Seq.{sets};
 ghost use lib.Dec.{eqb};
 ghost use Rattle.reading.specs.Search.{lesser};
 ghost use Rattle.reading.specs.Mode.{BL};
-ghost use Rattle.reading.specs.Settings.{settingsOf, newer};
+ghost use Rattle.reading.specs.Settings.{settingsOf};
 ghost use Rattle.reading.specs.Capture.{eventAt};
 ghost use Rattle.reading.specs.Bursts.{columnOf};
 ghost use Rattle.pins.specs.Pins.{codeOf, bankOf, addressOf, modeAfter};
-ghost use Rattle.beats.specs.Kept.{Fit, gives, shutsBank, cutsBurst, eventsFrom, cutAhead, nextLeaves, takesBank, rowLeaves, keptOf};
+ghost use Rattle.beats.specs.Kept.{Fit, gives, namesBank, shutsBank, cutsBurst, eventsFrom, cutAhead, nextLeaves, takesBank, rowLeaves, interruptedAhead, keptWhole};
+ghost use Rattle.beats.specs.Kept as is;
 ghost use Rattle.beats.specs.Rows.{Sized, InRow, InBlock, firstCell, firstCells, cellsOpened, blockCells, beatCells};
 
 // ---- what the pins of an event are to a burst
@@ -35,6 +36,16 @@ pub fn gives_burst(w: u32) -> bool
     asked == pins::WRITE
 }
 
+// With A10 high PRECHARGE names all banks.
+fn names_bank(bank: usize, w: u32) -> bool
+    ensures { λ r. ⌜ r ≡ namesBank bank w ⌝ }
+{
+    if pins::ten(w) {
+        return true;
+    }
+    bank == pins::bank(w)
+}
+
 // A PRECHARGE of the bank, or of all.
 fn shuts_bank(bank: usize, w: u32) -> bool
     ensures { λ r. ⌜ r ≡ shutsBank bank w ⌝ }
@@ -42,10 +53,7 @@ fn shuts_bank(bank: usize, w: u32) -> bool
     if pins::code(w) != pins::PRECHARGE {
         return false;
     }
-    if pins::ten(w) {
-        return true;
-    }
-    bank == pins::bank(w)
+    names_bank(bank, w)
 }
 
 fn cuts_burst(burst: u32, w: u32) -> bool
@@ -61,7 +69,10 @@ fn cuts_burst(burst: u32, w: u32) -> bool
     if asked == pins::TERMINATE {
         return true;
     }
-    shuts_bank(pins::bank(burst), w)
+    if asked != pins::PRECHARGE {
+        return false;
+    }
+    names_bank(pins::bank(burst), w)
 }
 
 // After these a PRECHARGE of the bank does nothing to a write that was given there before.
@@ -315,34 +326,41 @@ fn fewer(a: u32, b: u32) -> u32
     b
 }
 
-// In the newer edition READ and PRECHARGE interrupt a write.
-fn interruptible(s: &Settings, w: u32) -> bool
-    ensures { λ r. ⌜ r ≡ (newer (settingsOf (now (s .entry))) && eqb (codeOf w) 2) ⌝ }
+// In the newer edition READ and PRECHARGE interrupt a write without auto precharge.
+pub fn interruptible(s: &Settings, w: u32) -> bool
+    ensures { λ r. ⌜ r ≡ is.interruptible (settingsOf (now (s .entry))) w ⌝ }
 {
     if s[EDITION] != 1 {
         return false;
     }
-    pins::code(w) == pins::WRITE
+    if pins::code(w) != pins::WRITE {
+        return false;
+    }
+    !pins::ten(w)
 }
 
-// The pairs that the burst of event i keeps in the end; none if the event gives no burst.
-pub fn kept(s: &Settings, bytes: &[u8], n: u32, i: u32, mode: u32) -> u32
+// The pairs that such a write of event i keeps in the end.
+pub fn interrupted(s: &Settings, bytes: &[u8], n: u32, i: u32, mode: u32) -> u32
     requires { ⌜ Fit (now bytes) n × (i < n) ⌝ }
-    ensures { λ r. ⌜ r ≡ keptOf (settingsOf (now (s .entry))) mode (eventAt (now (bytes .entry)) i) (eventsFrom (now (bytes .entry)) n (i + 1)) ⌝ }
+    ensures { λ r. ⌜ r ≡ interruptedAhead (settingsOf (now (s .entry))) mode (eventAt (now (bytes .entry)) i) (eventsFrom (now (bytes .entry)) n (i + 1)) ⌝ }
+{
+    let half = length_of(mode) / 2;
+    let next = next_leaves(s, bytes, n, i, half);
+    let row = row_leaves(s, bytes, n, i, half);
+    fewer(next, row)
+}
+
+// The pairs that the burst of event i keeps in the end, where it is none of these; none if the event gives no burst.
+pub fn kept(bytes: &[u8], n: u32, i: u32, mode: u32) -> u32
+    requires { ⌜ Fit (now bytes) n × (i < n) ⌝ }
+    ensures { λ r. ⌜ r ≡ keptWhole mode (eventAt (now (bytes .entry)) i) (eventsFrom (now (bytes .entry)) n (i + 1)) ⌝ }
 {
     let w = capture::pins_at(bytes, i as usize);
     if !gives_burst(w) {
         return 0;
     }
-    let half = length_of(mode) / 2;
     if pins::ten(w) {
-        return half;
-    }
-    if interruptible(s, w) {
-        return fewer(
-            next_leaves(s, bytes, n, i, half),
-            row_leaves(s, bytes, n, i, half),
-        );
+        return length_of(mode) / 2;
     }
     look_ahead(bytes, n, i, mode)
 }

@@ -18,7 +18,7 @@ use Rattle.beats.specs.Rows.{InRow, firstCell, firstCells, cellsOpened, beatCel
 use Rattle.beats.proofs.Columns.{column-lt, first-lt}
 use Rattle.beats.proofs.Commands.{mode-is}
 use Rattle.beats.proofs.Events.{no-event}
-use Rattle.beats.proofs.Looking.{kept-le, kept-none}
+use Rattle.beats.proofs.Looking.{kept-le, kept-nothing}
 use Rattle.beats.proofs.Storing.{length-cells, no-cells}
 use Rattle.beats.proofs.Ahead.{eventCells, cellsFrom}
 use Rattle.cells.specs.Meaning.{Listable, cellsOn}
@@ -142,7 +142,7 @@ module _ (settings bytes : List ℕ) (n : ℕ) (old : List ℕ) where
       same = omega arith
 
       none-kept : 0 ≡ keptOf s mode (eventAt bytes i) later
-      none-kept = kept-none s mode (eventAt bytes i) later ew refl g
+      none-kept = kept-nothing s mode (eventAt bytes i) later (ap gives (sym ew) ∙ g)
 
       nothing : sets out next (eventCells s (b .reached) (eventAt bytes i) later) ≡ out
       nothing = rw (← b .moded, ← none-kept) (ap (sets out next) (no-cells _ _ _))

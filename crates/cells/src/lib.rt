@@ -7,13 +7,15 @@ use settings::places::MODE;
 use words::Found;
 ghost use mathlib.Core.Path.{_≡_};
 ghost use mathlib.Core.Option.{none};
-ghost use Prim.Native.Nat.{_≤_, _<_};
+ghost use Prim.Native.Nat.{_+_, _≤_, _<_};
 ghost use lib.ListN.{length};
 ghost use lib.Seq.{sets};
 ghost use Rattle.words.specs.Found.{placeOf};
 ghost use Rattle.reading.specs.Settings.{settingsOf};
+ghost use Rattle.reading.specs.Capture.{eventAt};
 ghost use Rattle.reading.specs.Verdict.{verdictOf};
 ghost use Rattle.reading.specs.Answers.{cellsOutcome, notClean};
+ghost use Rattle.beats.specs.Kept.{eventsFrom, keptOf};
 ghost use Rattle.judge.specs.Meaning.{eventsIn};
 ghost use Rattle.cells.specs.Meaning.{means, givenAs, givenBy, Listable, cellsOn, lackingIn, listing};
 
@@ -43,6 +45,19 @@ fn first_broken(s: &Settings, bytes: &[u8], n: u32) -> Found
     Found::At(event)
 }
 
+// The pairs of event i. `step` asks the same two functions by itself: what is called from one place alone is put into it,
+// and then the quick one is no longer (docs/DECISIONS.md, C19).
+fn pairs_of(s: &Settings, bytes: &[u8], n: u32, i: u32, mode: u32) -> u32
+    requires { ⌜ Listable (now s) (now bytes) n × (i < n) ⌝ }
+    ensures { λ r. ⌜ r ≡ keptOf (settingsOf (now (s .entry))) mode (eventAt (now (bytes .entry)) i) (eventsFrom (now (bytes .entry)) n (i + 1)) ⌝ }
+{
+    let w = capture::pins_at(bytes, i as usize);
+    if beats::interruptible(s, w) {
+        return beats::interrupted(s, bytes, n, i, mode);
+    }
+    beats::kept(bytes, n, i, mode)
+}
+
 // How many cells there are: two for each pair that a burst keeps.
 fn needed(s: &Settings, bytes: &[u8], n: u32) -> u32
     requires { ⌜ Listable (now s) (now bytes) n ⌝ }
@@ -53,7 +68,7 @@ fn needed(s: &Settings, bytes: &[u8], n: u32) -> u32
     let mut cells: u32 = 0;
     let mut i: u32 = 0;
     'events: while i < n {
-        cells += 2 * beats::kept(s, bytes, n, i, mode);
+        cells += 2 * pairs_of(s, bytes, n, i, mode);
         mode = beats::mode_after(mode, capture::pins_at(bytes, i as usize));
         i += 1;
     }
@@ -89,7 +104,15 @@ fn step(s: &Settings, bytes: &[u8], n: u32, i: u32, firsts: &[u32; 4], mode: u32
     let bank = pins::bank(w);
     let first = firsts[bank];
     let column = beats::column(s, w);
-    let pairs = beats::kept(s, bytes, n, i, mode);
+    if beats::interruptible(s, w) {
+        let left = beats::interrupted(s, bytes, n, i, mode);
+        return Given::Burst {
+            first,
+            column,
+            pairs: left,
+        };
+    }
+    let pairs = beats::kept(bytes, n, i, mode);
     Given::Burst {
         first,
         column,

@@ -87,6 +87,8 @@ use Rattle.beats.proofs.first_cell.Reads as beats-first-cell
 use Rattle.beats.proofs.first_cells.Reads as beats-first-cells
 use Rattle.beats.proofs.open_row.Reads as beats-open-row
 use Rattle.beats.proofs.write_burst.Reads as beats-write-burst
+use Rattle.beats.proofs.interruptible.Reads as beats-interruptible
+use Rattle.beats.proofs.interrupted.Reads as beats-interrupted
 use Rattle.beats.proofs.kept.Reads as beats-kept
 use Rattle.cells.proofs.burst_cells.Reads as cells-burst-cells
 use Rattle.morgazell.proofs.morgazell_judge.Reads as morgazell-morgazell-judge
@@ -427,6 +429,12 @@ beats-open-row-settles κs a z z′ e e′ p q = p ∙ sym q
 pub beats-write-burst-settles : (κs : _) (a : _) (z z′ : _) (e e′ : _) → beats-write-burst.Post κs a z e → beats-write-burst.Post κs a z′ e′ →
     now (e .0) ≡ now (e′ .0)
 beats-write-burst-settles κs a z z′ e e′ p q = p ∙ sym q
+
+pub beats-interruptible-settles : (κs : _) (a : _) (z z′ : _) (e e′ : _) → beats-interruptible.Post κs a z e → beats-interruptible.Post κs a z′ e′ → z ≡ z′
+beats-interruptible-settles κs a z z′ e e′ p q = p ∙ sym q
+
+pub beats-interrupted-settles : (κs : _) (a : _) (z z′ : _) (e e′ : _) → beats-interrupted.Post κs a z e → beats-interrupted.Post κs a z′ e′ → z ≡ z′
+beats-interrupted-settles κs a z z′ e e′ p q = p ∙ sym q
 
 pub beats-kept-settles : (κs : _) (a : _) (z z′ : _) (e e′ : _) → beats-kept.Post κs a z e → beats-kept.Post κs a z′ e′ → z ≡ z′
 beats-kept-settles κs a z z′ e e′ p q = p ∙ sym q

@@ -6,7 +6,7 @@ use Rattle.reading.specs.Settings.{settingsOf}
 use Rattle.reading.specs.Capture.{eventAt}
 use Rattle.beats.specs.Kept.{eventsFrom}
 use Rattle.beats.proofs.Looking.{kept-le}
-use Rattle.cells.proofs.Counting.{fitting, Counted, begins, goes-on, ends}
+use Rattle.cells.proofs.Counting.{Counted, begins, goes-on, ends}
 use Rattle.cells.proofs.needed.Statement.{statement}
 use Rattle.cells.proofs.needed.Tie as tie
 
@@ -24,16 +24,14 @@ events-holds c =
     let start = c .before .before in
     begins (start .args .s .now) (start .args .bytes .now) (start .args .n) (start .pre .0) (start .pre .1)
 
-kept-requires : tie.Need-kept-requires Inv-events μ-events
-kept-requires c κs =
-    let start = c .before .before .before .before in
-    (fitting (start .args .s .now) (start .args .bytes .now) (start .args .n) (start .pre .0), c .events-test .taken)
+pairs-of-requires : tie.Need-pairs-of-requires Inv-events μ-events
+pairs-of-requires c κs = (c .before .before .before .before .pre .0, c .events-test .taken)
 
 mul-cells : tie.Need-mul-cells Inv-events μ-events
 mul-cells c =
     let a = c .before .before .before .before .before .args in
     let x = c .before .before .events in
-    omega (arith, c .kept .ensures, kept-le (settingsOf (a .s .now)) (x .mode) (eventAt (a .bytes .now) (x .i)) (eventsFrom (a .bytes .now) (a .n) (x .i + 1)))
+    omega (arith, c .pairs-of .ensures, kept-le (settingsOf (a .s .now)) (x .mode) (eventAt (a .bytes .now) (x .i)) (eventsFrom (a .bytes .now) (a .n) (x .i + 1)))
 
 add-cells : tie.Need-add-cells Inv-events μ-events
 add-cells c =
@@ -42,7 +40,7 @@ add-cells c =
     let x = c .before .before .events in
     omega (
       arith,
-      c .kept .ensures,
+      c .pairs-of .ensures,
       kept-le (settingsOf (a .s .now)) (x .mode) (eventAt (a .bytes .now) (x .i)) (eventsFrom (a .bytes .now) (a .n) (x .i + 1)),
       x .inv .small,
       start .pre .0 .fit .few,
@@ -68,7 +66,7 @@ events-again c =
     let test = c .before .before .before in
     let a = test .before .before .before .before .args in
     goes-on (a .s .now) (a .bytes .now) (a .n) (test .before .events .inv) (test .events-test .taken)
-    (c .before .before .kept .ensures) (c .before .pins-at .ensures) (c .mode-after .ensures)
+    (c .before .before .pairs-of .ensures) (c .before .pins-at .ensures) (c .mode-after .ensures)
 
 returns : tie.Need-returns Inv-events μ-events
 returns c =
@@ -83,7 +81,7 @@ needed-spec =
     μ-events
     element-copy-out-mode
     events-holds
-    kept-requires
+    pairs-of-requires
     mul-cells
     add-cells
     cast-pins-at

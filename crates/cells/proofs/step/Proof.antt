@@ -1,8 +1,12 @@
+use Prim.Native.Nat.{_+_}
 use native.Mathlib.Omega.{arith}
 use mathlib.Core.Path.{refl}
 use borrow.Author.Needs.{needs}
 use borrow.Author.Tests.{not-true, not-false}
 use Rattle.reading.specs.Settings.{settingsOf}
+use Rattle.reading.specs.Capture.{eventAt}
+use Rattle.beats.specs.Kept.{eventsFrom}
+use Rattle.beats.proofs.Looking.{kept-early, kept-else}
 use Rattle.cells.proofs.Counting.{fitting}
 use Rattle.cells.proofs.Stepping.{found-none, found}
 use Rattle.cells.proofs.step.Statement.{statement}
@@ -32,18 +36,46 @@ element-copy-out-first c = search needs
 column-requires : tie.Need-column-requires
 column-requires c κs = c .before .before .before .before .before .before .pre .0 .sized
 
-kept-requires : tie.Need-kept-requires
-kept-requires c κs =
-    let start = c .before .before .before .before .before .before .before in
+interruptible-requires : tie.Need-interruptible-requires
+interruptible-requires c κs = search needs
+
+interrupted-requires : tie.Need-interrupted-requires
+interrupted-requires c κs =
+    let start = c .before .before .before .before .before .before .before .before .before in
     (fitting (start .args .s .now) (start .args .bytes .now) (start .args .n) (start .pre .0), start .pre .1)
 
 returns-2 : tie.Need-returns-2
 returns-2 c =
-    let chosen = c .before .before .before .before in
-    let a = chosen .before .before .before .before .args in
-    found (settingsOf (a .s .now)) (a .bytes .now) (a .n) (a .i) (a .firsts .now) (a .mode)
-    (chosen .before .before .pins-at .ensures) (chosen .before .gives-burst .ensures) (not-false _ (chosen .if1 .left))
-    (c .before .before .before .bank .ensures .0) refl (c .before .column .ensures) (c .kept .ensures)
+    let told = c .before .before in
+    let placed = told .before in
+    let banked = placed .before .before in
+    let chosen = banked .before in
+    let read = chosen .before .before in
+    let a = read .before .before .args in
+    let s = settingsOf (a .s .now) in
+    let later = eventsFrom (a .bytes .now) (a .n) (a .i + 1) in
+    found s (a .bytes .now) (a .n) (a .i) (a .firsts .now) (a .mode) (read .pins-at .ensures) (chosen .before .gives-burst .ensures)
+    (not-false _ (chosen .if1 .left)) (banked .bank .ensures .0) refl (placed .column .ensures)
+    (kept-early s (a .mode) (eventAt (a .bytes .now) (a .i)) later (read .pins-at .ensures) (told .interruptible .ensures) (c .before .if2 .taken) (c .interrupted .ensures))
+
+kept-requires : tie.Need-kept-requires
+kept-requires c κs =
+    let start = c .before .before .before .before .before .before .before .before .before in
+    (fitting (start .args .s .now) (start .args .bytes .now) (start .args .n) (start .pre .0), start .pre .1)
+
+returns-3 : tie.Need-returns-3
+returns-3 c =
+    let told = c .before .before in
+    let placed = told .before in
+    let banked = placed .before .before in
+    let chosen = banked .before in
+    let read = chosen .before .before in
+    let a = read .before .before .args in
+    let s = settingsOf (a .s .now) in
+    let later = eventsFrom (a .bytes .now) (a .n) (a .i + 1) in
+    found s (a .bytes .now) (a .n) (a .i) (a .firsts .now) (a .mode) (read .pins-at .ensures) (chosen .before .gives-burst .ensures)
+    (not-false _ (chosen .if1 .left)) (banked .bank .ensures .0) refl (placed .column .ensures)
+    (kept-else s (a .mode) (eventAt (a .bytes .now) (a .i)) later (read .pins-at .ensures) (told .interruptible .ensures) (c .before .if2 .left) (c .kept .ensures))
 
 pub step-spec : {M : Type 1} → statement M
 step-spec =
@@ -56,5 +88,8 @@ step-spec =
     mul-first
     element-copy-out-first
     column-requires
+    interruptible-requires
+    interrupted-requires
+    returns-2
     kept-requires
-    returns-2)
+    returns-3)

@@ -22,13 +22,9 @@ use Rattle.beats.specs.Kept.{shutsBank, takesBank, nextLeaves, rowLeaves
 use Rattle.beats.proofs.Events.{Rises}
 use Rattle.beats.proofs.Cut.{cutByAll}
 
-pub first-of : (a b : Bool) → (a && b) ≡ true → a ≡ true
+first-of : (a b : Bool) → (a && b) ≡ true → a ≡ true
 first-of true b e = refl
 first-of false b e = e
-
-pub second-of : (a b : Bool) → (a && b) ≡ true → b ≡ true
-second-of true b e = e
-second-of false b e = let z : _≡_ {A = ℕ} 0 1 = cc in absurd (omega arith)
 
 -- ---- the lesser of three
 

@@ -1,0 +1,40 @@
+use Prim.Native.Nat.{ℕ, _+_, _/_}
+use mathlib.Core.Path.{ap, _∙_}
+use Rattle.reading.specs.Search.{lesser}
+use Rattle.reading.specs.Settings.{settingsOf}
+use Rattle.reading.specs.Capture.{eventAt}
+use Rattle.pins.specs.Pins.{bankOf}
+use Rattle.beats.specs.Kept.{eventsFrom, nextLeaves, rowLeaves}
+use borrow.Author.Needs.{needs}
+use Rattle.beats.proofs.interrupted.Statement.{statement}
+use Rattle.beats.proofs.interrupted.Tie as tie
+
+length-of-requires : tie.Need-length-of-requires
+length-of-requires c κs = search needs
+
+next-leaves-requires : tie.Need-next-leaves-requires
+next-leaves-requires c κs = search needs
+
+row-leaves-requires : tie.Need-row-leaves-requires
+row-leaves-requires c κs = search needs
+
+fewer-requires : tie.Need-fewer-requires
+fewer-requires c κs = search needs
+
+returns : tie.Need-returns
+returns c =
+    let found = c .before in
+    let halved = found .before .before in
+    let a = halved .before .before .args in
+    let s = settingsOf (a .s .now) in
+    let e = eventAt (a .bytes .now) (a .i) in
+    let later = eventsFrom (a .bytes .now) (a .n) (a .i + 1) in
+    c .fewer .ensures
+    ∙ (λ u. lesser (found .before .next-leaves .ensures u) (found .row-leaves .ensures u))
+    ∙ ap (λ (m : ℕ). lesser (nextLeaves s (e .cycle) m later) (rowLeaves s (bankOf (e .pins)) (e .cycle) m later))
+    (ap (λ (v : ℕ). v / 2) (halved .length-of .ensures))
+
+pub interrupted-spec : {M : Type 1} → statement M
+interrupted-spec =
+    tie.close
+    (tie.spec length-of-requires next-leaves-requires row-leaves-requires fewer-requires returns)
