@@ -45,8 +45,8 @@ fn first_broken(s: &Settings, bytes: &[u8], n: u32) -> Found
     Found::At(event)
 }
 
-// The pairs of event i. `step` asks the same two functions by itself: what is called from one place alone is put into it,
-// and then the quick one is no longer (docs/DECISIONS.md, C19).
+// The pairs of event i. `step` chooses by itself: the compiler puts a function with one caller into it, and `interrupted`
+// inside `step` would slow every event (docs/DECISIONS.md, C19).
 fn pairs_of(s: &Settings, bytes: &[u8], n: u32, i: u32, mode: u32) -> u32
     requires { ⌜ Listable (now s) (now bytes) n × (i < n) ⌝ }
     ensures { λ r. ⌜ r ≡ keptOf (settingsOf (now (s .entry))) mode (eventAt (now (bytes .entry)) i) (eventsFrom (now (bytes .entry)) n (i + 1)) ⌝ }

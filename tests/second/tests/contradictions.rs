@@ -101,8 +101,14 @@ fn burst_lists_and_schedules() {
     assert_eq!(out, [7; 8], "a refused call leaves the buffer");
 
     let mut out = [7; 96];
-    assert_eq!(schedule(&T_RC_11, &[0], CLOSED_ROWS, &mut out), Err(OF_T_RC));
-    assert_eq!(schedule(&T_RC_11, &[NO_CELL], CLOSED_ROWS, &mut out), Err(OF_T_RC));
+    assert_eq!(
+        schedule(&T_RC_11, &[0], CLOSED_ROWS, &mut out),
+        Err(OF_T_RC)
+    );
+    assert_eq!(
+        schedule(&T_RC_11, &[NO_CELL], CLOSED_ROWS, &mut out),
+        Err(OF_T_RC)
+    );
     assert_eq!(
         schedule(&T_RC_11, &[NO_CELL; 2_001], CLOSED_ROWS, &mut out),
         Err(OF_T_RC)

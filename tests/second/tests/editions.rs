@@ -5,7 +5,7 @@ mod common;
 
 use common::*;
 use second::capture::Edition::{self, One, Zero};
-use second::capture::{bytes_of_edition, Capture, Event, Settings, EDITION_AT, SETTINGS};
+use second::capture::{bytes_of_edition, Capture, Settings, EDITION_AT, SETTINGS};
 use second::command::Asked;
 use second::command::Command::{self, BurstTerminate, Nop};
 use second::generate::{input, Dice, Input};
@@ -33,14 +33,7 @@ fn of_edition<A: Into<Asked> + Copy>(
     settings: &[u32],
     events: &[(u32, A)],
 ) -> Vec<u8> {
-    let events: Vec<Event> = events
-        .iter()
-        .map(|&(cycle, asked)| Event {
-            cycle,
-            pins: asked.into().pins(),
-        })
-        .collect();
-    bytes_of_edition(edition.word(), settings, &events)
+    bytes_of_edition(edition.word(), settings, &events_of(events))
 }
 
 /// Expects events of edition 1 to be clean, and each write to keep so many pairs in the end.

@@ -394,8 +394,7 @@ fn burst_cells_are_refused_by_8_before_7() {
 fn schedule_refusals_in_their_order() {
     let refusal = |settings: &[u32], requests: &[u32], room: usize| {
         let mut out = vec![7; room];
-        let refusal =
-            schedule(settings, requests, CLOSED_ROWS, &mut out).expect_err("a refusal");
+        let refusal = schedule(settings, requests, CLOSED_ROWS, &mut out).expect_err("a refusal");
         assert!(
             out.iter().all(|&byte| byte == 7),
             "a refused call leaves the buffer"

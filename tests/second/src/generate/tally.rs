@@ -6,8 +6,8 @@ use std::fmt;
 
 use crate::blank::hidden;
 use crate::capture::{
-    events_at, settings_of_layout, word, words, Capture, Edition, Refusal, EDITION_AT, HEADER_BYTES,
-    LIMITS, SETTINGS, SLEEP_SETTINGS, T_RC_SETTING,
+    events_at, settings_of_layout, word, words, Capture, Edition, Refusal, EDITION_AT,
+    HEADER_BYTES, LIMITS, SETTINGS, SLEEP_SETTINGS, T_RC_SETTING,
 };
 use crate::command::{Asked, Command, A10, ADDRESS_PINS};
 use crate::part::LookBack;
@@ -192,12 +192,7 @@ impl Tally {
         counts.other_cells += u64::from(burst_list(bytes) != burst_list(other));
     }
 
-    pub fn count_schedule(
-        &mut self,
-        settings: &[u32],
-        policy: u32,
-        answer: Result<u32, Refusal>,
-    ) {
+    pub fn count_schedule(&mut self, settings: &[u32], policy: u32, answer: Result<u32, Refusal>) {
         let counts = match policy {
             OPEN_ROWS => &mut self.open,
             CLOSED_ROWS => &mut self.closed,

@@ -16,15 +16,18 @@ pub fn with<const N: usize>(mut settings: [u32; N], changes: &[(usize, u32)]) ->
     settings
 }
 
-pub fn capture<A: Into<Asked> + Copy>(settings: &[u32], events: &[(u32, A)]) -> Vec<u8> {
-    let events: Vec<Event> = events
+pub fn events_of<A: Into<Asked> + Copy>(events: &[(u32, A)]) -> Vec<Event> {
+    events
         .iter()
         .map(|&(cycle, asked)| Event {
             cycle,
             pins: asked.into().pins(),
         })
-        .collect();
-    bytes_of(settings, &events)
+        .collect()
+}
+
+pub fn capture<A: Into<Asked> + Copy>(settings: &[u32], events: &[(u32, A)]) -> Vec<u8> {
+    bytes_of(settings, &events_of(events))
 }
 
 pub fn active(bank: usize) -> Command {
