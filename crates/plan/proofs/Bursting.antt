@@ -82,9 +82,9 @@ module _ (s : Settings) (p : Part) (old : newer s ≡ false) (mode : p .mode ≡
               (ended-is s (lastWrite p) (s .tWTR) t
               ∙ le-leb (X .write .end) t (le-trans (waited (readWaits (laid X) b) 2) (le-trans (later-first _ _) soon)))
 
-  pub burst-near : Ranged s → {from t : ℕ} → from ≤ t → {d : List ℕ} → Near from d → (write : Bool) → Near (suc t) (burstAfter closed write s d t b)
-  burst-near r {t = t} l n true = near-write s r n t l b lb (s .mode) closed
-  burst-near r {t = t} l n false = near-read s r n t l b lb (s .mode) closed
+  pub burst-near : Ranged s → {from t : ℕ} → from ≤ t → {d : List ℕ} → Near s from d → (write : Bool) → Near s (suc t) (burstAfter closed write s d t b)
+  burst-near r {t = t} l n true = near-write s r n t l b lb closed
+  burst-near r {t = t} l n false = near-read s r n t l b lb closed
 
   pub burst-clock : p .sleep ≡ sleepAtStart → (t : ℕ) (write : Bool) → partAfter s p t (bursts write) .clock ≡ p .clock
   burst-clock up t true = awake-clock s p up t (bursts true)

@@ -22,6 +22,7 @@ use Rattle.bridge.proofs.Laid as laid
 use Rattle.bridge.proofs.Tests.{open-is}
 use Rattle.memory.proofs.Pins.{bank-small}
 use Rattle.plan.specs.Behind.{ROW, FREE, EVENTS, stood, partOf, deadlinesOf, standingOf}
+use Rattle.plan.specs.Margin.{marginOf}
 use Rattle.plan.specs.Soonest.{activeSoonest, burstSoonest, closeSoonest, closeAllSoonest, refreshSoonest}
 use Rattle.plan.specs.Draft.{Draft, cycleFor, noted, placedAt, burstAfter, burstEnds, activating, closing, bursting, opening, requesting}
 use Rattle.plan.specs.Draft.{closingAll, idling, refreshAt, refreshingIdle, refreshing, closedRefreshAt, timely, from, alone, behind, turned, kept}
@@ -30,7 +31,7 @@ use Rattle.plan.proofs.Sending.{length-sent}
 use Rattle.plan.proofs.Reached.{Reached, Sent}
 use Rattle.plan.proofs.Awake.{awake-now}
 use Rattle.plan.proofs.Placed.{Open, OnRow, refresh-sent, close-all-sent, close-sent, close-shuts, active-sent, burst-sent}
-use Rattle.plan.proofs.Leading.{overdueOf, rowed, Requested, requested, request-is, idled, all-idle, refresh-is, refreshedAt, Refreshed, refreshed, in-time}
+use Rattle.plan.proofs.Leading.{overdueOf, rowed, Requested, requested, request-is, idled, all-idle, refresh-is, refreshedAt, Refreshed, refreshed, in-time, far-in-time}
 
 -- ---- the words of the events
 
@@ -91,7 +92,7 @@ count-kept s es = refl
 cycle-is : {s : Settings} {asked now : List ℕ} {es : List Event} {pins soonest : ℕ} {d k : ℕ → List ℕ} → Reached s asked es → Sent s now es pins soonest d k →
     length es ≤ 10000 → cycleFor (freeFrom 0 es) soonest ≡ placed placing s es pins
 unfolding cycleFor
-cycle-is r w few = ap (λ (t : ℕ). t % 2 ^ 32) (sym (w .cycle)) ∙ mod-eq-of-lt (omega (arith, w .soon, r .early))
+cycle-is r w few = ap (λ (t : ℕ). t % 2 ^ 32) (sym (w .cycle)) ∙ mod-eq-of-lt (omega (arith, w .soon, w .short, r .early))
 
 sent-words : (s : Settings) (es : List Event) (pins : ℕ) → eventWords es ++ (placed placing s es pins ∷ pins ∷ []) ≡ eventWords (send placing s es pins)
 unfolding send eventWords
@@ -376,6 +377,12 @@ module _ {s : Settings} (g : Ranged s) (closed : Bool) (q : ℕ) (fits : request
           Turned s closed es q (cond a (alone s closed q x) (behind s closed q x))
       go true k m = record { next = first; serves = rw (sym in-time₁ ∙ k); drafted = drafts-first .drafted }
       go false k m = record { next = second; serves = rw (sym in-time₁ ∙ k, sym in-time₂ ∙ m); drafted = drafts-second .drafted }
+
+  -- far from the ninth refresh owed the request alone is in time
+  pub turn-sure : at (x .standing) FREE + marginOf s < at (x .deadlines) OVERDUE → timely s (alone s closed q x) ≡ true
+  turn-sure far =
+      let free : at (x .standing) FREE ≡ freeFrom 0 es = ap (λ (k : List ℕ). at k FREE) (v .standing) ∙ free-kept s es in
+      in-time₁ ∙ far-in-time g q fits closed r (omega (arith, far, free, told-overdue g r v (omega arith)))
 
   -- the words stay as many
   pub turn-room : length (turned s closed q x .words) ≡ length (x .words)

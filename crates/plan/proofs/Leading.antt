@@ -1,5 +1,5 @@
 -- The commands of a request and of a refresh, behind what a schedule reached.
-use Prim.Native.Nat.{ℕ, suc, _+_, _≤_, _<_}
+use Prim.Native.Nat.{ℕ, suc, _+_, _*_, _≤_, _<_}
 use mathlib.Core.Bool.{Bool, true, false, cond, not}
 use mathlib.Core.List.{List, [], _∷_, _++_}
 use mathlib.Core.Path.{_≡_, refl, sym, ap, _∙_, subst}
@@ -20,6 +20,7 @@ use Rattle.reading.proofs.Six.{every-bank}
 use Rattle.bridge.specs.Summary.{overdueBy}
 use Rattle.bridge.proofs.Clock as clock
 use Rattle.plan.specs.Behind.{partOf}
+use Rattle.plan.specs.Margin.{waitOf, marginOf}
 use Rattle.plan.proofs.Ranged.{Ranged}
 use Rattle.plan.proofs.Sending.{free-sent, last-sent, length-sent, clean-sent}
 use Rattle.plan.proofs.Reached.{Reached, Sent}
@@ -79,6 +80,7 @@ pub record Rowed (s : Settings) (asked : List ℕ) (q : ℕ) (es next : List Eve
   pub reached : Reached s asked next
   pub on : OnRow s q next
   pub leads : Leads s es next
+  pub soon : freeFrom 0 next ≤ freeFrom 0 es + 2 * (waitOf s + 1)
   pub few : length next ≤ length es + 2
   pub fewer : partOf s es .banks (cellBank s (firstCell q)) .opened ≡ false → length next ≤ length es + 1
 
@@ -94,6 +96,7 @@ module _ {s : Settings} (g : Ranged s) (q : ℕ) (fits : requestFits s q ≡ tru
         reached = w .reached;
         on = active-opens g r q fits idle;
         leads = leads-sent g r w (active-ticks g r q fits idle);
+        soon = omega (arith, free-sent s es (activePins s q), w .soon);
         few = omega (arith, length-sent s es (activePins s q));
         fewer = λ e. omega (arith, length-sent s es (activePins s q));
       }
@@ -102,11 +105,13 @@ module _ {s : Settings} (g : Ranged s) (q : ℕ) (fits : requestFits s q ≡ tru
       Rowed s asked q es (send placing s (send placing s es (closePins s q)) (activePins s q))
   closed-first {es = es} r o =
       let w = close-sent g r q fits o in
+      let v = active-sent g (w .reached) q fits (close-shuts g r q fits o) in
       let y = activated (w .reached) (close-shuts g r q fits o) in
       record {
         reached = y .reached;
         on = y .on;
         leads = leads-on (leads-sent g r w (close-ticks g r q fits o)) (y .leads);
+        soon = omega (arith, free-sent s es (closePins s q), w .soon, free-sent s (send placing s es (closePins s q)) (activePins s q), v .soon);
         few = omega (arith, y .fewer (close-shuts g r q fits o), length-sent s es (closePins s q));
         fewer = λ e. let z : _≡_ {A = ℕ} 0 1 = cc in absurd (omega arith);
       }
@@ -126,6 +131,7 @@ module _ {s : Settings} (g : Ranged s) (q : ℕ) (fits : requestFits s q ≡ tru
             reached = r;
             on = record { opened = k; row = eqb-true (partOf s es .banks bank .row) (cellRow s (firstCell q)) m };
             leads = leads-none s es;
+            soon = omega arith;
             few = omega arith;
             fewer = λ e. let z : _≡_ {A = ℕ} 0 1 = cc in absurd (omega arith);
           }
@@ -142,6 +148,7 @@ module _ {s : Settings} (g : Ranged s) (q : ℕ) (fits : requestFits s q ≡ tru
     pub record Requested (asked : List ℕ) (es next : List Event) : Type 0 where
       pub reached : Reached s (q ∷ asked) next
       pub leads : Leads s es next
+      pub soon : freeFrom 0 next ≤ freeFrom 0 es + 3 * (waitOf s + 1)
       pub few : length next ≤ length es + 3
       pub fewer : partOf s es .banks (cellBank s (firstCell q)) .opened ≡ false → length next ≤ length es + 2
 
@@ -153,6 +160,7 @@ module _ {s : Settings} (g : Ranged s) (q : ℕ) (fits : requestFits s q ≡ tru
         (record {
           reached = w .reached;
           leads = leads-on (y .leads) (leads-sent g (y .reached) w (burst-ticks g (y .reached) q fits closed (y .on)));
+          soon = omega (arith, y .soon, free-sent s (opening es) (burstPins closed s q), w .soon);
           few = omega (arith, y .few, length-sent s (opening es) (burstPins closed s q));
           fewer = λ e. omega (arith, y .fewer e, length-sent s (opening es) (burstPins closed s q));
         })
@@ -171,19 +179,21 @@ module _ {s : Settings} (g : Ranged s) where
     pub reached : Reached s asked next
     pub idle : Idle s next
     pub leads : Leads s es next
+    pub soon : freeFrom 0 next ≤ freeFrom 0 es + (waitOf s + 1)
     pub few : length next ≤ length es + 1
 
   pub all-idle : {asked : List ℕ} {es : List Event} → Reached s asked es → Idled asked es (idled es)
   all-idle {asked} {es} r = go (everyBank (λ b. not (partOf s es .banks b .opened))) refl
     where
       go : (v : Bool) → everyBank (λ b. not (partOf s es .banks b .opened)) ≡ v → Idled asked es (cond v es (send placing s es closeAllPins))
-      go true e = record { reached = r; idle = banks-idle (λ b. partOf s es .banks b .opened) e; leads = leads-none s es; few = omega arith }
+      go true e = record { reached = r; idle = banks-idle (λ b. partOf s es .banks b .opened) e; leads = leads-none s es; soon = omega arith; few = omega arith }
       go false e =
           let w = close-all-sent g r in
           record {
             reached = w .reached;
             idle = close-all-idle g r;
             leads = leads-sent g r w (close-all-ticks g r);
+            soon = omega (arith, free-sent s es closeAllPins, w .soon);
             few = omega (arith, length-sent s es closeAllPins);
           }
 
@@ -228,3 +238,14 @@ module _ {s : Settings} (g : Ranged s) where
   in-time es =
       ap (inTime s (partOf s es .clock)) (ap (lastFrom 0) (refresh-is es) ∙ last-sent s (idled es) refreshPins)
       ∙ clock.in-time-is s (omega (arith, g .least-tREFI)) (partOf s es .clock) (refreshedAt es)
+
+-- far from the ninth refresh owed, a request alone is in time
+pub far-in-time : {s : Settings} (g : Ranged s) (q : ℕ) → requestFits s q ≡ true → (closed : Bool) {asked : List ℕ} {es : List Event} → Reached s asked es →
+    freeFrom 0 es + marginOf s < overdueOf s es → refreshInTime placing s (sendRequest placing s closed es q) ≡ true
+far-in-time {s} g q fits closed {es = es} r far =
+    let next = sendRequest placing s closed es q in
+    let y = requested g q fits closed r in
+    let z = all-idle g (y .reached) in
+    let w = refresh-sent g (z .reached) (z .idle) in
+    in-time g next
+    ∙ lt-ltb (refreshedAt g next) (overdueOf s next) (omega (arith, far, y .soon, z .soon, w .soon, ap (overdueBy s) (y .leads .same)))

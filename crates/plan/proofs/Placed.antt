@@ -26,13 +26,14 @@ use Rattle.bridge.proofs.Next.{active-next, close-next, close-all-next, refresh
 use Rattle.memory.proofs.Pins.{bank-small, column-small, column-back, activeCommand, closeCommand, active-carried, burst-carried, close-carried, close-all-carried, refresh-carried}
 use Rattle.memory.proofs.Part.{serving-on, serving-more, active-row}
 use Rattle.plan.specs.Behind.{ROW, cutEnd, stood, partOf, deadlinesOf, standingOf}
+use Rattle.plan.specs.Margin.{waitOf}
 use Rattle.plan.specs.Soonest.{activeSoonest, burstSoonest, closeWaits, closeSoonest, closeAllSoonest, refreshSoonest}
 use Rattle.plan.specs.Draft.{burstAfter, burstEnds}
 use Rattle.plan.proofs.Ranged.{Ranged}
 use Rattle.plan.proofs.Pins.{row-low, active-small, burst-small, close-small, close-all-small, refresh-small}
 use Rattle.plan.proofs.Passing.{passed, waited, carried-passes, active-passed, close-passed, close-all-passed, refresh-passed}
-use Rattle.plan.proofs.Uncut.{Whole, serving-whole, nothing-cut, close-uncut, close-all-uncut}
-use Rattle.plan.proofs.Near.{wait, end-most, near-active, near-close, near-close-all, near-refresh, active-most, burst-most, close-most, close-all-most, refresh-most}
+use Rattle.plan.proofs.Uncut.{Whole, serving-whole, serving-moded, nothing-cut, close-uncut, close-all-uncut}
+use Rattle.plan.proofs.Near.{never-longer, end-most, near-active, near-close, near-close-all, near-refresh, active-most, burst-most, close-most, close-all-most, refresh-most}
 use Rattle.plan.proofs.Sending.{Goes, goes-free, goes-soonest}
 use Rattle.plan.proofs.Reached.{Reached, Sent, part-is, stays, plain-sound, sent}
 use Rattle.plan.proofs.Awake.{awake, awake-now, awake-clock}
@@ -79,8 +80,8 @@ module _ {s : Settings} (g : Ranged s) {asked : List ℕ} {es : List Event} (r :
   w : All Whole (p .bursts)
   w = serving-whole (r .serving .bursts)
 
-  read-end : cutEnd (lastRead p) ≤ free + wait
-  read-end = end-most free reads (r .sound .bursts)
+  read-end : cutEnd (lastRead p) ≤ free + waitOf s
+  read-end = end-most s free reads (r .sound .bursts) (serving-moded (r .serving .bursts))
 
   -- a command carried by the pins: rules 1 to 13 pass it from a on, and it cuts nothing from b on
   going-is : (pins : ℕ) {c : Command} → commandOf pins ≡ c → (t a b : ℕ) → passed s p t c ≡ leb a t → cutsNothing s p t c ≡ leb b t →
@@ -106,6 +107,7 @@ module _ {s : Settings} (g : Ranged s) {asked : List ℕ} {es : List Event} (r :
               going-free refreshPins refresh-carried t (refreshSoonest d)
               (refresh-passed s p t 0 0 false idle) (nothing-cut s p (g .old) free t l (r .sound) w (does AUTO-REFRESH 0 0 false) (λ x. none-cut (x .writes)));
           soon = refresh-most (r .near);
+          short = never-longer s g;
         }
 
     pub refresh-sent : Sent s asked es refreshPins (refreshSoonest d) (λ t. refreshAfter s d t) (λ t. k)
@@ -139,6 +141,7 @@ module _ {s : Settings} (g : Ranged s) {asked : List ℕ} {es : List Event} (r :
             ∙ ap (λ (v : Bool). passed s p t closing-all && v) (close-all-uncut s p (g .old) free t l (r .sound) w 0 (2 ^ 10))
             ∙ close-all-passed s p t 0 (2 ^ 10) (cutEnd (lastRead p));
         soon = close-all-most (r .near) k read-end;
+        short = never-longer s g;
       }
 
   pub close-all-sent : Sent s asked es closeAllPins (closeAllSoonest d k) (λ t. closeAllAfter s d (paceOf (s .mode)) t) (λ t. k)
@@ -188,6 +191,7 @@ module _ {s : Settings} (g : Ranged s) {asked : List ℕ} {es : List Event} (r :
                 going-is (closePins s q) (close-carried s (g .sized) q fits) t (soonest (closeWaits d bank)) _
                 (close-passed s p t bank 0 lb o) (close-uncut s p (g .old) free t l (r .sound) w bank 0);
             soon = close-most (r .near) k read-end bank lb;
+            short = never-longer s g;
           }
 
       pub close-sent : Sent s asked es (closePins s q) (closeSoonest d k bank) (λ t. closeAfter s d (paceOf (s .mode)) t bank) (λ t. k)
@@ -201,7 +205,7 @@ module _ {s : Settings} (g : Ranged s) {asked : List ℕ} {es : List Event} (r :
           (serving-on s p asked (r .serving) t c st refl refl)
           (plain-sound r (closePins s q) c (close-carried s (g .sized) q fits) close-goes refl refl)
           (close-next s p free t l (r .sound) (awake-now r) bank 0 lb ∙ ap (λ (m : ℕ). closeAfter s d (paceOf m) t bank) (r .serving .mode))
-          (near-close s g (r .near) t l bank lb (s .mode))
+          (near-close s g (r .near) t l bank lb)
           (λ i.
           stood (λ b. kept-row (p .banks b .opened && eqb b bank) t (p .banks b) i) (cutEnd (find reads (st i))) (cutEnd (find (λ x. x .writes) (st i)))
           (suc t) (suc (length es)))
@@ -228,6 +232,7 @@ module _ {s : Settings} (g : Ranged s) {asked : List ℕ} {es : List Event} (r :
                 (active-passed s p t bank row (eqb (bit 10 row) 1) lb (row-low s g q fits) idle)
                 (nothing-cut s p (g .old) free t l (r .sound) w (activeCommand s q) (λ x. none-cut (x .writes)));
             soon = active-most (r .near) bank lb;
+            short = never-longer s g;
           }
 
       pub active-sent : Sent s asked es (activePins s q) (activeSoonest d bank) (λ t. activeAfter s d t bank) (λ t. set k (ROW + bank) row)
@@ -282,7 +287,10 @@ module _ {s : Settings} (g : Ranged s) {asked : List ℕ} {es : List Event} (r :
             going = λ t l.
                 (λ i. carried-passes s p t (burstPins closed s q) carried i && cutsNothing s p t (carried i))
                 ∙ burst-going s p (g .old) (r .serving .mode) bank address closed lb (o .opened) free t l (r .sound) w free (length es) write;
-            soon = burst-most (r .near) k read-end bank lb (end-most free (λ x. x .writes) (r .sound .bursts)) write;
+            soon =
+                burst-most (r .near) k read-end bank lb
+                (end-most s free (λ x. x .writes) (r .sound .bursts) (serving-moded (r .serving .bursts))) write;
+            short = never-longer s g;
           }
 
       pub burst-sent : Sent s (q ∷ asked) es (burstPins closed s q) (burstSoonest write d k bank)

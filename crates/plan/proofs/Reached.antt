@@ -21,7 +21,8 @@ use Rattle.memory.specs.Serving.{nil}
 use Rattle.memory.proofs.Part.{Serving}
 use Rattle.plan.specs.Behind.{partOf, deadlinesOf, FREE, EVENTS, cutEnd, stood, standingOf}
 use Rattle.plan.proofs.Ranged.{Ranged}
-use Rattle.plan.proofs.Near.{Near, wait, near-start}
+use Rattle.plan.specs.Margin.{waitOf}
+use Rattle.plan.proofs.Near.{Near, longest, near-start}
 use Rattle.plan.proofs.Sending.{free-sent, length-sent, part-sent, Goes, goes-at, goes-free, goes-soon, goes-there}
 use Rattle.plan.proofs.Uncut.{all-stay}
 
@@ -35,18 +36,18 @@ pub record Reached (s : Settings) (asked : List ℕ) (es : List Event) : Type 0 
   pub serving : Serving s (partOf s es) asked
   pub rest : Rest s (partOf s es)
   pub sound : Sound (freeFrom 0 es) (partOf s es)
-  pub near : Near (freeFrom 0 es) (deadlinesOf s es)
+  pub near : Near s (freeFrom 0 es) (deadlinesOf s es)
   pub rises : Rises 0 es
-  pub early : freeFrom 0 es ≤ suc wait * length es
+  pub early : freeFrom 0 es ≤ suc longest * length es
 
-pub start-reached : (s : Settings) → Ranged s → Reached s [] []
+pub start-reached : (s : Settings) → Reached s [] []
 unfolding deadlinesOf freeFrom
-start-reached s g =
+start-reached s =
     record {
       serving = record { mode = refl; bursts = nil };
       rest = start-rest s;
       sound = start-sound s;
-      near = subst (λ d. Near 0 d) (start-laid s) (near-start s g);
+      near = subst (λ d. Near s 0 d) (start-laid s) (near-start s);
       rises = tt;
       early = omega arith;
     }
@@ -74,7 +75,8 @@ held s p pins t e i = every-at (λ r. keepsRule r s p t (commandOf pins)) 0 refl
 pub record Sent (s : Settings) (asked : List ℕ) (es : List Event) (pins soonest : ℕ) (d k : ℕ → List ℕ) : Type 0 where
   pub cycle : placed placing s es pins ≡ later (freeFrom 0 es) soonest
   pub not-before : freeFrom 0 es ≤ placed placing s es pins
-  pub soon : placed placing s es pins ≤ freeFrom 0 es + wait
+  pub soon : placed placing s es pins ≤ freeFrom 0 es + waitOf s
+  pub short : waitOf s ≤ longest
   pub small : pins < 2 ^ 20
   pub passed : passes placing s (partOf s es) pins (placed placing s es pins) ≡ true
   pub leaves : deadlinesOf s (send placing s es pins) ≡ d (placed placing s es pins)
@@ -103,7 +105,7 @@ module _ {s : Settings} {asked : List ℕ} {es : List Event} (r : Reached s aske
 
   pub sent : {soonest : ℕ} → Goes s es pins soonest → pins < 2 ^ 20 → {now : List ℕ} → Serving s next now →
       Sound (suc (placed placing s es pins)) next → {d : ℕ → List ℕ} → laid (summary s next) ≡ d (placed placing s es pins) →
-      Near (suc (placed placing s es pins)) (d (placed placing s es pins)) →
+      Near s (suc (placed placing s es pins)) (d (placed placing s es pins)) →
       {k : ℕ → List ℕ} →
       stood (λ b. next .banks b .row) (cutEnd (lastRead next)) (cutEnd (lastWrite next)) (suc (placed placing s es pins)) (suc (length es)) ≡
       set (set (k (placed placing s es pins)) FREE (suc (placed placing s es pins))) EVENTS (suc (length es)) →
@@ -116,6 +118,7 @@ module _ {s : Settings} {asked : List ℕ} {es : List Event} (r : Reached s aske
         cycle = goes-at w;
         not-before = goes-free w;
         soon = goes-soon w;
+        short = w .short;
         small = small;
         passed = goes-there w .0;
         leaves = left;
@@ -129,6 +132,6 @@ module _ {s : Settings} {asked : List ℕ} {es : List Event} (r : Reached s aske
               sound = rw (free-sent s es pins, part-is) sound;
               near = rw (free-sent s es pins, left) near;
               rises = rises-more 0 es (record { cycle = t; pins = pins }) (r .rises) (goes-free w) small;
-              early = omega (arith, free-sent s es pins, length-sent s es pins, goes-soon w, r .early);
+              early = omega (arith, free-sent s es pins, length-sent s es pins, goes-soon w, w .short, r .early);
             };
       }

@@ -45,7 +45,7 @@ in-time-lt {s} g es k = ltb-true (refreshedAt g es) (overdueOf s es) (sym (in-ti
 pub start-ready : (s : Settings) → Ranged s → Ready s [] []
 unfolding verdictBy judgeBy deadlinesOf refreshSoonest soonest freeFrom
 start-ready s g =
-    let r = start-reached s g in
+    let r = start-reached s in
     let at-once : placed placing s [] refreshPins ≡ 0 = refresh-sent g r (λ i l. refl) .cycle in
     record {
       reached = r;

@@ -20,7 +20,8 @@ use Rattle.reading.specs.Schedule.{cutsNothing, passes, goes, earliest, freeFro
 use Rattle.reading.proofs.Found.{earliest-is, later-first, later-second}
 use Rattle.memory.proofs.Part.{run-more}
 use Rattle.plan.specs.Behind.{partOf}
-use Rattle.plan.proofs.Near.{wait, later-most}
+use Rattle.plan.specs.Margin.{waitOf}
+use Rattle.plan.proofs.Near.{longest, later-most}
 
 -- ---- the earliest cycle of a test that holds from m on
 
@@ -104,7 +105,8 @@ module _ (s : Settings) (es : List Event) (pins : ℕ) where
 -- from the cycle `soonest` on, which is not far, rules 1 to 13 pass it and it cuts nothing
 pub record Goes (s : Settings) (es : List Event) (pins soonest : ℕ) : Type 0 where
   pub going : (t : ℕ) → freeFrom 0 es ≤ t → goes placing s (partOf s es) pins t ≡ leb soonest t
-  pub soon : soonest ≤ freeFrom 0 es + wait
+  pub soon : soonest ≤ freeFrom 0 es + waitOf s
+  pub short : waitOf s ≤ longest
 
 both : (a b : Bool) → (a && b) ≡ true → (a ≡ true) × (b ≡ true)
 both true b e = (refl, e)
@@ -113,7 +115,7 @@ both false b e = let z : _≡_ {A = ℕ} 0 1 = cc in absurd (omega arith)
 module _ {s : Settings} {es : List Event} {pins soonest : ℕ} (w : Goes s es pins soonest) where
   pub goes-at : placed placing s es pins ≡ later (freeFrom 0 es) soonest
   unfolding placed
-  goes-at = earliest-from (goes placing s (partOf s es) pins) soonest (freeFrom 0 es) lastCycle (w .going) (omega (arith, w .soon))
+  goes-at = earliest-from (goes placing s (partOf s es) pins) soonest (freeFrom 0 es) lastCycle (w .going) (omega (arith, w .soon, w .short))
 
   pub goes-free : freeFrom 0 es ≤ placed placing s es pins
   goes-free = rw goes-at (later-first (freeFrom 0 es) soonest)
@@ -121,8 +123,8 @@ module _ {s : Settings} {es : List Event} {pins soonest : ℕ} (w : Goes s es pi
   pub goes-soonest : soonest ≤ placed placing s es pins
   goes-soonest = rw goes-at (later-second (freeFrom 0 es) soonest)
 
-  pub goes-soon : placed placing s es pins ≤ freeFrom 0 es + wait
-  goes-soon = rw goes-at (later-most (freeFrom 0 es) soonest (freeFrom 0 es + wait) (omega arith) (w .soon))
+  pub goes-soon : placed placing s es pins ≤ freeFrom 0 es + waitOf s
+  goes-soon = rw goes-at (later-most (freeFrom 0 es) soonest (freeFrom 0 es + waitOf s) (omega arith) (w .soon))
 
   -- the search ends where it should: at a cycle that rules 1 to 13 pass, and where nothing is cut
   pub goes-there : (passes placing s (partOf s es) pins (placed placing s es pins) ≡ true)

@@ -136,4 +136,4 @@ module _ {s : Settings} (g : Ranged s) (short : Consistent s) where
     -- The same schedule, or late at the same request.
     pub same-schedule : (qs : List ℕ) → EachFits s qs → scheduleBy placingWithSix s closed qs ≡ scheduleBy placing s closed qs
     unfolding scheduleBy
-    same-schedule qs fits = same-from (start-reached s g) 0 qs fits
+    same-schedule qs fits = same-from (start-reached s) 0 qs fits

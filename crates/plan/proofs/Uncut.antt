@@ -67,6 +67,10 @@ pub serving-whole : {s : Settings} {xs : List Burst} {asked : List ℕ} → Each
 serving-whole nil = nil
 serving-whole (cons v vs) = cons (record { pairs = v .whole }) (serving-whole vs)
 
+pub serving-moded : {s : Settings} {xs : List Burst} {asked : List ℕ} → Each (Serves s) xs asked → All (λ x. x .mode ≡ s .mode) xs
+serving-moded nil = nil
+serving-moded (cons v vs) = cons (v .alike .mode) (serving-moded vs)
+
 module _ (s : Settings) (p : Part) (old : newer s ≡ false) (from t : ℕ) (l : from ≤ t) (g : Sound from p) (w : All Whole (p .bursts)) where
   abbrev keeps : Command → Burst → Bool
   keeps c x = eqb (cutBy s p t c x .n) (x .n)
