@@ -68,8 +68,22 @@ fn plan(s: &Settings, requests: &[u32], closed: bool, words: &mut [u32]) -> Plan
     let mut d = effects::start(s);
     let mut k = [0u64; soonest::KEPT];
     let pace = sums::pace(s[MODE]);
+    let margin = serving::margin(s, &pace);
+    let mut earlier = d;
+    let mut stood = k;
     'requests: for i in 0..requests.len() {
-        let turn = serving::serve(s, &mut d, &mut k, words, &pace, closed, requests[i]);
+        let turn = serving::serve(
+            s,
+            &mut d,
+            &mut k,
+            words,
+            &mut earlier,
+            &mut stood,
+            &pace,
+            closed,
+            margin,
+            requests[i],
+        );
         let Turn::Kept = turn else {
             return Planned::Late(i as u32);
         };

@@ -1,3 +1,4 @@
 pub mod Banks
 pub mod Growing
 pub mod Serves
+pub mod Tries

@@ -10,11 +10,8 @@ use Rattle.reading.specs.Schedule.{asksWrite, firstCell, cellBank, cellRow, bur
 use Rattle.deadlines.specs.Deadlines.{OPENED, OVERDUE, at, paceOf, allIdle, closeAllAfter}
 use Rattle.plan.specs.Behind.{ROW, FREE}
 use Rattle.plan.specs.Soonest.{closeAllSoonest, refreshSoonest}
-use Rattle.plan.specs.Draft.{Draft, cycleFor, activating, closing, bursting, opening, requesting, closingAll, idling, refreshAt, refreshingIdle, refreshing, closedRefreshAt, timely, alone, behind, turned, kept}
-use Rattle.plan.proofs.Drafted.{wordless}
+use Rattle.plan.specs.Draft.{Draft, cycleFor, activating, closing, bursting, opening, requesting, closingAll, idling, refreshAt, refreshingIdle, refreshing, closedRefreshAt, timely}
 use Rattle.drafts.specs.Room.{draft}
-use Rattle.serving.specs.declared.Turn.the-variants.{Kept, Late}
-use Rattle.serving.specs.Told.{told}
 
 -- ---- the row
 
@@ -74,32 +71,3 @@ module _ (s : Settings) (d k : List ℕ) where
     pub timely-open : v ≡ false → {t : ℕ} → t ≡ closedRefreshAt s (draft d k []) → ltb t (at d OVERDUE) ≡ timely s (draft d k [])
     unfolding timely
     timely-open e tt = rw (sym told ∙ e) (ap (λ (t : ℕ). ltb t (at d OVERDUE)) tt)
-
--- ---- the turn
-
-module _ (s : Settings) (closed : Bool) (q : ℕ) (x : Draft) {d₁ k₁ w₁ : List ℕ} (first : draft d₁ k₁ w₁ ≡ alone s closed q x)
-    {in-time : Bool} (tested : in-time ≡ timely s (draft d₁ k₁ [])) where
-  by-first : in-time ≡ timely s (alone s closed q x)
-  by-first = tested ∙ sym (wordless s (draft d₁ k₁ w₁) []) ∙ ap (timely s) first
-
-  pub turn-alone : in-time ≡ true → (Kept ≡ told (kept s closed q x)) × (draft d₁ k₁ w₁ ≡ turned s closed q x)
-  unfolding kept turned
-  turn-alone e = rw (sym by-first ∙ e) (refl, first)
-
-  module _ (e : in-time ≡ false) {d₂ k₂ w₂ : List ℕ} (ahead : draft d₂ k₂ w₂ ≡ refreshing s (draft (x .deadlines) (x .standing) w₁))
-      {d₃ k₃ w₃ : List ℕ} (second : draft d₃ k₃ w₃ ≡ requesting s q closed (draft d₂ k₂ w₂)) {in-time₂ : Bool} (tested₂ : in-time₂ ≡ timely s (draft d₃ k₃ [])) where
-    behind-is : draft d₃ k₃ w₃ ≡ behind s closed q x
-    behind-is =
-        second
-        ∙ ap (requesting s q closed) (ahead ∙ ap (λ (w : List ℕ). refreshing s (draft (x .deadlines) (x .standing) w)) (ap (λ (y : Draft). y .words) first))
-
-    by-second : in-time₂ ≡ timely s (behind s closed q x)
-    by-second = tested₂ ∙ sym (wordless s (draft d₃ k₃ w₃) []) ∙ ap (timely s) behind-is
-
-    pub turn-behind : in-time₂ ≡ true → (Kept ≡ told (kept s closed q x)) × (draft d₃ k₃ w₃ ≡ turned s closed q x)
-    unfolding kept turned
-    turn-behind f = rw (sym by-first ∙ e, sym by-second ∙ f) (refl, behind-is)
-
-    pub turn-late : in-time₂ ≡ false → (Late ≡ told (kept s closed q x)) × (draft d₃ k₃ w₃ ≡ turned s closed q x)
-    unfolding kept turned
-    turn-late f = rw (sym by-first ∙ e, sym by-second ∙ f) (refl, behind-is)

@@ -1,22 +1,34 @@
 // One request's turn in a schedule, with rows left open or closed: alone, or behind a refresh, or not in time.
 use deadlines::Deadlines;
 use deadlines::Pace;
+use deadlines::places::LATENCY;
 use deadlines::places::OPENED;
 use deadlines::places::OVERDUE;
+use deadlines::places::PAIRS;
 use deadlines::sums::after;
 use drafts::cycle_for;
 use settings::Settings;
+use settings::places::T_RAS;
+use settings::places::T_RCD;
+use settings::places::T_RFC;
+use settings::places::T_RP;
+use settings::places::T_RRD;
+use settings::places::T_WR;
+use settings::places::T_WTR;
 use soonest::FREE;
 use soonest::ROW;
 use soonest::Standing;
 ghost use mathlib.Core.Path.{_≡_};
-ghost use Prim.Native.Nat.{_<_};
+ghost use mathlib.Core.Bool.{_||_};
+ghost use Prim.Native.Nat.{_+_, _*_, _<_};
 ghost use Rattle.reading.specs.Settings.{settingsOf};
 ghost use Rattle.deadlines.specs.Deadlines.{paceOf, allIdle};
 ghost use Rattle.requests.specs.Asked.{Asked};
 ghost use Rattle.plan.specs.Draft.{opening, requesting, idling, refreshing, closedRefreshAt, timely, turned, kept};
 ghost use Rattle.drafts.specs.Room.{Room, draft};
 ghost use mathlib.Core.List.{[]};
+ghost use Rattle.plan.specs.Margin.{marginOf};
+ghost use Rattle.serving.specs.Sure.{far, Sure, setAside};
 ghost use Rattle.serving.specs.Told.{told};
 
 // Refresh is kept by the request's turn, or it cannot be.
@@ -141,34 +153,137 @@ fn in_time(s: &Settings, d: &Deadlines, k: &Standing, pace: &Pace) -> bool
     (t as u64) < d[OVERDUE]
 }
 
-// The request alone, or else, worked out anew, behind a refresh.
-pub fn serve(
+// Five waits, each of all these times together and a cycle for the command itself.
+fn five_waits(
+    rcd: u32,
+    rp: u32,
+    ras: u32,
+    rrd: u32,
+    wr: u32,
+    wtr: u32,
+    rfc: u32,
+    pairs: u32,
+    latency: u32,
+) -> u64
+    ensures { λ r. ⌜ r ≡ 5 * (rcd + rp + ras + rrd + wr + wtr + rfc + pairs + latency + 8 + 1) ⌝ }
+{
+    let rows = (rcd as u64) + (rp as u64) + (ras as u64) + (rrd as u64);
+    let bursts = (wr as u64) + (wtr as u64) + (pairs as u64) + (latency as u64);
+    5 * (rows + bursts + (rfc as u64) + 9)
+}
+
+// How long the turn of a request can take, with the refresh behind it.
+pub fn margin(s: &Settings, pace: &Pace) -> u64
+    requires { ⌜ now pace ≡ paceOf (settingsOf (now s) .mode) ⌝ }
+    ensures { λ r. ⌜ r ≡ marginOf (settingsOf (now (s .entry))) ⌝ }
+{
+    five_waits(
+        s[T_RCD],
+        s[T_RP],
+        s[T_RAS],
+        s[T_RRD],
+        s[T_WR],
+        s[T_WTR],
+        s[T_RFC],
+        pace[PAIRS],
+        pace[LATENCY],
+    )
+}
+
+// What stood before a request is kept where it may have to be taken back.
+fn set_aside(
+    sure: bool,
+    d: &Deadlines,
+    k: &Standing,
+    earlier: &mut Deadlines,
+    stood: &mut Standing,
+)
+    ensures { λ r. ⌜ now (earlier .exit) ≡ setAside sure (now (earlier .entry)) (now (d .entry)) ⌝ }
+    ensures { λ r. ⌜ now (stood .exit) ≡ setAside sure (now (stood .entry)) (now (k .entry)) ⌝ }
+{
+    if sure {
+        return;
+    }
+    *earlier = *d;
+    *stood = *k;
+}
+
+// The request, and whether it is in time: that need not be asked where it is sure.
+fn attempt(
     s: &Settings,
     d: &mut Deadlines,
     k: &mut Standing,
     words: &mut [u32],
     pace: &Pace,
     closed: bool,
+    sure: bool,
+    q: u32,
+) -> bool
+    requires { ⌜ Asked (settingsOf (now s)) q ⌝ }
+    requires { ⌜ Room (now k) (now words) 3 ⌝ }
+    requires { ⌜ now pace ≡ paceOf (settingsOf (now s) .mode) ⌝ }
+    ensures { λ r. ⌜ draft (now (d .exit)) (now (k .exit)) (now (words .exit)) ≡ requesting (settingsOf (now (s .entry))) q closed (draft (now (d .entry)) (now (k .entry)) (now (words .entry))) ⌝ }
+    ensures { λ r. ⌜ r ≡ (sure || timely (settingsOf (now (s .entry))) (draft (now (d .exit)) (now (k .exit)) [])) ⌝ }
+{
+    request(s, d, k, words, pace, closed, q);
+    if sure {
+        return true;
+    }
+    in_time(s, &*d, &*k, pace)
+}
+
+// A refresh behind what stood before.
+fn start_again(
+    s: &Settings,
+    d: &mut Deadlines,
+    k: &mut Standing,
+    words: &mut [u32],
+    earlier: &Deadlines,
+    stood: &Standing,
+    pace: &Pace,
+)
+    requires { ⌜ Room (now stood) (now words) 2 ⌝ }
+    requires { ⌜ now pace ≡ paceOf (settingsOf (now s) .mode) ⌝ }
+    ensures { λ r. ⌜ draft (now (d .exit)) (now (k .exit)) (now (words .exit)) ≡ refreshing (settingsOf (now (s .entry))) (draft (now (earlier .entry)) (now (stood .entry)) (now (words .entry))) ⌝ }
+{
+    *d = *earlier;
+    *k = *stood;
+    refresh(s, d, k, words, pace);
+}
+
+// The request alone, or else, worked out anew, behind a refresh. Far from the ninth refresh owed it is sure to be in time.
+// Both tries are one loop, so that the compiler puts the code of a request in place (docs/DECISIONS.md, C19).
+pub fn serve(
+    s: &Settings,
+    d: &mut Deadlines,
+    k: &mut Standing,
+    words: &mut [u32],
+    earlier: &mut Deadlines,
+    stood: &mut Standing,
+    pace: &Pace,
+    closed: bool,
+    margin: u64,
     q: u32,
 ) -> Turn
     requires { ⌜ Asked (settingsOf (now s)) q ⌝ }
     requires { ⌜ Room (now k) (now words) 5 ⌝ }
     requires { ⌜ now pace ≡ paceOf (settingsOf (now s) .mode) ⌝ }
+    requires { ⌜ Sure (settingsOf (now s)) closed q margin (now d) (now k) (now words) ⌝ }
     ensures { λ r. ⌜ r ≡ told (kept (settingsOf (now (s .entry))) closed q (draft (now (d .entry)) (now (k .entry)) (now (words .entry)))) ⌝ }
     ensures { λ r. ⌜ draft (now (d .exit)) (now (k .exit)) (now (words .exit)) ≡ turned (settingsOf (now (s .entry))) closed q (draft (now (d .entry)) (now (k .entry)) (now (words .entry))) ⌝ }
+    ensures { λ r. ⌜ now (earlier .exit) ≡ setAside (far margin (now (d .entry)) (now (k .entry))) (now (earlier .entry)) (now (d .entry)) ⌝ }
+    ensures { λ r. ⌜ now (stood .exit) ≡ setAside (far margin (now (d .entry)) (now (k .entry))) (now (stood .entry)) (now (k .entry)) ⌝ }
 {
-    let kept_d = *d;
-    let kept_k = *k;
-    request(s, d, k, words, pace, closed, q);
-    if in_time(s, &*d, &*k, pace) {
-        return Turn::Kept;
-    }
-    *d = kept_d;
-    *k = kept_k;
-    refresh(s, d, k, words, pace);
-    request(s, d, k, words, pace, closed, q);
-    if in_time(s, &*d, &*k, pace) {
-        return Turn::Kept;
+    let sure = k[FREE] + margin < d[OVERDUE];
+    set_aside(sure, &*d, &*k, earlier, stood);
+    'tries: for refreshed in 0u32..2 {
+        if attempt(s, d, k, words, pace, closed, sure, q) {
+            return Turn::Kept;
+        }
+        if refreshed == 1 {
+            return Turn::Late;
+        }
+        start_again(s, d, k, words, &*earlier, &*stood, pace);
     }
     Turn::Late
 }
