@@ -25,6 +25,7 @@ use Rattle.settings.proofs.Unique as settings
 use Rattle.part.proofs.Unique as part
 use Rattle.cells.proofs.Unique as cells
 use Rattle.drafts.proofs.Unique as drafts
+use Rattle.serving.proofs.Unique as serving
 use Rattle.schedule.proofs.Unique as schedule
 use Rattle.blanks.proofs.Unique as blanks
 use Rattle.demands.proofs.Finding as finding

@@ -7,6 +7,7 @@ use Rattle.settings.proofs.Unique as settings
 use Rattle.part.proofs.Unique as part
 use Rattle.cells.proofs.Unique as cells
 use Rattle.drafts.proofs.Unique as drafts
+use Rattle.serving.proofs.Unique as serving
 use Rattle.schedule.proofs.Unique as schedule
 use Rattle.blanks.proofs.Unique as blanks
 use Rattle.demands.proofs.Finding as finding
@@ -78,6 +79,7 @@ use Rattle.drafts.proofs.close.Reads as drafts-close
 use Rattle.drafts.proofs.burst.Reads as drafts-burst
 use Rattle.drafts.proofs.close_all.Reads as drafts-close-all
 use Rattle.drafts.proofs.refresh.Reads as drafts-refresh
+use Rattle.serving.proofs.margin.Reads as serving-margin
 use Rattle.serving.proofs.serve.Reads as serving-serve
 use Rattle.schedule.proofs.schedule.Reads as schedule-schedule
 use Rattle.beats.proofs.gives_burst.Reads as beats-gives-burst
@@ -397,8 +399,11 @@ drafts-refresh-settles κs a z z′ e e′ p q = drafts.one-draft (p ∙ sym q)
 
 -- ---- serving
 
-pub serving-serve-settles : (κs : _) (a : _) (z z′ : _) (e e′ : _) → serving-serve.Post κs a z e → serving-serve.Post κs a z′ e′ → (z ≡ z′) × ((now (e .1 .0) ≡ now (e′ .1 .0)) × ((now (e .1 .1 .0) ≡ now (e′ .1 .1 .0)) × (now (e .1 .1 .1 .0) ≡ now (e′ .1 .1 .1 .0))))
-serving-serve-settles κs a z z′ e e′ p q = (p .0 ∙ sym (q .0), drafts.one-draft (p .1 ∙ sym (q .1)))
+pub serving-margin-settles : (κs : _) (a : _) (z z′ : _) (e e′ : _) → serving-margin.Post κs a z e → serving-margin.Post κs a z′ e′ → z ≡ z′
+serving-margin-settles κs a z z′ e e′ p q = p ∙ sym q
+
+pub serving-serve-settles : (κs : _) (a : _) (z z′ : _) (e e′ : _) → serving-serve.Post κs a z e → serving-serve.Post κs a z′ e′ → (z ≡ z′) × ((now (e .1 .0) ≡ now (e′ .1 .0)) × ((now (e .1 .1 .0) ≡ now (e′ .1 .1 .0)) × ((now (e .1 .1 .1 .0) ≡ now (e′ .1 .1 .1 .0)) × ((now (e .1 .1 .1 .1 .0) ≡ now (e′ .1 .1 .1 .1 .0)) × (now (e .1 .1 .1 .1 .1 .0) ≡ now (e′ .1 .1 .1 .1 .1 .0))))))
+serving-serve-settles κs a z z′ e e′ p q = (p .0 ∙ sym (q .0), serving.one-turn (p .1 .0 ∙ sym (q .1 .0)) (p .1 .1 .0 ∙ sym (q .1 .1 .0), p .1 .1 .1 ∙ sym (q .1 .1 .1)))
 
 -- ---- schedule
 

@@ -8,6 +8,7 @@ use native.Mathlib.Numerals.{add-one}
 use native.Mathlib.Omega.{arith}
 use lib.ListN.{length, getD, take, drop, replicate}
 use lib.Seq.{drop-cons}
+use borrow.Author.Tests.{ltb-true}
 use Rattle.reading.specs.Settings.{Settings, settingsCount, settingsOf}
 use Rattle.reading.specs.Capture.{Event}
 use Rattle.reading.specs.Rules.{placing}
@@ -17,14 +18,17 @@ use Rattle.settings.proofs.Fitting.{in-range}
 use Rattle.deadlines.specs.Deadlines.{at, startOf}
 use Rattle.bridge.proofs.Turn.{start-laid}
 use Rattle.requests.specs.Asked.{Asked}
-use Rattle.plan.specs.Behind.{EVENTS, deadlinesOf, standingOf}
+use Rattle.plan.specs.Behind.{FREE, EVENTS, deadlinesOf, standingOf}
+use Rattle.plan.specs.Margin.{marginOf}
 use Rattle.plan.specs.Draft.{Draft, turned, kept}
 use Rattle.plan.proofs.Ranged.{Ranged, ranged}
 use Rattle.plan.proofs.Ready.{Ready, start-ready, Served, served-ready, few-requests, requests-fit}
-use Rattle.plan.proofs.Drafted.{Drafted, Turned, turn-late, turn-taken, turn-room}
+use Rattle.plan.proofs.Near.{never-longer}
+use Rattle.plan.proofs.Drafted.{Drafted, Turned, turn-sure, turn-late, turn-taken, turn-room}
 use Rattle.drafts.specs.Room.{Room, draft}
 use Rattle.serving.specs.declared.Turn.{Turn}
 use Rattle.serving.specs.declared.Turn.the-variants as turn
+use Rattle.serving.specs.Sure.{Sure}
 use Rattle.serving.specs.Told.{told}
 use Rattle.schedule.specs.declared.Planned.the-variants.{Late, Events}
 use Rattle.schedule.specs.Meaning.{plannedAs, Noted, Plannable}
@@ -107,6 +111,16 @@ module _ (ws qs : List ℕ) (closed : Bool) (w₀ : List ℕ) where
 
         enough : 2 * (length (x .es) + 4) ≤ length words
         enough = omega (arith, x .few, x .size, p .room)
+
+        -- far from the ninth refresh owed the request alone is in time
+        pub sure : Sure (settingsOf ws) closed (getD qs i 0) (marginOf (settingsOf ws)) d k words
+        unfolding standingOf
+        sure =
+            let free : at k FREE ≡ freeFrom 0 (x .es) = ap (λ (l : List ℕ). at l FREE) (x .drafted .standing) in
+            record {
+              small = omega (arith, free, x .ready .reached .early, short, never-longer s g);
+              sure = λ far. turn-sure g closed q fits (x .ready .reached) (x .drafted) short enough (ltb-true _ _ far);
+            }
 
         unfolds : all ≡ whenServed (served placing s closed (x .es) q) (λ more. scheduleFrom placing s closed more (suc i) (drop (suc i) qs)) i
         unfolding scheduleFrom

@@ -2,3 +2,4 @@ pub mod Banks
 pub mod Growing
 pub mod Serves
 pub mod Tries
+pub mod Unique

@@ -191,13 +191,7 @@ pub fn margin(s: &Settings, pace: &Pace) -> u64
 }
 
 // What stood before a request is kept where it may have to be taken back.
-fn set_aside(
-    sure: bool,
-    d: &Deadlines,
-    k: &Standing,
-    earlier: &mut Deadlines,
-    stood: &mut Standing,
-)
+fn set_aside(sure: bool, d: &Deadlines, k: &Standing, earlier: &mut Deadlines, stood: &mut Standing)
     ensures { λ r. ⌜ now (earlier .exit) ≡ setAside sure (now (earlier .entry)) (now (d .entry)) ⌝ }
     ensures { λ r. ⌜ now (stood .exit) ≡ setAside sure (now (stood .entry)) (now (k .entry)) ⌝ }
 {

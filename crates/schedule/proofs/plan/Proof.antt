@@ -1,98 +1,115 @@
+use Prim.Native.Nat.{_-_}
+use native.Mathlib.Omega.{arith}
+use lib.ListN.{length}
+use borrow.Author.Needs.{needs}
+use Rattle.schedule.proofs.Walking.{Walked, walk-begins, most, few-events, walk-ends, asked-for, room, sure, walk-stops, walk-on}
 use Rattle.schedule.proofs.plan.Statement.{statement}
 use Rattle.schedule.proofs.plan.Tie as tie
-use Rattle.schedule.proofs.plan.Reads as reads
-use Rattle.schedule.proofs.plan.Lts as lts
-use Rattle.deadlines.proofs.sums.pace.Reads as pace-reads
-use Rattle.effects.proofs.start.Reads as start-reads
-use Rattle.serving.proofs.margin.Reads as margin-reads
-use Rattle.serving.proofs.serve.Reads as serve-reads
 
 abbrev Inv-requests : tie.InvT-requests
-Inv-requests s requests closed words₀ d₀ k₀ pace margin earlier₀ stood₀ i₀ i-end words d k earlier stood i =
-    ?
+Inv-requests s requests closed words₀ d₀ k₀ pace margin earlier₀ stood₀ i₀ i-end words d k earlier stood i = Walked s requests closed words₀ words d k i
 
 abbrev μ-requests : tie.MeasureT-requests
-μ-requests s requests closed words₀ d₀ k₀ pace margin earlier₀ stood₀ i₀ i-end words d k earlier stood i =
-    ?
+μ-requests s requests closed words₀ d₀ k₀ pace margin earlier₀ stood₀ i₀ i-end words d k earlier stood i = length requests - i
 
--- src/lib.rt:68:17
 start-requires : tie.Need-start-requires Inv-requests μ-requests
-start-requires c κs = ?
+start-requires c κs = search needs
 
--- src/lib.rt:70:27
 element-copy-out-pace : tie.Need-element-copy-out-pace Inv-requests μ-requests
-element-copy-out-pace c = ?
+element-copy-out-pace c = search needs
 
--- src/lib.rt:70:16
 pace-requires : tie.Need-pace-requires Inv-requests μ-requests
-pace-requires c κs = ?
+pace-requires c κs = search needs
 
--- src/lib.rt:71:9
 margin-requires : tie.Need-margin-requires Inv-requests μ-requests
-margin-requires c κs = ?
+margin-requires c κs = c .before .pace .ensures
 
--- src/lib.rt:74:5
 requests-holds : tie.Need-requests-holds Inv-requests μ-requests
-requests-holds c = ?
+requests-holds c =
+    let started = c .before .before .before .before in
+    let start = started .before .before .before in
+    let a = start .args in
+    rw (started .start .ensures) (walk-begins (a .s .now) (a .requests .now) (a .closed) (a .words .now) (start .pre))
 
--- src/lib.rt:85:13
 mul-serve : tie.Need-mul-serve Inv-requests μ-requests
-mul-serve c = ?
+mul-serve c = omega arith
 
--- src/lib.rt:85:13
 shared-slice-read-serve : tie.Need-shared-slice-read-serve Inv-requests μ-requests
-shared-slice-read-serve c = ?
+shared-slice-read-serve c = omega arith
 
--- src/lib.rt:75:13
 serve-requires : tie.Need-serve-requires Inv-requests μ-requests
-serve-requires c κs = ?
+serve-requires c κs =
+    let loop = c .before .before .before .before .before .before .before .before in
+    let start = loop .before .before .before .before .before .before .before .before in
+    let a = start .args in (
+      asked-for (a .s .now) (a .requests .now) (a .closed) (a .words .now) (start .pre) (loop .requests .inv) (omega arith),
+      (
+        room (a .s .now) (a .requests .now) (a .closed) (a .words .now) (start .pre) (loop .requests .inv) (omega arith),
+        (loop .before .before .before .pace .ensures, rw (loop .before .margin .ensures) (sure (a .s .now) (a .requests .now) (a .closed) (a .words .now) (start .pre) (loop .requests .inv) (omega arith))),
+      ),
+    )
 
 enum-told : tie.Need-enum-told Inv-requests μ-requests
-enum-told c = ?
+enum-told c = search needs
 
--- src/lib.rt:88:34
 enum-told-2 : tie.Need-enum-told-2 Inv-requests μ-requests
-enum-told-2 c = ?
+enum-told-2 c = search needs
 
--- src/lib.rt:88:34
 cast-t32 : tie.Need-cast-t32 Inv-requests μ-requests
-cast-t32 c = ?
+cast-t32 c =
+    let loop = c .before .before .before .before .before .before .before .before .before .before .before .before .before in
+    let start = loop .before .before .before .before .before .before .before .before in
+    let a = start .args in
+    omega (arith, most (a .s .now) (a .requests .now) (a .closed) (a .words .now) (start .pre) (loop .requests .inv))
 
--- src/lib.rt:88:13
 same-length : tie.Need-same-length Inv-requests μ-requests
-same-length c = ?
+same-length c = search needs
 
--- src/lib.rt:88:13
 returns : tie.Need-returns Inv-requests μ-requests
-returns c = ?
+returns c =
+    let at-serve = c .before .before .before .before in
+    let test = at-serve .before .before .before .before .before .before .before .before in
+    let loop = test .before in
+    let start = loop .before .before .before .before .before .before .before .before in
+    let a = start .args in
+    walk-stops (a .s .now) (a .requests .now) (a .closed) (a .words .now) (start .pre) (loop .requests .inv) (test .requests-test .taken)
+    (at-serve .serve .ensures .0) (c .enum-told2 .given .1)
 
--- src/lib.rt:74:20
 add-i : tie.Need-add-i Inv-requests μ-requests
-add-i c = ?
+add-i c = omega arith
 
--- src/lib.rt:74:5
 requests-less : tie.Need-requests-less Inv-requests μ-requests
-requests-less c = ?
+requests-less c = omega arith
 
--- src/lib.rt:74:5
 requests-again : tie.Need-requests-again Inv-requests μ-requests
-requests-again c = ?
+requests-again c =
+    let at-serve = c .before .before .before .before in
+    let test = at-serve .before .before .before .before .before .before .before .before in
+    let loop = test .before in
+    let start = loop .before .before .before .before .before .before .before .before in
+    let a = start .args in
+    walk-on (a .s .now) (a .requests .now) (a .closed) (a .words .now) (start .pre) (loop .requests .inv) (test .requests-test .taken)
+    (at-serve .serve .ensures .0) (c .enum-told .given .1) (at-serve .serve .ensures .1 .0)
 
--- src/lib.rt:91:21
 array-read-t35 : tie.Need-array-read-t35 Inv-requests μ-requests
-array-read-t35 c = ?
+array-read-t35 c = search needs
 
--- src/lib.rt:91:21
 cast-t17 : tie.Need-cast-t17 Inv-requests μ-requests
-cast-t17 c = ?
+cast-t17 c =
+    let loop = c .before in
+    let start = loop .before .before .before .before .before .before .before .before in
+    let a = start .args in
+    omega (arith, few-events (a .s .now) (a .requests .now) (a .closed) (a .words .now) (start .pre) (loop .requests .inv))
 
--- src/lib.rt:63:1
 same-length-2 : tie.Need-same-length-2 Inv-requests μ-requests
-same-length-2 c = ?
+same-length-2 c = search needs
 
--- src/lib.rt:63:1
 returns-2 : tie.Need-returns-2 Inv-requests μ-requests
-returns-2 c = ?
+returns-2 c =
+    let loop = c .before in
+    let start = loop .before .before .before .before .before .before .before .before in
+    let a = start .args in
+    walk-ends (a .s .now) (a .requests .now) (a .closed) (a .words .now) (start .pre) (loop .requests .inv) (omega arith)
 
 pub plan-spec : {M : Type 1} → statement M
 plan-spec =
