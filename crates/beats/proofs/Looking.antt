@@ -140,6 +140,11 @@ module _ (s : Settings) (mode : ℕ) (e : Event) (es : List Event) {pins : ℕ} 
   unfolding keptOf
   kept-else k i = i ∙ rw (ap (interruptible s) (sym p) ∙ sym q ∙ k)
 
+-- in the old edition none can
+pub kept-old : (s : Settings) (mode : ℕ) (e : Event) (es : List Event) {pairs : ℕ} → newer s ≡ false → pairs ≡ keptWhole mode e es → pairs ≡ keptOf s mode e es
+unfolding keptOf
+kept-old s mode e es f i = i ∙ rw f
+
 -- none where it gives none
 pub kept-nothing : (s : Settings) (mode : ℕ) (e : Event) (es : List Event) → gives (e .pins) ≡ false → 0 ≡ keptOf s mode e es
 unfolding keptOf keptWhole

@@ -359,8 +359,10 @@ pub fn kept(bytes: &[u8], n: u32, i: u32, mode: u32) -> u32
     if !gives_burst(w) {
         return 0;
     }
+    // before the test: the compiler puts the look ahead in place here, which needs it too
+    let half = length_of(mode) / 2;
     if pins::ten(w) {
-        return length_of(mode) / 2;
+        return half;
     }
     look_ahead(bytes, n, i, mode)
 }

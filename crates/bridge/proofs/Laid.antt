@@ -7,7 +7,7 @@ use lib.Dec.{eqb}
 use lib.ListN.{set}
 use Rattle.reading.specs.Search.{lesser, later}
 use Rattle.reading.specs.Settings.{Settings, newer}
-use Rattle.deadlines.specs.Deadlines.{OPENED, OTHER, REST, COLUMN, CLOSE, WRITTEN, LOCKED, at, activeAfter, autoAfter, cutWrite, newWrite, earlyRest, autoWrite, restAfter}
+use Rattle.deadlines.specs.Deadlines.{OPENED, OTHER, REST, COLUMN, CLOSE, WRITTEN, LOCKED, at, activeAfter, autoAfter, cutWrite, newWrite, plainWrite, autoWrite, restAfter}
 use Rattle.bridge.specs.Summary.{BankHeld, ReadHeld, WriteHeld, SleepHeld, Held, laid}
 
 -- what holds of each of the four banks
@@ -142,7 +142,7 @@ cut-laid s x t = at-bank Cut refl refl refl refl (x .write .writer % 4) (omega a
 
 pub new-laid : (s : Settings) (x : Held) (t pairs b : ℕ) → b < 4 →
     newWrite s (laid x) t pairs b ≡
-    laid (newGiven (t + 1 + pairs + 5) (record { writes = x .write .writes; end = t + 1 + pairs + s .tWTR; writer = b })
+    laid (newGiven (t + 1 + pairs + 5) (record { writes = x .write .writes; end = t + 1 + pairs + s .tWTR; writer = x .write .writer })
     (banked (onBank (writtenTill (t + 1 + pairs + s .tWR)) b (x .banks)) x))
 unfolding newWrite
 new-laid s x t pairs = at-bank New refl refl refl refl
@@ -150,18 +150,22 @@ new-laid s x t pairs = at-bank New refl refl refl refl
     New : ℕ → Type 0
     New b =
         newWrite s (laid x) t pairs b ≡
-        laid (newGiven (t + 1 + pairs + 5) (record { writes = x .write .writes; end = t + 1 + pairs + s .tWTR; writer = b })
+        laid (newGiven (t + 1 + pairs + 5) (record { writes = x .write .writes; end = t + 1 + pairs + s .tWTR; writer = x .write .writer })
         (banked (onBank (writtenTill (t + 1 + pairs + s .tWR)) b (x .banks)) x))
 
--- in the newer edition a write that can be interrupted is waited for from its first pair on
+-- without auto precharge: in the newer edition it can be interrupted, and is waited for from its first pair on
+abbrev pub plainGiven : ℕ → Held → Held
+plainGiven b x = writeGiven (record { writes = x .write .writes; end = x .write .end; writer = b }) x
+
 abbrev pub restsEarly : Settings → ℕ → ℕ → Held → Held
 restsEarly s t b x =
     writeGiven (record { writes = x .write .writes; end = t + 2 + s .tWTR; writer = x .write .writer })
     (banked (onBank (writtenTill (t + 2 + s .tWR)) b (x .banks)) x)
 
-pub early-laid : (s : Settings) (x : Held) (t b : ℕ) → b < 4 → earlyRest s (laid x) t b ≡ cond (newer s) (laid (restsEarly s t b x)) (laid x)
-unfolding earlyRest
-early-laid s x t = at-bank (λ b. earlyRest s (laid x) t b ≡ cond (newer s) (laid (restsEarly s t b x)) (laid x)) refl refl refl refl
+pub plain-laid : (s : Settings) (x : Held) (t b : ℕ) → b < 4 →
+    plainWrite s (laid x) t b ≡ cond (newer s) (laid (restsEarly s t b (plainGiven b x))) (laid (plainGiven b x))
+unfolding plainWrite
+plain-laid s x t = at-bank (λ b. plainWrite s (laid x) t b ≡ cond (newer s) (laid (restsEarly s t b (plainGiven b x))) (laid (plainGiven b x))) refl refl refl refl
 
 -- with auto precharge
 abbrev pub autoGiven : ℕ → ℕ → Held → Held

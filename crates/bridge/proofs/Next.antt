@@ -20,11 +20,11 @@ use Rattle.reading.specs.Commands.{ACTIVE, READ, WRITE, BURST-TERMINATE, PRECHA
 use Rattle.reading.specs.Bursts.{Burst, reads, dataEnd, restsFrom}
 use Rattle.reading.specs.Part.{Part, Bank, openOn, idleFrom, cuts, cutBy, burstGiven, clockAfter, partAfter, bankWrite, lastBankWrite}
 use Rattle.reading.proofs.Cuts.{All, nil, cons, auto-uncut, spent-uncut}
-use Rattle.deadlines.specs.Deadlines.{LAST, at, paceOf, overdueAfter, quietAfter, lowAfter, selfAfter, cutWrite, newWrite, autoWrite, earlyRest, restAfter, restAll}
+use Rattle.deadlines.specs.Deadlines.{LAST, at, paceOf, overdueAfter, quietAfter, lowAfter, selfAfter, cutWrite, newWrite, plainWrite, autoWrite, restAfter, restAll}
 use Rattle.deadlines.specs.Deadlines.{activeAfter, readAfter, writeAfter, cutRead, closeAfter, closeAllAfter, refreshAfter, modeSetAfter}
 use Rattle.bridge.specs.Summary.{BankHeld, SleepHeld, Held, Timed, laid, summary, bankHeld, writeHeld, sleepHeld, from, ended, cleared, lastOf, writerOf}
 use Rattle.bridge.proofs.Laid.{same, same-read, same-write, banked, readGiven, newGiven, timed, restsEarly}
-use Rattle.bridge.proofs.Laid.{onBank, activated, shut, writtenTill, autoShut, closed, writtenBy, active-laid, auto-laid, auto-write-laid, early-laid, cut-laid, new-laid, rest-laid}
+use Rattle.bridge.proofs.Laid.{onBank, activated, shut, writtenTill, autoShut, closed, writtenBy, active-laid, auto-laid, auto-write-laid, plain-laid, cut-laid, new-laid, rest-laid}
 use Rattle.bridge.proofs.Bursts.{uncut, calm, read-calm, rests-stay, find-same, find-map, held-cut, Given, Running, first, all-spent, Late, nothing, behind, Over, held-over}
 use Rattle.bridge.proofs.Bursts.{find-all, find-holds, lesser-low, lesser-add, later-low, later-high, later-add}
 use Rattle.bridge.proofs.Tests.{first-of}
@@ -413,8 +413,14 @@ module _ (s : Settings) (p : Part) (from₀ t : ℕ) (l : from₀ ≤ t) (g : So
           })
           (banked (W early auto) X)
 
+      -- before its bank is noted
       new : Held
-      new = given false false
+      new =
+          newGiven (over + 5) (record { writes = X .write .writes; end = over + s .tWTR; writer = X .write .writer })
+          (banked (W false false) X)
+
+      plain : Held
+      plain = given false false
 
       new-stored : newWrite s (cutWrite s (laid X) t) t pairs b ≡ laid new
       new-stored = ap (λ (d : List ℕ). newWrite s d t pairs b) (cut-laid s X t) ∙ new-laid s (banked cut X) t pairs b m
@@ -427,7 +433,7 @@ module _ (s : Settings) (p : Part) (from₀ t : ℕ) (l : from₀ ≤ t) (g : So
       stored true false e = sym (ap (λ (d : List ℕ). autoWrite s d t pairs b) new-stored ∙ auto-write-laid s new t pairs b m)
       stored false early e =
           early-stored early
-          ∙ sym (ap (λ (d : List ℕ). earlyRest s d t b) new-stored ∙ early-laid s new t b m ∙ ap (λ (v : Bool). cond v (laid (restsEarly s t b new)) (laid new)) e)
+          ∙ sym (ap (λ (d : List ℕ). plainWrite s d t b) new-stored ∙ plain-laid s new t b m ∙ ap (λ (v : Bool). cond v (laid (restsEarly s t b plain)) (laid plain)) e)
         where
           twice : (i : ℕ) → onBank (writtenTill (t + 2 + s .tWR)) b (W false false) i ≡ W true false i
           twice i = go (eqb i b)
@@ -436,7 +442,7 @@ module _ (s : Settings) (p : Part) (from₀ t : ℕ) (l : from₀ ≤ t) (g : So
               go true = refl
               go false = refl
 
-          early-stored : (v : Bool) → laid (given v false) ≡ cond v (laid (restsEarly s t b new)) (laid new)
+          early-stored : (v : Bool) → laid (given v false) ≡ cond v (laid (restsEarly s t b plain)) (laid plain)
           early-stored true = ap laid (sym (same twice refl refl refl refl))
           early-stored false = refl
 

@@ -3,19 +3,23 @@ use deadlines::sums;
 use judge::Verdict;
 use settings::Checked;
 use settings::Settings;
+use settings::places::EDITION;
 use settings::places::MODE;
 use words::Found;
 ghost use mathlib.Core.Path.{_≡_};
+ghost use mathlib.Core.Bool.{false};
 ghost use mathlib.Core.Option.{none};
 ghost use Prim.Native.Nat.{_+_, _≤_, _<_};
 ghost use lib.ListN.{length};
 ghost use lib.Seq.{sets};
 ghost use Rattle.words.specs.Found.{placeOf};
-ghost use Rattle.reading.specs.Settings.{settingsOf};
+ghost use Rattle.reading.specs.Settings.{settingsOf, newer};
 ghost use Rattle.reading.specs.Capture.{eventAt};
 ghost use Rattle.reading.specs.Verdict.{verdictOf};
 ghost use Rattle.reading.specs.Answers.{cellsOutcome, notClean};
+ghost use Rattle.pins.specs.Pins.{modeAfter};
 ghost use Rattle.beats.specs.Kept.{eventsFrom, keptOf};
+ghost use Rattle.beats.specs.Rows.{Sized, cellsOpened};
 ghost use Rattle.judge.specs.Meaning.{eventsIn};
 ghost use Rattle.cells.specs.Meaning.{means, givenAs, givenBy, Listable, cellsOn, lackingIn, listing};
 
@@ -45,8 +49,8 @@ fn first_broken(s: &Settings, bytes: &[u8], n: u32) -> Found
     Found::At(event)
 }
 
-// The pairs of event i. `step` chooses by itself: the compiler puts a function with one caller into it, and `interrupted`
-// inside `step` would slow every event (docs/DECISIONS.md, C19).
+// The pairs of event i, in any edition. `newer_step` chooses by itself: the compiler puts a function with one caller into it,
+// and `interrupted` inside a loop slows every event; the loop of edition 0 does without it (docs/DECISIONS.md, C19).
 fn pairs_of(s: &Settings, bytes: &[u8], n: u32, i: u32, mode: u32) -> u32
     requires { ⌜ Listable (now s) (now bytes) n × (i < n) ⌝ }
     ensures { λ r. ⌜ r ≡ keptOf (settingsOf (now (s .entry))) mode (eventAt (now (bytes .entry)) i) (eventsFrom (now (bytes .entry)) n (i + 1)) ⌝ }
@@ -92,8 +96,29 @@ fn lacking(s: &Settings, bytes: &[u8], n: u32, room: usize) -> Found
     Found::Nothing
 }
 
-// Event i, by the first cells of the rows that the banks were opened on and the mode word before it.
+// Event i of edition 0, by the first cells of the rows that the banks were opened on and the mode word before it.
 fn step(s: &Settings, bytes: &[u8], n: u32, i: u32, firsts: &[u32; 4], mode: u32) -> Given
+    requires { ⌜ Listable (now s) (now bytes) n × (i < n) ⌝ }
+    requires { ⌜ newer (settingsOf (now s)) ≡ false ⌝ }
+    ensures { λ r. ⌜ r ≡ givenAs (givenBy (settingsOf (now (s .entry))) (now (bytes .entry)) n i (now (firsts .entry)) mode) ⌝ }
+{
+    let w = capture::pins_at(bytes, i as usize);
+    if !beats::gives_burst(w) {
+        return Given::Other;
+    }
+    let bank = pins::bank(w);
+    let first = firsts[bank];
+    let column = beats::column(s, w);
+    let pairs = beats::kept(bytes, n, i, mode);
+    Given::Burst {
+        first,
+        column,
+        pairs,
+    }
+}
+
+// The same in any edition.
+fn newer_step(s: &Settings, bytes: &[u8], n: u32, i: u32, firsts: &[u32; 4], mode: u32) -> Given
     requires { ⌜ Listable (now s) (now bytes) n × (i < n) ⌝ }
     ensures { λ r. ⌜ r ≡ givenAs (givenBy (settingsOf (now (s .entry))) (now (bytes .entry)) n i (now (firsts .entry)) mode) ⌝ }
 {
@@ -120,11 +145,26 @@ fn step(s: &Settings, bytes: &[u8], n: u32, i: u32, firsts: &[u32; 4], mode: u32
     }
 }
 
-// Writes the cells from out[0] on, and says how many.
+// An event that gives no burst: ACTIVE opens its row; MODE REGISTER SET changes the mode word, which is answered.
+fn pass(s: &Settings, firsts: &mut [u32; 4], mode: u32, w: u32) -> u32
+    requires { ⌜ Sized (settingsOf (now s)) ⌝ }
+    ensures { λ r. ⌜ r ≡ modeAfter mode w ⌝ }
+    ensures { λ _. ⌜ now (firsts .exit) ≡ cellsOpened (settingsOf (now (s .entry))) (now (firsts .entry)) w ⌝ }
+{
+    if pins::code(w) == pins::ACTIVE {
+        beats::open_row(s, firsts, w);
+        return mode;
+    }
+    beats::mode_after(mode, w)
+}
+
+// Writes the cells from out[0] on, and says how many; in edition 0. There is a loop for each edition, since a call of
+// `interrupted` in a loop takes registers from every event (docs/DECISIONS.md, C19).
 fn write(s: &Settings, bytes: &[u8], n: u32, out: &mut [u32]) -> u32
     requires { ⌜ Listable (now s) (now bytes) n ⌝ }
     requires { ⌜ notClean (verdictOf (settingsOf (now s)) (eventsIn (now bytes) n)) ≡ none ⌝ }
     requires { ⌜ length (cellsOn (settingsOf (now s)) (now bytes) n) ≤ length (now out) ⌝ }
+    requires { ⌜ newer (settingsOf (now s)) ≡ false ⌝ }
     ensures { λ r. ⌜ r ≡ length (cellsOn (settingsOf (now (s .entry))) (now (bytes .entry)) n) ⌝ }
     ensures { λ _. ⌜ now (out .exit) ≡ sets (now (out .entry)) 0 (cellsOn (settingsOf (now (s .entry))) (now (bytes .entry)) n) ⌝ }
 {
@@ -140,9 +180,39 @@ fn write(s: &Settings, bytes: &[u8], n: u32, out: &mut [u32]) -> u32
         } = event
         else {
             let w = capture::pins_at(bytes, i as usize);
+            mode = pass(s, &mut firsts, mode, w);
+            continue 'events;
+        };
+        beats::write_burst(out, next, first, mode, column, pairs);
+        next += 2 * (pairs as usize);
+    }
+    next as u32
+}
+
+// The same in any edition. It does without `pass`, which with a second caller the compiler would not put into the loop of
+// edition 0.
+fn write_newer(s: &Settings, bytes: &[u8], n: u32, out: &mut [u32]) -> u32
+    requires { ⌜ Listable (now s) (now bytes) n ⌝ }
+    requires { ⌜ notClean (verdictOf (settingsOf (now s)) (eventsIn (now bytes) n)) ≡ none ⌝ }
+    requires { ⌜ length (cellsOn (settingsOf (now s)) (now bytes) n) ≤ length (now out) ⌝ }
+    ensures { λ r. ⌜ r ≡ length (cellsOn (settingsOf (now (s .entry))) (now (bytes .entry)) n) ⌝ }
+    ensures { λ _. ⌜ now (out .exit) ≡ sets (now (out .entry)) 0 (cellsOn (settingsOf (now (s .entry))) (now (bytes .entry)) n) ⌝ }
+{
+    let mut firsts = beats::first_cells(s);
+    let mut mode = s[MODE];
+    let mut next: usize = 0;
+    'newer_events: for i in 0..n {
+        let event = newer_step(s, bytes, n, i, &firsts, mode);
+        let Given::Burst {
+            first,
+            column,
+            pairs,
+        } = event
+        else {
+            let w = capture::pins_at(bytes, i as usize);
             beats::open_row(s, &mut firsts, w);
             mode = beats::mode_after(mode, w);
-            continue 'events;
+            continue 'newer_events;
         };
         beats::write_burst(out, next, first, mode, column, pairs);
         next += 2 * (pairs as usize);
@@ -169,6 +239,10 @@ fn list(s: &Settings, bytes: &[u8], n: u32, out: &mut [u32]) -> Listed
             number: 7,
             place: cells,
         };
+    }
+    if s[EDITION] == 1 {
+        let cells = write_newer(s, bytes, n, out);
+        return Listed::Written { cells };
     }
     let cells = write(s, bytes, n, out);
     Listed::Written { cells }

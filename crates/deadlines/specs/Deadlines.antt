@@ -270,18 +270,20 @@ cutWrite s d t =
 unfoldable pub cutOther : Settings → List ℕ → ℕ → ℕ → List ℕ
 cutOther s d t b = cond (eqb (at d WRITER % 4) b) d (cutWrite s d t)
 
--- the data of a new write ends at t + 1 + pairs
+-- the data of a new write ends at t + 1 + pairs; its bank is noted with whether it has auto precharge
 unfoldable pub newWrite : Settings → List ℕ → ℕ → ℕ → ℕ → List ℕ
 newWrite s d t pairs b =
     let d₁ = set d (WRITTEN + b) (t + 1 + pairs + s .tWR) in
     let d₂ = set d₁ END (t + 1 + pairs + s .tWTR) in
-    let d₃ = set d₂ LAST (t + 1 + pairs + 5) in
-    set d₃ WRITER b
+    set d₂ LAST (t + 1 + pairs + 5)
 
--- in the newer edition rules 10 and 11 count from its first pair
-unfoldable pub earlyRest : Settings → List ℕ → ℕ → ℕ → List ℕ
-earlyRest s d t b = cond (newer s) (set (set d (WRITTEN + b) (t + 2 + s .tWR)) END (t + 2 + s .tWTR)) d
+-- without auto precharge; in the newer edition rules 10 and 11 count from its first pair
+unfoldable pub plainWrite : Settings → List ℕ → ℕ → ℕ → List ℕ
+plainWrite s d t b =
+    let d₁ = set d WRITER b in
+    cond (newer s) (set (set d₁ (WRITTEN + b) (t + 2 + s .tWR)) END (t + 2 + s .tWTR)) d₁
 
+-- with auto precharge
 unfoldable pub autoWrite : Settings → List ℕ → ℕ → ℕ → ℕ → List ℕ
 autoWrite s d t pairs b =
     let d₁ = set d WRITES (t + pairs) in
@@ -291,7 +293,7 @@ autoWrite s d t pairs b =
 unfoldable pub writeAfter : Settings → List ℕ → List ℕ → ℕ → ℕ → Bool → List ℕ
 writeAfter s d m t b auto =
     let d₁ = newWrite s (cutWrite s d t) t (at m PAIRS) b in
-    cond auto (autoWrite s d₁ t (at m PAIRS) b) (earlyRest s d₁ t b)
+    cond auto (autoWrite s d₁ t (at m PAIRS) b) (plainWrite s d₁ t b)
 
 -- the last read is cut, if it can be, to leave the bus CL cycles after t
 unfoldable pub cutRead : List ℕ → List ℕ → ℕ → Bool → List ℕ

@@ -19,7 +19,7 @@ cut-over s d t pairs b = go (eqb (at d WRITER % 4) b) refl
     cut o = set d (WRITTEN + o) (lesser (at d (WRITTEN + o)) (t + 1 + 0 + s .tWR))
 
     over : List ℕ → List ℕ
-    over x = set (set (set x END (t + 1 + pairs + s .tWTR)) LAST (t + 1 + pairs + 5)) WRITER b
+    over x = set (set x END (t + 1 + pairs + s .tWTR)) LAST (t + 1 + pairs + 5)
 
     written : List ℕ → List ℕ
     written x = over (set x (WRITTEN + b) (t + 1 + pairs + s .tWR))

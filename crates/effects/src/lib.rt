@@ -101,14 +101,14 @@ fn new_write(s: &Settings, d: &mut Deadlines, t: u32, pairs: u32, b: usize)
     d[WRITTEN + b] = data_after(t, pairs, s[T_WR]);
     d[END] = data_after(t, pairs, s[T_WTR]);
     d[LAST] = data_after(t, pairs, 5);
-    d[WRITER] = b as u64;
 }
 
-// In the newer edition rules 10 and 11 count from the first pair of a write.
-fn early_rest(s: &Settings, d: &mut Deadlines, t: u32, b: usize)
+// A write without auto precharge; in the newer edition rules 10 and 11 count from its first pair.
+fn plain_write(s: &Settings, d: &mut Deadlines, t: u32, b: usize)
     requires { ⌜ b < 4 ⌝ }
-    ensures { λ r. ⌜ now (d .exit) ≡ is.earlyRest (settingsOf (now (s .entry))) (now (d .entry)) t b ⌝ }
+    ensures { λ r. ⌜ now (d .exit) ≡ is.plainWrite (settingsOf (now (s .entry))) (now (d .entry)) t b ⌝ }
 {
+    d[WRITER] = b as u64;
     if s[EDITION] != 1 {
         return;
     }
@@ -136,7 +136,7 @@ pub fn write_after(s: &Settings, d: &mut Deadlines, pace: &Pace, t: u32, b: usiz
         auto_write(s, d, t, pairs, b);
         return;
     }
-    early_rest(s, d, t, b);
+    plain_write(s, d, t, b);
 }
 
 pub fn cut_read(d: &mut Deadlines, pace: &Pace, t: u32, cut: bool)

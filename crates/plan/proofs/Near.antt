@@ -16,7 +16,7 @@ use Rattle.reading.specs.Bursts.{Burst, wholeEnd}
 use Rattle.reading.proofs.Cuts.{All, nil, cons}
 use Rattle.deadlines.specs.Deadlines.{OPENED, OTHER, REST, COLUMN, CLOSE, WRITTEN, LOCKED, BUSY, OVERDUE, BUS, READS, WRITES, END, LAST, WRITER, LATENCY, at}
 use Rattle.deadlines.specs.Deadlines.{Wait, otherBank, soonest, overdueFrom, paceOf, startOf}
-use Rattle.deadlines.specs.Deadlines.{activeAfter, autoAfter, readAfter, cutWrite, newWrite, earlyRest, autoWrite, writeAfter, cutRead, restAfter, closeAfter, restAll, closeAllAfter, refreshAfter}
+use Rattle.deadlines.specs.Deadlines.{activeAfter, autoAfter, readAfter, cutWrite, newWrite, plainWrite, autoWrite, writeAfter, cutRead, restAfter, closeAfter, restAll, closeAllAfter, refreshAfter}
 use Rattle.bridge.proofs.Bursts.{lesser-left, Given, find-all}
 use Rattle.plan.specs.Behind.{READ-END, WRITE-END, cutEnd}
 use Rattle.plan.specs.Margin.{waitOf}
@@ -126,16 +126,15 @@ module _ (s : Settings) (g : Ranged s) {n : ℕ} {d : List ℕ} (near : Near s n
         let d₁ = near-set now o (lesser (at d o) (t + 1 + 0 + s .tWR)) (omega (arith, least, now .by o (omega arith))) in
         let d₂ = near-set d₁ (WRITTEN + b) (t + 1 + h m + s .tWR) (omega arith) in
         let d₃ = near-set d₂ END (t + 1 + h m + s .tWTR) (omega arith) in
-        let d₄ = near-set d₃ LAST (t + 1 + h m + 5) (omega arith) in
-        near-set d₄ WRITER b (omega arith)
+        near-set d₃ LAST (t + 1 + h m + 5) (omega arith)
 
     pub near-write : (auto : Bool) → Near s (suc t) (writeAfter s d (paceOf m) t b auto)
-    unfolding writeAfter autoWrite earlyRest
+    unfolding writeAfter autoWrite plainWrite
     near-write true =
         let d₅ = near-set near-new WRITES (t + h m) (omega arith) in
         let d₆ = near-set d₅ WRITER (b + 4) (omega arith) in
         near-auto d₆ b (t + 1 + h m + s .tWR + s .tRP) lb (omega arith)
-    near-write false = rw (g .old) near-new
+    near-write false = rw (g .old) (near-set near-new WRITER b (omega arith))
 
     pub near-close : Near s (suc t) (closeAfter s d (paceOf m) t b)
     unfolding closeAfter

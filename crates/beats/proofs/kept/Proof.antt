@@ -23,23 +23,24 @@ returns c =
     kept-none (a .mode) (eventAt (a .bytes .now) (a .i)) (eventsFrom (a .bytes .now) (a .n) (a .i + 1)) (at-pins-at .pins-at .ensures)
     (c .before .gives-burst .ensures) (not-true _ (c .if1 .taken))
 
-ten-requires : tie.Need-ten-requires
-ten-requires c κs = search needs
-
 length-of-requires : tie.Need-length-of-requires
 length-of-requires c κs = search needs
 
+ten-requires : tie.Need-ten-requires
+ten-requires c κs = search needs
+
 returns-2 : tie.Need-returns-2
 returns-2 c =
-    let at-ten = c .before .before in
-    let at-if1 = at-ten .before in
+    let at-ten = c .before in
+    let at-length-of = at-ten .before in
+    let at-if1 = at-length-of .before in
     let at-gives-burst = at-if1 .before in
     let at-pins-at = at-gives-burst .before in
     let start = at-pins-at .before .before in
     let a = start .args in
     kept-all (a .mode) (eventAt (a .bytes .now) (a .i)) (eventsFrom (a .bytes .now) (a .n) (a .i + 1)) (at-pins-at .pins-at .ensures)
-    (at-gives-burst .gives-burst .ensures) (not-false _ (at-if1 .if1 .left)) (at-ten .ten .ensures) (c .before .if2 .taken)
-    (ap (λ (v : ℕ). v / 2) (c .length-of .ensures))
+    (at-gives-burst .gives-burst .ensures) (not-false _ (at-if1 .if1 .left)) (at-ten .ten .ensures) (c .if2 .taken)
+    (ap (λ (v : ℕ). v / 2) (at-length-of .length-of .ensures))
 
 look-ahead-requires : tie.Need-look-ahead-requires
 look-ahead-requires c κs = search needs
@@ -47,7 +48,7 @@ look-ahead-requires c κs = search needs
 returns-3 : tie.Need-returns-3
 returns-3 c =
     let at-ten = c .before .before in
-    let at-if1 = at-ten .before in
+    let at-if1 = at-ten .before .before in
     let at-gives-burst = at-if1 .before in
     let at-pins-at = at-gives-burst .before in
     let start = at-pins-at .before .before in
@@ -62,8 +63,8 @@ kept-spec =
     pins-at-requires
     gives-burst-requires
     returns
-    ten-requires
     length-of-requires
+    ten-requires
     returns-2
     look-ahead-requires
     returns-3)

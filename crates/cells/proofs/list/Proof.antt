@@ -1,3 +1,4 @@
+use borrow.Author.Tests.{ne-eqb}
 use Rattle.reading.specs.Settings.{settingsOf}
 use Rattle.cells.proofs.Listing.{not-clean, none-broken, too-short, fits, listed}
 use borrow.Author.Needs.{needs}
@@ -45,9 +46,13 @@ returns-2 c =
 enum-told-2 : tie.Need-enum-told-2
 enum-told-2 c = search needs
 
-write-requires : tie.Need-write-requires
-write-requires c κs =
-    let asked = c .before .before .before in
+element-copy-out-if1 : tie.Need-element-copy-out-if1
+element-copy-out-if1 c = search needs
+
+write-newer-requires : tie.Need-write-newer-requires
+write-newer-requires c κs =
+    let told-2 = c .before .before .before in
+    let asked = told-2 .before .before in
     let told = asked .before in
     let judged = told .before .before in
     let start = judged .before .before .before in
@@ -56,7 +61,7 @@ write-requires c κs =
     let clean = none-broken s (a .bytes .now) (a .n) (a .out .now) (judged .first-broken .result) (judged .first-broken .ensures)
     (told .enum-told .given .1) in
     let room = fits s (a .bytes .now) (a .n) (a .out .now) (judged .first-broken .result) (judged .first-broken .ensures)
-    (told .enum-told .given .1) (asked .lacking .result) (asked .lacking .ensures) (c .before .enum-told2 .given .1) in
+    (told .enum-told .given .1) (asked .lacking .result) (asked .lacking .ensures) (told-2 .enum-told2 .given .1) in
     (start .pre, (clean, room))
 
 same-length : tie.Need-same-length
@@ -64,7 +69,36 @@ same-length c = search needs
 
 returns-3 : tie.Need-returns-3
 returns-3 c =
-    let told-2 = c .before .before .before .before in
+    let told-2 = c .before .before .before .before .before .before in
+    let asked = told-2 .before .before in
+    let told = asked .before in
+    let judged = told .before .before in
+    let a = judged .before .before .before .args in
+    listed (settingsOf (a .s .now)) (a .bytes .now) (a .n) (a .out .now) (judged .first-broken .result) (judged .first-broken .ensures)
+    (told .enum-told .given .1) (asked .lacking .result) (asked .lacking .ensures) (told-2 .enum-told2 .given .1)
+    (c .before .before .write-newer .ensures .0) (c .before .before .write-newer .ensures .1)
+
+write-requires : tie.Need-write-requires
+write-requires c κs =
+    let told-2 = c .before .before .before in
+    let asked = told-2 .before .before in
+    let told = asked .before in
+    let judged = told .before .before in
+    let start = judged .before .before .before in
+    let a = start .args in
+    let s = settingsOf (a .s .now) in
+    let clean = none-broken s (a .bytes .now) (a .n) (a .out .now) (judged .first-broken .result) (judged .first-broken .ensures)
+    (told .enum-told .given .1) in
+    let room = fits s (a .bytes .now) (a .n) (a .out .now) (judged .first-broken .result) (judged .first-broken .ensures)
+    (told .enum-told .given .1) (asked .lacking .result) (asked .lacking .ensures) (told-2 .enum-told2 .given .1) in
+    (start .pre, (clean, (room, ne-eqb _ _ (c .before .if1 .left))))
+
+same-length-2 : tie.Need-same-length-2
+same-length-2 c = search needs
+
+returns-4 : tie.Need-returns-4
+returns-4 c =
+    let told-2 = c .before .before .before .before .before .before in
     let asked = told-2 .before .before in
     let told = asked .before in
     let judged = told .before .before in
@@ -85,6 +119,10 @@ list-spec =
     enum-known-short
     returns-2
     enum-told-2
-    write-requires
+    element-copy-out-if1
+    write-newer-requires
     same-length
-    returns-3)
+    returns-3
+    write-requires
+    same-length-2
+    returns-4)

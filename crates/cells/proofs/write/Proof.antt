@@ -28,7 +28,9 @@ events-holds c =
     (c .before .first-cells .ensures)
 
 step-requires : tie.Need-step-requires Inv-events μ-events
-step-requires c κs = (c .before .before .before .before .before .before .before .pre .0, c .before .events-test .taken)
+step-requires c κs =
+    let start = c .before .before .before .before .before .before .before in
+    ((start .pre .0, c .before .events-test .taken), start .pre .1 .1 .1)
 
 enum-known-event : tie.Need-enum-known-event Inv-events μ-events
 enum-known-event c = search needs
@@ -44,13 +46,10 @@ pins-at-requires c κs =
     let test = c .before .before .before .before in
     omega (arith, test .before .before .before .before .before .before .pre .0 .fit .long, test .events-test .taken)
 
-open-row-requires : tie.Need-open-row-requires Inv-events μ-events
-open-row-requires c κs =
+pass-requires : tie.Need-pass-requires Inv-events μ-events
+pass-requires c κs =
     let stepped = c .before .before .before .before in
     stepped .before .before .before .before .before .before .before .before .pre .0 .sized
-
-mode-after-requires : tie.Need-mode-after-requires Inv-events μ-events
-mode-after-requires c κs = search needs
 
 add-i : tie.Need-add-i Inv-events μ-events
 add-i c = omega arith
@@ -60,16 +59,16 @@ events-less c = omega arith
 
 events-again : tie.Need-events-again Inv-events μ-events
 events-again c =
-    let other = c .before .before .before .before in
+    let other = c .before .before .before in
     let stepped = other .before .before in
     let loop = stepped .before .before .before in
     let start = loop .before .before .before .before .before in
     let x = loop .events in
     let none = told-other (settingsOf (start .args .s .now)) (start .args .bytes .now) (start .args .n) (x .i) (x .firsts) (x .mode)
     (stepped .step .ensures) (other .enum-told .given .1) in
-    let pins = c .before .before .before .pins-at .ensures in
+    let pins = c .before .before .pins-at .ensures in
     passes (start .args .s .now) (start .args .bytes .now) (start .args .n) (start .args .out .now) (x .inv) (stepped .before .before .events-test .taken)
-    pins (rw pins none) (c .before .open-row .ensures) (c .mode-after .ensures)
+    pins (rw pins none) (c .pass .ensures .1) (c .pass .ensures .0)
 
 write-burst-requires : tie.Need-write-burst-requires Inv-events μ-events
 write-burst-requires c κs =
@@ -82,7 +81,7 @@ write-burst-requires c κs =
     let is = told (settingsOf (a .s .now)) (a .bytes .now) (a .n) (x .i) (x .firsts) (x .mode) (stepped .step .ensures) (burst .event .given .1) in
     let taken = stepped .before .before .events-test .taken in (
       in-row (a .s .now) (a .bytes .now) (a .n) (a .out .now) (x .inv) taken refl (is .kept) refl (is .row) (is .place) (start .pre .0),
-      room (a .s .now) (a .bytes .now) (a .n) (a .out .now) (x .inv) taken refl (is .kept) (start .pre .1 .1),
+      room (a .s .now) (a .bytes .now) (a .n) (a .out .now) (x .inv) taken refl (is .kept) (start .pre .1 .1 .0),
     )
 
 cast-next : tie.Need-cast-next Inv-events μ-events
@@ -103,7 +102,7 @@ add-next c =
     let taken = stepped .before .before .events-test .taken in
     omega (
       arith,
-      room (a .s .now) (a .bytes .now) (a .n) (a .out .now) (x .inv) taken refl (is .kept) (start .pre .1 .1),
+      room (a .s .now) (a .bytes .now) (a .n) (a .out .now) (x .inv) taken refl (is .kept) (start .pre .1 .1 .0),
       size (a .s .now) (a .bytes .now) (a .n) (a .out .now) (x .inv),
     )
 
@@ -155,8 +154,7 @@ write-spec =
     enum-told
     cast-pins-at
     pins-at-requires
-    open-row-requires
-    mode-after-requires
+    pass-requires
     add-i
     events-less
     events-again

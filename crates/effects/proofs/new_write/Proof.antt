@@ -33,9 +33,6 @@ data-after-requires-3 c κs = search needs
 element-write-d-3 : tie.Need-element-write-d-3
 element-write-d-3 c = search needs
 
-element-write-d-4 : tie.Need-element-write-d-4
-element-write-d-4 c = search needs
-
 returns : tie.Need-returns
 unfolding newWrite
 returns c =
@@ -56,5 +53,4 @@ new-write-spec =
     element-write-d-2
     data-after-requires-3
     element-write-d-3
-    element-write-d-4
     returns)

@@ -2,7 +2,7 @@ use Prim.Native.Nat.{ℕ}
 use mathlib.Core.List.{List}
 use mathlib.Core.Path.{ap}
 use Rattle.reading.specs.Settings.{settingsOf}
-use Rattle.deadlines.specs.Deadlines.{PAIRS, at, autoWrite, earlyRest, writeAfter}
+use Rattle.deadlines.specs.Deadlines.{PAIRS, at, plainWrite, autoWrite, writeAfter}
 use Rattle.effects.proofs.Writing.{cut-over}
 use borrow.Author.Needs.{needs}
 use Rattle.effects.proofs.write_after.Statement.{statement}
@@ -30,8 +30,8 @@ returns c =
     rw (c .auto-write .ensures, asked .if1 .taken, new .new-write .ensures, new .before .before .cut-write .ensures)
     (ap (λ (d : List ℕ). autoWrite (settingsOf (a .s .now)) d (a .t) pairs (a .b)) (cut-over (settingsOf (a .s .now)) (a .d .now) (a .t) pairs (a .b)))
 
-early-rest-requires : tie.Need-early-rest-requires
-early-rest-requires c κs = search needs
+plain-write-requires : tie.Need-plain-write-requires
+plain-write-requires c κs = search needs
 
 returns-2 : tie.Need-returns-2
 unfolding writeAfter
@@ -40,8 +40,8 @@ returns-2 c =
     let new = asked .before in
     let a = new .before .before .before .before .before .args in
     let pairs = at (a .pace .now) PAIRS in
-    rw (c .early-rest .ensures, asked .if1 .left, new .new-write .ensures, new .before .before .cut-write .ensures)
-    (ap (λ (d : List ℕ). earlyRest (settingsOf (a .s .now)) d (a .t) (a .b)) (cut-over (settingsOf (a .s .now)) (a .d .now) (a .t) pairs (a .b)))
+    rw (c .plain-write .ensures, asked .if1 .left, new .new-write .ensures, new .before .before .cut-write .ensures)
+    (ap (λ (d : List ℕ). plainWrite (settingsOf (a .s .now)) d (a .t) (a .b)) (cut-over (settingsOf (a .s .now)) (a .d .now) (a .t) pairs (a .b)))
 
 pub write-after-spec : {M : Type 1} → statement M
 write-after-spec =
@@ -52,5 +52,5 @@ write-after-spec =
     new-write-requires
     auto-write-requires
     returns
-    early-rest-requires
+    plain-write-requires
     returns-2)

@@ -1,14 +1,17 @@
 use borrow.Author.Tests.{eq-eqb, ne-eqb}
-use Rattle.deadlines.specs.Deadlines.{earlyRest}
+use Rattle.deadlines.specs.Deadlines.{plainWrite}
 use borrow.Author.Needs.{needs}
-use Rattle.effects.proofs.early_rest.Statement.{statement}
-use Rattle.effects.proofs.early_rest.Tie as tie
+use Rattle.effects.proofs.plain_write.Statement.{statement}
+use Rattle.effects.proofs.plain_write.Tie as tie
+
+element-write-d : tie.Need-element-write-d
+element-write-d c = search needs
 
 element-copy-out-if1 : tie.Need-element-copy-out-if1
 element-copy-out-if1 c = search needs
 
 returns : tie.Need-returns
-unfolding earlyRest
+unfolding plainWrite
 returns c = rw (ne-eqb _ _ (c .if1 .taken))
 
 element-copy-out-after2 : tie.Need-element-copy-out-after2
@@ -23,8 +26,8 @@ add-d c = search needs
 mul-d : tie.Need-mul-d
 mul-d c = search needs
 
-element-write-d : tie.Need-element-write-d
-element-write-d c = search needs
+element-write-d-2 : tie.Need-element-write-d-2
+element-write-d-2 c = search needs
 
 element-copy-out-after2-2 : tie.Need-element-copy-out-after2-2
 element-copy-out-after2-2 c = search needs
@@ -32,25 +35,26 @@ element-copy-out-after2-2 c = search needs
 after2-requires-2 : tie.Need-after2-requires-2
 after2-requires-2 c κs = search needs
 
-element-write-d-2 : tie.Need-element-write-d-2
-element-write-d-2 c = search needs
+element-write-d-3 : tie.Need-element-write-d-3
+element-write-d-3 c = search needs
 
 returns-2 : tie.Need-returns-2
-unfolding earlyRest
+unfolding plainWrite
 returns-2 c = rw (c .after22 .ensures, c .before .before .after2 .ensures, eq-eqb _ _ (c .before .before .before .before .if1 .left))
 
-pub early-rest-spec : {M : Type 1} → statement M
-early-rest-spec =
+pub plain-write-spec : {M : Type 1} → statement M
+plain-write-spec =
     tie.close
     (tie.spec
+    element-write-d
     element-copy-out-if1
     returns
     element-copy-out-after2
     after2-requires
     add-d
     mul-d
-    element-write-d
+    element-write-d-2
     element-copy-out-after2-2
     after2-requires-2
-    element-write-d-2
+    element-write-d-3
     returns-2)
