@@ -4,8 +4,9 @@ there by its pkg-config file, in C99 and in C++17 with warnings as errors.
 
 1. The folder has the files that it should, their checksums hold, and all of them say one version.
 2. The header compiles by itself; every function of it is in the manual page and in the archive, and no other.
-3. The example, compiled by gcc and by g++, says of files and lists of files what document 01 and the samples' table say; of
-   files that cannot be read or change while they are read it says so.
+3. The examples, compiled by gcc and by g++: the one that judges says of files and lists of files what document 01 and the
+   samples' table say; of files that cannot be read or change while they are read it says so. The one that schedules writes
+   the captures that document 01 and request K7 work out, and says why where there is none.
 4. Two threads that call at the same time get what each call answers alone; of both builds.
 5. No call of either build takes more stack than the header says: measured, and by its instructions on every path."""
 import glob
@@ -23,14 +24,14 @@ sys.dont_write_bytecode = True
 sys.path[:0] = [HERE, os.path.join(HERE, "..")]
 import elf
 import frames
-from captures import ACTIVE, LOW, NOP, READ, SLEEPY, WRITE, capture, quiet, setting
+from captures import A10, ACTIVE, LOW, NOP, READ, SLEEPY, USUAL, WRITE, bank, capture, quiet, setting
 
 X86 = os.path.join(ROOT, "tests", "x86")
 STRICT = ["-O2", "-Wall", "-Wextra", "-Wpedantic", "-Wconversion", "-Werror"]
 LANGUAGES = {"gcc": ["cc", "-std=c99"], "g++": ["c++", "-std=c++17", "-x", "c++"]}
 BUILDS = {"quick": "morgazell", "smallest": "morgazell-smallest"}
 
-FILES = ["LICENSE", "SHA256SUMS", "VERSION", "examples/judge_files.c", "include/morgazell.h", "lib/libmorgazell.a",
+FILES = ["LICENSE", "SHA256SUMS", "VERSION", "examples/judge_files.c", "examples/schedule_requests.c", "include/morgazell.h", "lib/libmorgazell.a",
          "lib/pkgconfig/morgazell.pc", "share/man/man3/morgazell.3"]
 
 wrong = 0
@@ -138,9 +139,9 @@ CASES = [
 TOO_LONG = "refused (1): it is not as long as it says, or no capture is so long"
 
 
-def compiled(folder, compiler, out, *more):
+def compiled(folder, compiler, example, out, *more):
     """The example as a client compiles it, by what pkg-config says."""
-    source = os.path.join(folder, "examples", "judge_files.c")
+    source = os.path.join(folder, "examples", example + ".c")
     words = [X86, *LANGUAGES[compiler], *STRICT, *pkg_config(folder, "--cflags"), "-o", out, source, "-x", "none", *more]
     subprocess.run(words + pkg_config(folder, "--libs"), check=True)
     return out
@@ -211,6 +212,55 @@ def hold_changing(program, folder):
          (0, os.path.join(folder, "0.capture") + ": clean, 2 events judged\n", ""))
 
 
+# The list of document 01's case m, with the events that request K7 works out for it.
+LIST_M = "read 5\nwrite 8388608\nread 0x5\nread 8388608"
+READ_5, READ_B1, WRITE_B1, ACTIVE_B1 = READ | 5, READ | bank(1), WRITE | bank(1), ACTIVE | bank(1)
+OPEN_M = [(0, ACTIVE), (3, READ_5), (4, ACTIVE_B1), (8, WRITE_B1), (12, READ_5), (14, READ_B1)]
+CLOSED_M = [(0, ACTIVE), (3, READ_5 | A10), (4, ACTIVE_B1), (8, WRITE_B1 | A10), (10, ACTIVE), (13, READ_5 | A10),
+            (17, ACTIVE_B1), (20, READ_B1 | A10)]
+NO_REQUEST = "schedule_requests: line %d is neither `read CELL` nor `write CELL`\n"
+
+NO_SCHEDULES = [
+    ("thirteen settings", USUAL[:13], "", 2, "refused (2): a schedule takes fourteen settings\n"),
+    ("sixteen settings", SLEEPY, "", 2, "refused (2): a schedule takes fourteen settings\n"),
+    ("tRC 11 beside tRAS 7 and tRP 3", setting(7, 11), "", 2,
+     "refused (3): setting 7 is out of its range, or it is tRC and above tRAS + tRP\n"),
+    ("a cell that the part lacks", USUAL, "read 5\nread 33554432\n", 2,
+     "refused (5): request 1 asks for a cell that the part lacks, or is one too many\n"),
+    ("2,001 requests", USUAL, "read 5\n" * 2001, 2,
+     "refused (5): request 2000 asks for a cell that the part lacks, or is one too many\n"),
+    ("tREFI 2, nine times", setting(13, 2), "read 5\n" * 9, 2, "refused (6): refresh cannot be kept at request 5\n"),
+    ("another word", USUAL, "read 5\nerase 5\n", 3, NO_REQUEST % 2),
+    ("an empty line", USUAL, "read 5\n\n", 3, NO_REQUEST % 2),
+    ("a cell of 32 bits", USUAL, "read 2147483648\n", 3, NO_REQUEST % 1),
+    ("a long line", USUAL, "read 5" + " " * 99 + "\n", 3, NO_REQUEST % 1),
+    ("a byte 0", USUAL, "read 5\0\n", 3, NO_REQUEST % 1),
+    ("a setting that is none", ["one"] + USUAL[1:], "", 3, "schedule_requests: a setting is not a number\n"),
+]
+
+
+def scheduled(program, policy, settings, lines):
+    run = subprocess.run([X86, "run", program, policy, *map(str, settings)], input=lines.encode(), capture_output=True)
+    return run.returncode, run.stdout, run.stderr.decode()
+
+
+def hold_schedules(program):
+    hold("case m, open rows", scheduled(program, "open", USUAL, LIST_M), (0, capture(OPEN_M), ""))
+    hold("case m, closed rows", scheduled(program, "closed", USUAL, LIST_M), (0, capture(CLOSED_M), ""))
+    hold("no requests", scheduled(program, "open", USUAL, ""), (0, capture([]), ""))
+    hold("the longest list", len(scheduled(program, "closed", USUAL, "read 5\n" * 2000)[1]) > 80 + 8 * 4000, True)
+    for name, settings, lines, status, said in NO_SCHEDULES:
+        hold(name, scheduled(program, "open", settings, lines), (status, b"", said))
+    hold("a row policy that is none", scheduled(program, "half", USUAL, "")[:2], (3, b""))
+    full = subprocess.run(["sh", "-c", '"$0" "$@" >/dev/full', X86, "run", program, "open", *map(str, USUAL)], input=b"", capture_output=True)
+    complaint = b"schedule_requests: standard output could not be written to its end; what was written is not whole\n"
+    hold("a schedule on a full disk", (full.returncode, full.stderr), (3, complaint))
+    folder = os.open(ROOT, os.O_RDONLY)
+    unread = subprocess.run([X86, "run", program, "open", *map(str, USUAL)], stdin=folder, capture_output=True)
+    os.close(folder)
+    hold("requests from a folder", (unread.returncode, unread.stdout), (3, b""))
+
+
 # ---- 4 and 5: threads and stack
 
 def hold_threads(build):
@@ -240,13 +290,14 @@ def main():
             hold_folder(folder)
             hold_header(folder)
             for compiler in LANGUAGES:
-                program = compiled(folder, compiler, os.path.join(out, "judge_files"))
+                program = compiled(folder, compiler, "judge_files", os.path.join(out, "judge_files"))
                 hold_version(folder, program)
                 hold_cases(program, out)
                 hold_samples(program)
+                hold_schedules(compiled(folder, compiler, "schedule_requests", os.path.join(out, "schedule_requests")))
             grows = os.path.join(out, "grow.o")
             subprocess.run([X86, "cc", "-std=c99", "-c", "-o", grows, os.path.join(HERE, "grow.c")], check=True)
-            hold_changing(compiled(folder, "gcc", os.path.join(out, "judge_changing"), grows, "-Wl,--wrap=read"), out)
+            hold_changing(compiled(folder, "gcc", "judge_files", os.path.join(out, "judge_changing"), grows, "-Wl,--wrap=read"), out)
         hold_threads(build)
         hold_stack(build, name)
     print("package: %d wrong" % wrong)
