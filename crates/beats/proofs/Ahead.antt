@@ -55,7 +55,7 @@ module _ (s : Settings) (p : Part) (e : Event) (es : List Event) (r : Rises (suc
   abbrev given : Burst
   given = burstGiven s p (e .cycle) (commandOf (e .pins))
 
-  kept-in-the-end : leftOf s (step s p e) es given ≡ withPairs (keptOf s (p .mode) e es) given
+  pub kept-in-the-end : leftOf s (step s p e) es given ≡ withPairs (keptOf s (p .mode) e es) given
   unfolding keptOf keptWhole
   kept-in-the-end = go (tenOf (e .pins)) refl (newer s) refl (eqb (codeOf (e .pins)) 2) refl
     where

@@ -97,6 +97,17 @@ next-le s k pairs (e ∷ es) = go (gives (e .pins)) (next-le s k pairs es)
     go true ih = lesser-le pairs (e .cycle - cond (eqb (codeOf (e .pins)) 10) (k + 1 + s .tWTR) k)
     go false ih = ih
 
+-- a write that is interrupted and keeps a pair: where one is all that it has, or all that is left already, no more is lost
+module _ (s : Settings) (mode : ℕ) (e : Event) (es : List Event) (some : 1 ≤ interruptedAhead s mode e es) where
+  next-most : interruptedAhead s mode e es ≤ nextLeaves s (e .cycle) (h mode) es
+  next-most = lesser-le (nextLeaves s (e .cycle) (h mode) es) (rowLeaves s (bankOf (e .pins)) (e .cycle) (h mode) es)
+
+  pub one-there : {half : ℕ} → half ≡ h mode → half ≡ 1 → half ≡ interruptedAhead s mode e es
+  one-there f o = omega (arith, some, next-most, next-le s (e .cycle) (h mode) es)
+
+  pub one-left : {half next : ℕ} → half ≡ h mode → next ≡ nextLeaves s (e .cycle) half es → next ≡ 1 → next ≡ interruptedAhead s mode e es
+  one-left f g o = let left = g ∙ ap (λ (m : ℕ). nextLeaves s (e .cycle) m es) f in omega (arith, some, next-most, left)
+
 pub kept-half : (s : Settings) (mode : ℕ) (e : Event) (es : List Event) → keptOf s mode e es ≤ h mode
 unfolding keptOf keptWhole
 kept-half s mode e es = go (interruptible s (e .pins)) (gives (e .pins)) (tenOf (e .pins))
@@ -130,11 +141,23 @@ module _ (mode : ℕ) (e : Event) (es : List Event) {pins : ℕ} (p : pins ≡ e
     unfolding keptWhole
     kept-cut t i = i ∙ rw (ap gives (sym p) ∙ sym g ∙ f, ap tenOf (sym p) ∙ sym a ∙ t)
 
+early-gives : (s : Settings) (w : ℕ) → interruptible s w ≡ true → gives w ≡ true
+early-gives s w = go (newer s) (eqb (codeOf w) 10) (eqb (codeOf w) 2) (tenOf w)
+  where
+    go : (n u v a : Bool) → (n && (v && not a)) ≡ true → (u || v) ≡ true
+    go n true v a e = refl
+    go n false true a e = refl
+    go true false false a e = e
+    go false false false a e = e
+
 -- and of any burst, by whether it can be interrupted
 module _ (s : Settings) (mode : ℕ) (e : Event) (es : List Event) {pins : ℕ} (p : pins ≡ e .pins) {early : Bool} (q : early ≡ interruptible s pins) where
   pub kept-early : {pairs : ℕ} → early ≡ true → pairs ≡ interruptedAhead s mode e es → pairs ≡ keptOf s mode e es
   unfolding keptOf
   kept-early k i = i ∙ rw (ap (interruptible s) (sym p) ∙ sym q ∙ k)
+
+  pub early-keeps : early ≡ true → (gives (e .pins) ≡ true → 1 ≤ keptOf s mode e es) → 1 ≤ interruptedAhead s mode e es
+  early-keeps k f = rw (kept-early k refl) (f (early-gives s (e .pins) (ap (interruptible s) (sym p) ∙ sym q ∙ k)))
 
   pub kept-else : {pairs : ℕ} → early ≡ false → pairs ≡ keptWhole mode e es → pairs ≡ keptOf s mode e es
   unfolding keptOf

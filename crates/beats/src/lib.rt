@@ -339,13 +339,21 @@ pub fn interruptible(s: &Settings, w: u32) -> bool
     !pins::ten(w)
 }
 
-// The pairs that such a write of event i keeps in the end.
+// The pairs that such a write of event i keeps in the end. In a clean capture it keeps one at least, so the search ends where
+// one is left.
 pub fn interrupted(s: &Settings, bytes: &[u8], n: u32, i: u32, mode: u32) -> u32
     requires { ⌜ Fit (now bytes) n × (i < n) ⌝ }
+    requires { ⌜ 1 ≤ interruptedAhead (settingsOf (now s)) mode (eventAt (now bytes) i) (eventsFrom (now bytes) n (i + 1)) ⌝ }
     ensures { λ r. ⌜ r ≡ interruptedAhead (settingsOf (now (s .entry))) mode (eventAt (now (bytes .entry)) i) (eventsFrom (now (bytes .entry)) n (i + 1)) ⌝ }
 {
     let half = length_of(mode) / 2;
+    if half == 1 {
+        return half;
+    }
     let next = next_leaves(s, bytes, n, i, half);
+    if next == 1 {
+        return next;
+    }
     let row = row_leaves(s, bytes, n, i, half);
     fewer(next, row)
 }

@@ -41,7 +41,7 @@ is-clean clean e = refl
 is-clean (broken r i t) e = let z : _≡_ {A = ℕ} 0 1 = cc in absurd (omega arith)
 
 -- no cycle is out of reach
-abbrev Early : List Event → Type 0
+abbrev pub Early : List Event → Type 0
 Early [] = Unit {0}
 Early (e ∷ es) = (e .cycle < FAR) × Early es
 
@@ -77,7 +77,7 @@ module _ (s : Settings) (p : Part) (from : ℕ) (e : Event) (l : from ≤ e .cyc
   third : rule3 s p t c ≡ true
   third = none-broken s p e .0 kept 3 (List·Memᴰ.List·Memᴰ·tail (List·Memᴰ.List·Memᴰ·tail (List·Memᴰ.List·Memᴰ·head refl)))
 
-  told : Told s p e
+  pub told : Told s p e
   told =
       record {
         cut = same-cuts s p from t l g c;

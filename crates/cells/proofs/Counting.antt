@@ -1,8 +1,8 @@
 -- Counting the cells: what is counted before event i, and the cells of the events from i on.
 use Prim.Native.Nat.{ℕ, _+_, _*_, _≤_, _<_}
-use mathlib.Core.List.{List, _++_, map}
+use mathlib.Core.List.{List, _∷_, _++_, map}
 use mathlib.Core.Option.{none}
-use mathlib.Core.Path.{_≡_, refl, sym, ap, _∙_}
+use mathlib.Core.Path.{_≡_, refl, sym, ap, _∙_, subst}
 use native.Mathlib.Nat.{sub-zero}
 use native.Mathlib.Omega.{arith}
 use lib.ListN.{length, length-append}
@@ -22,8 +22,9 @@ use Rattle.beats.proofs.Looking.{kept-le}
 use Rattle.beats.proofs.Commands.{mode-is}
 use Rattle.beats.proofs.Storing.{length-cells}
 use Rattle.beats.proofs.Ahead.{eventCells, cellsFrom, cells-ahead}
-use Rattle.cells.specs.Meaning.{Listable, cellsOn}
+use Rattle.cells.specs.Meaning.{Listable, KeepsPair, cellsOn}
 use Rattle.cells.proofs.Alone.{events-early, all-clean, each-alone}
+use Rattle.cells.proofs.Pairs.{Keeps, each-keeps}
 
 module _ (settings bytes : List ℕ) (n : ℕ) where
   abbrev s : Settings
@@ -50,9 +51,23 @@ module _ (settings bytes : List ℕ) (n : ℕ) where
       eventCells s p (eventAt bytes i) (eventsFrom bytes n (i + 1)) ++ cellsFrom s (step s p (eventAt bytes i)) (eventsFrom bytes n (i + 1))
   next-cells p i l = ap (cellsFrom s p) (next-event bytes n i l)
 
+  -- every burst keeps a pair
+  pub all-keep : Listable settings bytes n → Clean → Keeps s (start s) (eventsFrom bytes n 0)
+  all-keep z k =
+      each-keeps s (z .fit .rows) (z .fit .ticks) (eventsFrom bytes n 0) (events-rise bytes n (fitting z)) (events-early bytes n (fitting z))
+      (all-clean s bytes n k) (z .moded)
+
+  module _ (p : Part) (i : ℕ) (l : i < n) (k : Keeps s p (eventsFrom bytes n i)) where
+    pub keep-on : Keeps s p (eventAt bytes i ∷ eventsFrom bytes n (i + 1))
+    keep-on = subst (Keeps s p) (next-event bytes n i l) k
+
+    pub pair-kept : {mode : ℕ} → mode ≡ p .mode → KeepsPair s bytes n i mode
+    pair-kept e g = rw e (keep-on .0 g)
+
   pub record Counted (mode cells i : ℕ) : Type 0 where
     pub reached : Part
     pub moded : mode ≡ reached .mode
+    pub keeps : Keeps s reached (eventsFrom bytes n i)
     pub within : i ≤ n
     pub small : cells ≤ 128 * i
     pub counts : length (cellsOn s bytes n) ≡ cells + length (cellsFrom s reached (eventsFrom bytes n i))
@@ -62,6 +77,7 @@ module _ (settings bytes : List ℕ) (n : ℕ) where
       record {
         reached = start s;
         moded = refl;
+        keeps = all-keep z k;
         within = omega arith;
         small = omega arith;
         counts = ap length (all-ahead z k) ∙ omega arith;
@@ -73,6 +89,7 @@ module _ (settings bytes : List ℕ) (n : ℕ) where
       record {
         reached = step s (b .reached) (eventAt bytes i);
         moded = em ∙ rw (ew, b .moded) (sym (mode-is s (b .reached) (eventAt bytes i)));
+        keeps = keep-on (b .reached) i l (b .keeps) .1;
         within = omega arith;
         small = omega (arith, b .small, ep, kept-le s mode (eventAt bytes i) later);
         counts = b .counts ∙ omega (arith, sized);

@@ -1,6 +1,8 @@
 -- Laws of the burst list: its walks over the events, and the way from a capture's bytes to them.
 pub mod Clean
+pub mod Modes
 pub mod Alone
+pub mod Pairs
 pub mod Counting
 pub mod Room
 pub mod Rows

@@ -22,7 +22,8 @@ use Rattle.beats.proofs.Looking.{kept-le, kept-nothing}
 use Rattle.beats.proofs.Storing.{length-cells, no-cells}
 use Rattle.beats.proofs.Ahead.{eventCells, cellsFrom}
 use Rattle.cells.specs.Meaning.{Listable, cellsOn}
-use Rattle.cells.proofs.Counting.{Clean, all-ahead, next-cells}
+use Rattle.cells.proofs.Pairs.{Keeps}
+use Rattle.cells.proofs.Counting.{Clean, all-ahead, all-keep, keep-on, next-cells}
 use Rattle.cells.proofs.Rows.{firstsOf, first-at, none-opened, mode-stays, firsts-after, low-after}
 
 module _ (settings bytes : List ℕ) (n : ℕ) (old : List ℕ) where
@@ -32,6 +33,7 @@ module _ (settings bytes : List ℕ) (n : ℕ) (old : List ℕ) where
   pub record Written (out firsts : List ℕ) (mode next i : ℕ) : Type 0 where
     pub reached : Part
     pub moded : mode ≡ reached .mode
+    pub keeps : Keeps s reached (eventsFrom bytes n i)
     pub rowed : firsts ≡ firstsOf s reached
     pub low : (b : ℕ) → reached .banks b .row < 16384
     pub within : i ≤ n
@@ -46,6 +48,7 @@ module _ (settings bytes : List ℕ) (n : ℕ) (old : List ℕ) where
       record {
         reached = start s;
         moded = refl;
+        keeps = all-keep settings bytes n z k;
         rowed = f;
         low = λ b. omega arith;
         within = omega arith;
@@ -94,6 +97,7 @@ module _ (settings bytes : List ℕ) (n : ℕ) (old : List ℕ) where
         record {
           reached = step s (b .reached) e;
           moded = em ∙ rw (ew, b .moded) (sym (mode-is s (b .reached) e));
+          keeps = keep-on settings bytes n (b .reached) i l (b .keeps) .1;
           rowed = ef ∙ rw (ew, b .rowed) (firsts-after s (b .reached) e);
           low = low-after s (b .reached) e (b .low);
           within = omega arith;

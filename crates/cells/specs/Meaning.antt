@@ -1,5 +1,5 @@
 -- What this crate's answers mean in document 01, and what is known of the captures whose cells are listed.
-use Prim.Native.Nat.{ℕ, _+_}
+use Prim.Native.Nat.{ℕ, _+_, _≤_}
 use mathlib.Core.Bool.{true, cond}
 use mathlib.Core.List.{List}
 use mathlib.Core.Option.{Option, none, some}
@@ -55,6 +55,10 @@ pub record Listable (settings bytes : List ℕ) (n : ℕ) : Type 0 where
   pub fit : Fit settings bytes n
   pub sized : Sized (settingsOf settings)
   pub moded : modeWord (settingsOf settings .mode) ≡ true
+
+-- if event i gives a burst, that keeps a pair at least
+abbrev pub KeepsPair : Settings → List ℕ → ℕ → ℕ → ℕ → Type 0
+KeepsPair s bytes n i mode = gives (eventAt bytes i .pins) ≡ true → 1 ≤ keptOf s mode (eventAt bytes i) (eventsFrom bytes n (i + 1))
 
 -- the cells of the first n events' bursts
 unfoldable pub cellsOn : Settings → List ℕ → ℕ → List ℕ

@@ -21,7 +21,7 @@ ghost use Rattle.pins.specs.Pins.{modeAfter};
 ghost use Rattle.beats.specs.Kept.{eventsFrom, keptOf};
 ghost use Rattle.beats.specs.Rows.{Sized, cellsOpened};
 ghost use Rattle.judge.specs.Meaning.{eventsIn};
-ghost use Rattle.cells.specs.Meaning.{means, givenAs, givenBy, Listable, cellsOn, lackingIn, listing};
+ghost use Rattle.cells.specs.Meaning.{means, givenAs, givenBy, Listable, KeepsPair, cellsOn, lackingIn, listing};
 
 // What is said of a capture whose cells are asked for.
 pub enum Listed {
@@ -53,6 +53,7 @@ fn first_broken(s: &Settings, bytes: &[u8], n: u32) -> Found
 // and `interrupted` inside a loop slows every event; the loop of edition 0 does without it (docs/DECISIONS.md, C19).
 fn pairs_of(s: &Settings, bytes: &[u8], n: u32, i: u32, mode: u32) -> u32
     requires { ⌜ Listable (now s) (now bytes) n × (i < n) ⌝ }
+    requires { ⌜ KeepsPair (settingsOf (now s)) (now bytes) n i mode ⌝ }
     ensures { λ r. ⌜ r ≡ keptOf (settingsOf (now (s .entry))) mode (eventAt (now (bytes .entry)) i) (eventsFrom (now (bytes .entry)) n (i + 1)) ⌝ }
 {
     let w = capture::pins_at(bytes, i as usize);
@@ -120,6 +121,7 @@ fn step(s: &Settings, bytes: &[u8], n: u32, i: u32, firsts: &[u32; 4], mode: u32
 // The same in any edition.
 fn newer_step(s: &Settings, bytes: &[u8], n: u32, i: u32, firsts: &[u32; 4], mode: u32) -> Given
     requires { ⌜ Listable (now s) (now bytes) n × (i < n) ⌝ }
+    requires { ⌜ KeepsPair (settingsOf (now s)) (now bytes) n i mode ⌝ }
     ensures { λ r. ⌜ r ≡ givenAs (givenBy (settingsOf (now (s .entry))) (now (bytes .entry)) n i (now (firsts .entry)) mode) ⌝ }
 {
     let w = capture::pins_at(bytes, i as usize);

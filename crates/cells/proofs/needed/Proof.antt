@@ -6,7 +6,7 @@ use Rattle.reading.specs.Settings.{settingsOf}
 use Rattle.reading.specs.Capture.{eventAt}
 use Rattle.beats.specs.Kept.{eventsFrom}
 use Rattle.beats.proofs.Looking.{kept-le}
-use Rattle.cells.proofs.Counting.{Counted, begins, goes-on, ends}
+use Rattle.cells.proofs.Counting.{Counted, begins, pair-kept, goes-on, ends}
 use Rattle.cells.proofs.needed.Statement.{statement}
 use Rattle.cells.proofs.needed.Tie as tie
 
@@ -25,7 +25,13 @@ events-holds c =
     begins (start .args .s .now) (start .args .bytes .now) (start .args .n) (start .pre .0) (start .pre .1)
 
 pairs-of-requires : tie.Need-pairs-of-requires Inv-events μ-events
-pairs-of-requires c κs = (c .before .before .before .before .pre .0, c .events-test .taken)
+pairs-of-requires c κs =
+    let x = c .before .events in
+    let start = c .before .before .before .before in
+    let a = start .args in (
+      (start .pre .0, c .events-test .taken),
+      pair-kept (a .s .now) (a .bytes .now) (a .n) (x .inv .reached) (x .i) (c .events-test .taken) (x .inv .keeps) (x .inv .moded),
+    )
 
 mul-cells : tie.Need-mul-cells Inv-events μ-events
 mul-cells c =

@@ -6,14 +6,14 @@ use borrow.Author.Tests.{not-true, not-false}
 use Rattle.reading.specs.Settings.{settingsOf}
 use Rattle.reading.specs.Capture.{eventAt}
 use Rattle.beats.specs.Kept.{eventsFrom}
-use Rattle.beats.proofs.Looking.{kept-early, kept-else}
+use Rattle.beats.proofs.Looking.{early-keeps, kept-early, kept-else}
 use Rattle.cells.proofs.Counting.{fitting}
 use Rattle.cells.proofs.Stepping.{found-none, found}
 use Rattle.cells.proofs.newer_step.Statement.{statement}
 use Rattle.cells.proofs.newer_step.Tie as tie
 
 pins-at-requires : tie.Need-pins-at-requires
-pins-at-requires c κs = omega (arith, c .before .pre .0 .fit .long)
+pins-at-requires c κs = omega (arith, c .before .pre .0 .0 .fit .long)
 
 gives-burst-requires : tie.Need-gives-burst-requires
 gives-burst-requires c κs = search needs
@@ -34,15 +34,22 @@ element-copy-out-first : tie.Need-element-copy-out-first
 element-copy-out-first c = search needs
 
 column-requires : tie.Need-column-requires
-column-requires c κs = c .before .before .before .before .before .before .pre .0 .sized
+column-requires c κs = c .before .before .before .before .before .before .pre .0 .0 .sized
 
 interruptible-requires : tie.Need-interruptible-requires
 interruptible-requires c κs = search needs
 
 interrupted-requires : tie.Need-interrupted-requires
 interrupted-requires c κs =
-    let start = c .before .before .before .before .before .before .before .before .before in
-    (fitting (start .args .s .now) (start .args .bytes .now) (start .args .n) (start .pre .0), start .pre .1)
+    let told = c .before in
+    let read = told .before .before .before .before .before .before in
+    let start = read .before .before in
+    let a = start .args in
+    let later = eventsFrom (a .bytes .now) (a .n) (a .i + 1) in (
+      (fitting (a .s .now) (a .bytes .now) (a .n) (start .pre .0 .0), start .pre .0 .1),
+      early-keeps (settingsOf (a .s .now)) (a .mode) (eventAt (a .bytes .now) (a .i)) later (read .pins-at .ensures) (told .interruptible .ensures)
+          (c .if2 .taken) (start .pre .1),
+    )
 
 returns-2 : tie.Need-returns-2
 returns-2 c =
@@ -61,7 +68,7 @@ returns-2 c =
 kept-requires : tie.Need-kept-requires
 kept-requires c κs =
     let start = c .before .before .before .before .before .before .before .before .before in
-    (fitting (start .args .s .now) (start .args .bytes .now) (start .args .n) (start .pre .0), start .pre .1)
+    (fitting (start .args .s .now) (start .args .bytes .now) (start .args .n) (start .pre .0 .0), start .pre .0 .1)
 
 returns-3 : tie.Need-returns-3
 returns-3 c =

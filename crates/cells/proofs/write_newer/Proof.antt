@@ -5,6 +5,7 @@ use native.Mathlib.Omega.{arith}
 use borrow.Author.Needs.{needs}
 use Rattle.reading.specs.Settings.{settingsOf}
 use Rattle.cells.proofs.Stepping.{told, told-other}
+use Rattle.cells.proofs.Counting.{pair-kept}
 use Rattle.cells.proofs.Writing.{Written, begins, size, room, in-row, goes-on, passes, counted, ends}
 use Rattle.cells.proofs.write_newer.Statement.{statement}
 use Rattle.cells.proofs.write_newer.Tie as tie
@@ -28,7 +29,14 @@ newer-events-holds c =
     (c .before .first-cells .ensures)
 
 newer-step-requires : tie.Need-newer-step-requires Inv-newer-events μ-newer-events
-newer-step-requires c κs = (c .before .before .before .before .before .before .before .pre .0, c .before .newer-events-test .taken)
+newer-step-requires c κs =
+    let test = c .before in
+    let x = test .before .newer-events in
+    let start = test .before .before .before .before .before .before in
+    let a = start .args in (
+      (start .pre .0, test .newer-events-test .taken),
+      pair-kept (a .s .now) (a .bytes .now) (a .n) (x .inv .reached) (x .i) (test .newer-events-test .taken) (x .inv .keeps) (x .inv .moded),
+    )
 
 enum-known-event : tie.Need-enum-known-event Inv-newer-events μ-newer-events
 enum-known-event c = search needs
