@@ -19,6 +19,7 @@ use second::{judge, schedule, Answer};
 /// A real part: 64M x 16 at 6 ns.
 const PART: [u32; SETTINGS] = [1, 14, 10, 0x32, 3, 3, 7, 10, 2, 3, 1, 12, 2, 1_300];
 const BL_2: u32 = 0x31;
+const BL_4: u32 = 0x32;
 const BL_16: u32 = 0x34;
 /// Its tXP and tXSR.
 const WAKE: [u32; 2] = [2, 20];
@@ -84,7 +85,14 @@ fn captures() -> Vec<(&'static str, Vec<u8>)> {
             "edition 1, random, BL 16",
             busy_capture(&mut dice, One, &with_mode(BL_16)),
         ),
-        ("edition 1, writes in one tWR", writes_within_t_wr()),
+        (
+            "edition 1, writes in one tWR",
+            writes_within_t_wr(BL_2, &[]),
+        ),
+        (
+            "edition 1, whole writes in one tWR",
+            writes_within_t_wr(BL_4, &[Command::Nop.into()]),
+        ),
     ]
 }
 
@@ -182,22 +190,24 @@ fn streaming(edition: Edition, settings: [u32; SETTINGS], with_writes: bool) -> 
     repeated(edition, &settings, &[], &events)
 }
 
-/// A write at every cycle, of four rows in turn, with a tWR that none of them sees the end
-/// of: a burst list that looks ahead for a PRECHARGE as long as one could cut looks through
-/// all of them from each.
-fn writes_within_t_wr() -> Vec<u8> {
-    let mut settings = with_mode(BL_2);
+/// Writes of four rows in turn, with a tWR that none of them sees the end of: a burst list
+/// that looks ahead for a PRECHARGE as long as one could cut looks through all of them from
+/// each. `mode` and what stands between two of them decide whether they are whole.
+fn writes_within_t_wr(mode: u32, between: &[Asked]) -> Vec<u8> {
+    let mut settings = with_mode(mode);
     settings[9] = 10_000;
     let open = [0, 1, 2, 3].map(|bank| Command::Active { bank, row: 77 }.into());
-    let write = |bank| {
-        Command::Write {
+    let mut writes = Vec::new();
+    for bank in 0..4 {
+        let write = Command::Write {
             bank,
             address: 0,
             auto_precharge: false,
-        }
-        .into()
-    };
-    repeated(One, &settings, &open, &[0, 1, 2, 3].map(write))
+        };
+        writes.push(write.into());
+        writes.extend(between);
+    }
+    repeated(One, &settings, &open, &writes)
 }
 
 fn requests() -> Vec<u32> {
