@@ -95,7 +95,9 @@ module _ (s : Settings) (p : Part) (old : newer s ≡ false) (mode : p .mode ≡
       standingBy (partAfter s p t (bursts write)) free events ≡ set (set (burstEnds closed write s (standingBy p free′ events′) t) FREE free) EVENTS events
   burst-stood t true st free events free′ events′ =
       λ i.
-      stood (λ j. kept-row (eqb j b && closed) (autoPrecharge s (p .mode) t (bursts true) (p .banks j)) (p .banks j) i) (cutEnd (find reads (st i))) (cond closed 0 (t + h (mode i))) free events
+      stood (λ j. kept-row (eqb j b && closed) (autoPrecharge s (p .mode) t (bursts true) (p .banks j)) (p .banks j) i)
+      (cutEnd (find reads (st i))) (cond closed 0 (t + h (mode i))) free events
   burst-stood t false st free events free′ events′ =
       λ i.
-      stood (λ j. kept-row (eqb j b && closed) (autoPrecharge s (p .mode) t (bursts false) (p .banks j)) (p .banks j) i) (cond closed 0 (t + h (mode i))) (cutEnd (find (λ x. x .writes) (st i))) free events
+      stood (λ j. kept-row (eqb j b && closed) (autoPrecharge s (p .mode) t (bursts false) (p .banks j)) (p .banks j) i)
+      (cond closed 0 (t + h (mode i))) (cutEnd (find (λ x. x .writes) (st i))) free events

@@ -45,7 +45,11 @@ serve-requires c κs =
       asked-for (a .s .now) (a .requests .now) (a .closed) (a .words .now) (start .pre) (loop .requests .inv) (omega arith),
       (
         room (a .s .now) (a .requests .now) (a .closed) (a .words .now) (start .pre) (loop .requests .inv) (omega arith),
-        (loop .before .before .before .pace .ensures, rw (loop .before .margin .ensures) (sure (a .s .now) (a .requests .now) (a .closed) (a .words .now) (start .pre) (loop .requests .inv) (omega arith))),
+        (
+          loop .before .before .before .pace .ensures,
+          rw (loop .before .margin .ensures)
+              (sure (a .s .now) (a .requests .now) (a .closed) (a .words .now) (start .pre) (loop .requests .inv) (omega arith)),
+        ),
       ),
     )
 

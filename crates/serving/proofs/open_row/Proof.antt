@@ -55,7 +55,9 @@ activate-requires-2 : tie.Need-activate-requires-2
 activate-requires-2 c κs =
     let at-close = c .before .before .before .before .before in
     let start = at-close .before .before .before .before .before .before .before .before .before in
-    (start .pre .0, room-after 1 1 (start .pre .1 .0) (close-grows (settingsOf (start .args .s .now)) (start .args .b) (draft (start .args .d .now) (start .args .k .now) (start .args .words .now))) (at-close .close .ensures))
+    let a = start .args in
+    let grows = close-grows (settingsOf (a .s .now)) (a .b) (draft (a .d .now) (a .k .now) (a .words .now)) in
+    (start .pre .0, room-after 1 1 (start .pre .1 .0) grows (at-close .close .ensures))
 
 same-length-2 : tie.Need-same-length-2
 same-length-2 c = search needs

@@ -43,9 +43,12 @@ burst-requires c κs =
     let at-open-row = c .before .before .before .before .before .before .before in
     let at-row = at-open-row .before in
     let at-bank = at-row .before .before .before .before in
-    let start = at-bank .before .before in (
+    let start = at-bank .before .before in
+    let a = start .args in
+    let grows =
+    opening-grows (settingsOf (a .s .now)) (at-bank .bank .result) (at-row .row .result) (draft (a .d .now) (a .k .now) (a .words .now)) in (
       low (at-bank .bank .ensures) (start .pre .0),
-      (room-after 2 1 (start .pre .1 .0) (opening-grows (settingsOf (start .args .s .now)) (at-bank .bank .result) (at-row .row .result) (draft (start .args .d .now) (start .args .k .now) (start .args .words .now))) (at-open-row .open-row .ensures), start .pre .1 .1),
+      (room-after 2 1 (start .pre .1 .0) grows (at-open-row .open-row .ensures), start .pre .1 .1),
     )
 
 same-length : tie.Need-same-length

@@ -70,14 +70,15 @@ returns-2 c =
 
 start-again-requires : tie.Need-start-again-requires Inv-tries μ-tries
 start-again-requires c κs =
-    let attempted = c .before .before .before .before .before .before .before .before .before in
+    let chosen = c .before .before .before .before .before in
+    let attempted = chosen .before .before .before .before in
     let loop = attempted .before .before .before .before .before in
     let aside = loop .before .set-aside .ensures in
     let start = loop .before .before .before .before .before .before .before .before .before in
     let a = start .args in
     let room =
     room-behind (settingsOf (a .s .now)) (a .closed) (a .q) (a .margin) (a .d .now) (a .k .now) (a .words .now) (start .pre .1 .1 .1)
-    (attempted .attempt .ensures .0) (attempted .attempt .ensures .1) (loop .tries .inv) (c .before .before .before .before .before .if2 .left) (c .before .before .before .before .before .before .if1 .left)
+    (attempted .attempt .ensures .0) (attempted .attempt .ensures .1) (loop .tries .inv) (chosen .if2 .left) (chosen .before .if1 .left)
     (start .pre .1 .0) (a .earlier .now) (a .stood .now) (aside .0) (aside .1) in
     (room, start .pre .1 .1 .0)
 
@@ -90,13 +91,14 @@ tries-less c = omega arith
 tries-again : tie.Need-tries-again Inv-tries μ-tries
 tries-again c =
     let again = c .before .before in
-    let attempted = again .before .before .before .before .before .before .before .before .before .before in
+    let chosen = again .before .before .before .before .before .before in
+    let attempted = chosen .before .before .before .before in
     let loop = attempted .before .before .before .before .before in
     let aside = loop .before .set-aside .ensures in
     let start = loop .before .before .before .before .before .before .before .before .before in
     let a = start .args in
     once-more (settingsOf (a .s .now)) (a .closed) (a .q) (a .margin) (a .d .now) (a .k .now) (a .words .now) (start .pre .1 .1 .1)
-    (attempted .attempt .ensures .0) (attempted .attempt .ensures .1) (loop .tries .inv) (again .before .before .before .before .before .before .if2 .left) (again .before .before .before .before .before .before .before .if1 .left)
+    (attempted .attempt .ensures .0) (attempted .attempt .ensures .1) (loop .tries .inv) (chosen .if2 .left) (chosen .before .if1 .left)
     (start .pre .1 .0) (a .earlier .now) (a .stood .now) (aside .0) (aside .1) (again .start-again .ensures)
 
 same-length-3 : tie.Need-same-length-3 Inv-tries μ-tries
