@@ -69,6 +69,7 @@ fn plan(s: &Settings, requests: &[u32], closed: bool, words: &mut [u32]) -> Plan
     let mut k = [0u64; soonest::KEPT];
     let pace = sums::pace(s[MODE]);
     let margin = serving::margin(s, &pace);
+    // Room for what a turn sets aside.
     let mut earlier = d;
     let mut stood = k;
     'requests: for i in 0..requests.len() {
