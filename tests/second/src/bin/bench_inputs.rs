@@ -42,9 +42,12 @@ fn write_inputs(folder: &Path) -> io::Result<()> {
         let name = format!("random commands, {events} events.capture");
         fs::write(folder.join(name), first_of(&longest, events))?;
     }
-    let list: Vec<u32> = PART.into_iter().chain(requests()).collect();
-    let bytes: Vec<u8> = list.iter().flat_map(|word| word.to_le_bytes()).collect();
-    fs::write(folder.join("2,000 requests.list"), bytes)
+    for count in [500, 1_000, 2_000] {
+        let list = PART.into_iter().chain(requests().into_iter().take(count));
+        let bytes: Vec<u8> = list.flat_map(u32::to_le_bytes).collect();
+        fs::write(folder.join(format!("{count} requests.list")), bytes)?;
+    }
+    Ok(())
 }
 
 /// The same capture with its first events alone.
