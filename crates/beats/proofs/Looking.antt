@@ -4,12 +4,13 @@ use mathlib.Core.Bool.{Bool, true, false, cond, not, _&&_, _||_}
 use mathlib.Core.List.{List, [], _∷_}
 use mathlib.Core.Path.{_≡_, refl, sym, ap, _∙_}
 use native.Mathlib.Omega.{arith}
-use borrow.Author.Tests.{lt-ltb, le-ltb, lt-leb, leb-false}
+use borrow.Author.Tests.{lt-ltb, le-ltb, lt-leb}
 use lib.Dec.{leb, ltb, eqb}
 use Rattle.reading.specs.Search.{lesser}
 use Rattle.reading.specs.Mode.{h}
 use Rattle.reading.specs.Settings.{Settings, newer}
 use Rattle.reading.specs.Capture.{Event, eventAt}
+use Rattle.reading.proofs.Cuts.{lesser-le}
 use Rattle.pins.specs.Pins.{codeOf, bankOf, tenOf}
 use Rattle.beats.specs.Kept.{Fit, eventsFrom, gives, cutsBurst, keptBy, keptAhead, cutAhead, leftBy, nextLeaves, rowLeaves, interruptedAhead, interruptible, keptWhole, keptOf}
 use Rattle.beats.proofs.Columns.{half-le}
@@ -65,13 +66,6 @@ module _ (bytes : List ℕ) (n i mode : ℕ) where
   ends {j} z eh l = eh ∙ sym (z .same ∙ rw (no-event bytes n j l))
 
 -- no more are kept than there were
-lesser-le : (a b : ℕ) → lesser a b ≤ a
-lesser-le a b = go (leb a b) refl
-  where
-    go : (v : Bool) → leb a b ≡ v → cond v a b ≤ a
-    go true e = omega arith
-    go false e = omega (arith, leb-false a b e)
-
 by-le : (b k pairs : ℕ) (e : Event) → keptBy b k pairs e ≤ pairs
 by-le b k pairs e = go (cutsBurst b (e .pins))
   where

@@ -80,13 +80,6 @@ pub record Given (from : ℕ) (x : Burst) : Type 0 where
   pub most : x .n ≤ h (x .mode)
   pub bank : x .bank < 4
 
-pub lesser-left : (a b : ℕ) → lesser a b ≤ a
-lesser-left a b = go (leb a b) refl
-  where
-    go : (v : Bool) → leb a b ≡ v → cond v a b ≤ a
-    go true e = omega arith
-    go false e = omega (arith, leb-false a b e)
-
 pub lesser-right : (a b : ℕ) → lesser a b ≤ b
 lesser-right a b = go (leb a b) refl
   where

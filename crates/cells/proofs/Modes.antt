@@ -16,10 +16,7 @@ use Rattle.reading.specs.Commands.{MODE-REGISTER-SET, Command, commandOf, is}
 use Rattle.reading.specs.Part.{Part, step}
 use Rattle.reading.specs.Rules.{brokenBy}
 use Rattle.reading.proofs.Meaning.{none-broken}
-
-pub both : (a b : Bool) → (a && b) ≡ true → (a ≡ true) × (b ≡ true)
-both true b e = (refl, e)
-both false b e = let z : _≡_ {A = ℕ} 0 1 = cc in absurd (omega arith)
+use Rattle.capture.proofs.Accepted.{both}
 
 pub few-pairs : (m : ℕ) → modeWord m ≡ true → h m ≤ 8
 few-pairs m v =

@@ -20,6 +20,7 @@ use Rattle.reading.proofs.Meaning.{none-broken}
 use Rattle.reading.proofs.Six.{every-bank}
 use Rattle.reading.proofs.Cuts.{All, nil, cons}
 use Rattle.reading.proofs.Alone.{standing, standing-pairs, standsAfter, cutAlone}
+use Rattle.capture.proofs.Accepted.{both}
 use Rattle.bridge.proofs.Bursts.{Given, find-all}
 use Rattle.bridge.proofs.Next.{Sound}
 use Rattle.bridge.proofs.Turn.{turned-event, start-sound}
@@ -29,7 +30,7 @@ use Rattle.beats.proofs.Events.{Rises}
 use Rattle.beats.proofs.Cut.{cutByAll}
 use Rattle.beats.proofs.Ahead.{Told, leftOf, kept-in-the-end}
 use Rattle.cells.proofs.Alone.{clean-rest, Early, told}
-use Rattle.cells.proofs.Modes.{both, some-pair, mode-valid}
+use Rattle.cells.proofs.Modes.{some-pair, mode-valid}
 
 abbrev HasPair : Burst → Type 0
 HasPair x = 1 ≤ x .n

@@ -3,7 +3,8 @@ use Prim.Native.Nat.{ℕ, _+_, _*_}
 use Rattle.reading.specs.Mode.{h, CL}
 use Rattle.reading.specs.Settings.{Settings}
 
--- all times of the part together, and 8 for the cycles that a write adds to them: no command of a schedule waits longer
+-- all times of the part together, and 8 for what a write adds to them and for the small numbers among the deadlines: no
+-- command of a schedule waits longer
 abbrev pub waitOf : Settings → ℕ
 waitOf s = s .tRCD + s .tRP + s .tRAS + s .tRRD + s .tWR + s .tWTR + s .tRFC + h (s .mode) + CL (s .mode) + 8
 

@@ -19,7 +19,7 @@ use Rattle.reading.specs.Cells.{burstsOf}
 
 -- ---- one burst, one event
 
-lesser-le : (a b : ℕ) → lesser a b ≤ a
+pub lesser-le : (a b : ℕ) → lesser a b ≤ a
 lesser-le a b = go (leb a b) refl
   where
     go : (t : Bool) → leb a b ≡ t → cond t a b ≤ a
