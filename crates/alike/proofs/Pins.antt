@@ -10,9 +10,9 @@ use borrow.Author.Tests.{eqb-true, eq-eqb, ltb-true, lt-ltb}
 use Rattle.reading.specs.Words.{bit}
 use Rattle.reading.specs.Settings.{Settings}
 use Rattle.reading.specs.Blank.{namesColumn, namesRow, above, Alike, same, columns, rows, blankPins}
+use Rattle.reading.proofs.Laws.{both}
 use Rattle.pins.specs.Pins.{codeOf, bankOf, addressOf, lowOf}
 use Rattle.pins.proofs.Commands.{active-is, read-is, write-is}
-use Rattle.capture.proofs.Accepted.{both}
 
 -- ---- what stands above the address: bank, command pins and CKE
 

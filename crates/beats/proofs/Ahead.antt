@@ -13,11 +13,11 @@ use Rattle.reading.specs.Part.{Part, start, cutBy, burstGiven, burstsAfter, ste
 use Rattle.reading.specs.Cells.{burstsOf, cellsOf}
 use Rattle.reading.proofs.Cuts.{All, nil, cons}
 use Rattle.reading.proofs.Alone.{Stands, standing, standing-pairs, standsAfter, cutAlone}
-use Rattle.pins.specs.Pins.{codeOf, bankOf, addressOf, tenOf}
-use Rattle.pins.proofs.Commands.{write-is}
-use Rattle.beats.specs.Kept.{gives, cutAhead, keptWhole, keptOf}
-use Rattle.beats.specs.Rows.{firstCell, beatCells}
-use Rattle.beats.proofs.Commands.{gives-is}
+use Rattle.reading.proofs.Beats.{cells-append}
+use Rattle.pins.specs.Pins.{codeOf, bankOf, addressOf, tenOf, gives}
+use Rattle.pins.proofs.Commands.{write-is, gives-is}
+use Rattle.beats.specs.Kept.{cutAhead, keptWhole, keptOf}
+use Rattle.beats.specs.Rows.{firstInRow, beatCells}
 use Rattle.beats.proofs.Events.{Rises}
 use Rattle.beats.proofs.Cut.{cutByAll, cut-ahead, auto-kept}
 use Rattle.beats.proofs.Interrupting.{interrupted-ahead}
@@ -27,7 +27,7 @@ use Rattle.beats.proofs.Storing.{no-cells}
 -- the cells of the burst that an event gives; the events behind it are es
 abbrev pub eventCells : Settings → Part → Event → List Event → List ℕ
 eventCells s p e es =
-    beatCells (firstCell s (bankOf (e .pins)) (p .banks (bankOf (e .pins)) .row)) (p .mode) (columnOf s (addressOf (e .pins)))
+    beatCells (firstInRow s (bankOf (e .pins)) (p .banks (bankOf (e .pins)) .row)) (p .mode) (columnOf s (addressOf (e .pins)))
     (2 * keptOf s (p .mode) e es)
 
 -- those of all events behind the part's
@@ -79,15 +79,10 @@ module _ (s : Settings) (p : Part) (e : Event) (es : List Event) (r : Rises (suc
       go false a false i w q = calm a (rw i) ∙ rw (g, a, i)
 
 module _ (s : Settings) where
-  cells-append : (xs ys : List Burst) → cellsOf s (xs ++ ys) ≡ cellsOf s xs ++ cellsOf s ys
-  unfolding cellsOf
-  cells-append [] ys = refl
-  cells-append (x ∷ xs) ys = ap (λ (cs : List ℕ). burstCells s x ++ cs) (cells-append xs ys) ∙ sym (append-assoc (burstCells s x) (cellsOf s xs) (cellsOf s ys))
-
   cells-last : (x : Burst) (xs : List Burst) → cellsOf s (reverse (x ∷ xs)) ≡ cellsOf s (reverse xs) ++ burstCells s x
   unfolding cellsOf
   cells-last x xs =
-      ap (cellsOf s) (reverse-cons x xs) ∙ cells-append (reverse xs) (x ∷ [])
+      ap (cellsOf s) (reverse-cons x xs) ∙ cells-append s (reverse xs) (x ∷ [])
       ∙ ap (λ (cs : List ℕ). cellsOf s (reverse xs) ++ cs) (append-nil (burstCells s x))
 
   module _ (p : Part) (e : Event) (es : List Event) where
@@ -98,7 +93,7 @@ module _ (s : Settings) where
     rest = leftOf s (step s p e) es
 
     kept-cells : (n : ℕ) → burstCells s (withPairs n x) ≡
-        beatCells (firstCell s (bankOf (e .pins)) (p .banks (bankOf (e .pins)) .row)) (p .mode) (columnOf s (addressOf (e .pins))) (2 * n)
+        beatCells (firstInRow s (bankOf (e .pins)) (p .banks (bankOf (e .pins)) .row)) (p .mode) (columnOf s (addressOf (e .pins))) (2 * n)
     unfolding burstCells beatCell beatCells
     kept-cells n = refl
 
@@ -109,7 +104,7 @@ module _ (s : Settings) where
         ∙ ap (λ (cs : List ℕ). cellsOf s (reverse (map rest xs)) ++ cs)
         (ap (burstCells s) (kept-in-the-end s p e es r g u) ∙ kept-cells (keptOf s (p .mode) e es))
     one-event r u xs false g =
-        let row = firstCell s (bankOf (e .pins)) (p .banks (bankOf (e .pins)) .row) in
+        let row = firstInRow s (bankOf (e .pins)) (p .banks (bankOf (e .pins)) .row) in
         let column = columnOf s (addressOf (e .pins)) in
         let none : eventCells s p e es ≡ [] =
         ap (λ (n : ℕ). beatCells row (p .mode) column (2 * n)) (sym (kept-nothing s (p .mode) e es g)) ∙ no-cells row (p .mode) column in

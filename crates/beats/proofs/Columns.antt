@@ -11,7 +11,7 @@ use Rattle.reading.specs.Words.{bit}
 use Rattle.reading.specs.Mode.{BL, h}
 use Rattle.reading.specs.Settings.{Settings}
 use Rattle.reading.specs.Bursts.{columnOf}
-use Rattle.beats.specs.Rows.{Sized, InRow, InBlock, placeIn, firstCell}
+use Rattle.beats.specs.Rows.{Sized, InRow, InBlock, placeIn, firstInRow}
 
 -- ---- lengths
 
@@ -72,6 +72,6 @@ module _ (s : Settings) (z : Sized s) (bank row : ℕ) (b : bank < 4) (r : row <
   pub bank-fits : bank * 2 ^ s .rowBits ≤ 49152
   bank-fits = mul-le-mul {n₁ = bank} {n₂ = 3} (omega arith) (pow-mono {i = s .rowBits} {j = 14} (z .rows))
 
-  pub first-lt : firstCell s bank row < 2 ^ 27
+  pub first-lt : firstInRow s bank row < 2 ^ 27
   first-lt =
       omega (arith, mul-le-mul {n₁ = bank * 2 ^ s .rowBits + row} {n₂ = 65535} (omega (arith, bank-fits)) (pow-mono {i = s .columnBits} {j = 11} (z .columns)))

@@ -12,18 +12,10 @@ use Rattle.reading.specs.Part.{Part, Bank, openOn, idleFrom, autoPrecharge, clo
 use Rattle.reading.proofs.Alone.{cutsAlone}
 use Rattle.pins.specs.Pins.{codeOf, bankOf, addressOf, modeAfter}
 use Rattle.pins.proofs.Commands.{active-is, read-is, write-is, terminate-is, precharge-is, mode-set-is}
-use Rattle.beats.specs.Kept.{gives, cutsBurst}
+use Rattle.beats.specs.Kept.{cutsBurst}
 
 module _ (w : ℕ) where
   -- ---- what bursts ask of it
-
-  either-none : (a b : Bool) → (a || (b || false)) ≡ (a || b)
-  either-none true b = refl
-  either-none false true = refl
-  either-none false false = refl
-
-  pub gives-is : among (READ ∷ WRITE ∷ []) (commandOf w) ≡ gives w
-  gives-is = rw (read-is, write-is) (either-none (eqb (codeOf w) 10) (eqb (codeOf w) 2))
 
   -- the pins b gave the burst x
   pub cuts-is : (b : ℕ) (x : Burst) → x .writes ≡ eqb (codeOf b) 2 → x .bank ≡ bankOf b → cutsAlone (commandOf w) x ≡ cutsBurst b w

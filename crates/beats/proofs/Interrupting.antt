@@ -16,31 +16,14 @@ use Rattle.reading.specs.Commands.{Op, ACTIVE, READ, WRITE, BURST-TERMINATE, PR
 use Rattle.reading.specs.Bursts.{Burst, withPairs, wholeEnd}
 use Rattle.reading.specs.Part.{atMost}
 use Rattle.reading.proofs.Alone.{Stands, shuts, ends, standsAfter, cutAlone}
+use Rattle.reading.proofs.Laws.{both, lesser-first, lesser-second, lesser-low}
 use Rattle.pins.specs.Pins.{codeOf}
 use Rattle.pins.proofs.Commands.{active-is, read-is, write-is, precharge-is}
 use Rattle.beats.specs.Kept.{shutsBank, takesBank, nextLeaves, rowLeaves}
 use Rattle.beats.proofs.Events.{Rises}
 use Rattle.beats.proofs.Cut.{cutByAll}
 
-first-of : (a b : Bool) → (a && b) ≡ true → a ≡ true
-first-of true b e = refl
-first-of false b e = e
-
 -- ---- the lesser of three
-
-left-le : (a b : ℕ) → lesser a b ≤ a
-left-le a b = go (leb a b) refl
-  where
-    go : (v : Bool) → leb a b ≡ v → cond v a b ≤ a
-    go true e = omega arith
-    go false e = omega (arith, leb-false a b e)
-
-right-le : (a b : ℕ) → lesser a b ≤ b
-right-le a b = go (leb a b) refl
-  where
-    go : (v : Bool) → leb a b ≡ v → cond v a b ≤ b
-    go true e = leb-true a b e
-    go false e = omega arith
 
 le-both : (u a b : ℕ) → u ≤ a → u ≤ b → u ≤ lesser a b
 le-both u a b l m = go (leb a b)
@@ -56,10 +39,10 @@ module _ (a b c : ℕ) where
       let v = lesser (lesser a c) b in
       let up : u ≤ v =
       le-both u (lesser a c) b
-      (le-both u a c (omega (arith, left-le (lesser a b) c, left-le a b)) (right-le (lesser a b) c)) (omega (arith, left-le (lesser a b) c, right-le a b)) in
+      (le-both u a c (omega (arith, lesser-first (lesser a b) c, lesser-first a b)) (lesser-second (lesser a b) c)) (omega (arith, lesser-first (lesser a b) c, lesser-second a b)) in
       let down : v ≤ u =
       le-both v (lesser a b) c
-      (le-both v a b (omega (arith, left-le (lesser a c) b, left-le a c)) (right-le (lesser a c) b)) (omega (arith, left-le (lesser a c) b, right-le a c)) in
+      (le-both v a b (omega (arith, lesser-first (lesser a c) b, lesser-first a c)) (lesser-second (lesser a c) b)) (omega (arith, lesser-first (lesser a c) b, lesser-second a c)) in
       omega arith
 
   lesser-inner : lesser (lesser a b) c ≡ lesser a (lesser b c)
@@ -67,15 +50,12 @@ module _ (a b c : ℕ) where
       let u = lesser (lesser a b) c in
       let v = lesser a (lesser b c) in
       let up : u ≤ v =
-      le-both u a (lesser b c) (omega (arith, left-le (lesser a b) c, left-le a b))
-      (le-both u b c (omega (arith, left-le (lesser a b) c, right-le a b)) (right-le (lesser a b) c)) in
+      le-both u a (lesser b c) (omega (arith, lesser-first (lesser a b) c, lesser-first a b))
+      (le-both u b c (omega (arith, lesser-first (lesser a b) c, lesser-second a b)) (lesser-second (lesser a b) c)) in
       let down : v ≤ u =
-      le-both v (lesser a b) c (le-both v a b (left-le a (lesser b c)) (omega (arith, right-le a (lesser b c), left-le b c)))
-      (omega (arith, right-le a (lesser b c), right-le b c)) in
+      le-both v (lesser a b) c (le-both v a b (lesser-first a (lesser b c)) (omega (arith, lesser-second a (lesser b c), lesser-first b c)))
+      (omega (arith, lesser-second a (lesser b c), lesser-second b c)) in
       omega arith
-
-lesser-same : (a b : ℕ) → a ≤ b → lesser a b ≡ a
-lesser-same a b l = rw (le-leb a b l)
 
 -- ---- what bursts leave, and what the commands to its row leave
 
@@ -150,15 +130,15 @@ module _ (s : Settings) (x : Burst) (n : newer s ≡ true) (w : x .writes ≡ tr
   settled [] last m from l k r = refl
   settled (e ∷ es) last m from l k r =
       ap (λ (u : ℕ). bursts (last && not (is WRITE c)) u es) (same (is WRITE c && ltb (e .cycle) (wholeEnd x)) (is READ c) last l)
-      ∙ settled es (last && not (is WRITE c)) m (suc (e .cycle)) (λ f. omega (arith, l (first-of last (not (is WRITE c)) f), r .0)) (omega (arith, r .0)) (r .1)
+      ∙ settled es (last && not (is WRITE c)) m (suc (e .cycle)) (λ f. omega (arith, l (both last (not (is WRITE c)) f .0), r .0)) (omega (arith, r .0)) (r .1)
     where
       c : Command
       c = commandOf (e .pins)
 
       same : (p q v : Bool) → (v ≡ true → m ≤ from - (x .k + 1 + s .tWTR)) →
           cond p (lesser m (e .cycle - x .k)) (cond (q && v) (lesser m (e .cycle - (x .k + 1 + s .tWTR))) m) ≡ m
-      same true q v g = lesser-same m (e .cycle - x .k) (omega (arith, r .0))
-      same false true true g = lesser-same m (e .cycle - (x .k + 1 + s .tWTR)) (omega (arith, r .0, g refl))
+      same true q v g = lesser-low m (e .cycle - x .k) (omega (arith, r .0))
+      same false true true g = lesser-low m (e .cycle - (x .k + 1 + s .tWTR)) (omega (arith, r .0, g refl))
       same false true false g = refl
       same false false v g = refl
 
@@ -185,17 +165,17 @@ module _ (s : Settings) (x : Burst) (n : newer s ≡ true) (w : x .writes ≡ tr
 
       by-write : (v : Bool) → ltb t (wholeEnd x) ≡ v → bursts false (cond v (lesser m (t - x .k)) m) es ≡ lesser m (t - x .k)
       by-write true q =
-          settled es false (lesser m (t - x .k)) (suc t) (λ f. absurd (let z : _≡_ {A = ℕ} 0 1 = cc in omega arith)) (omega (arith, right-le m (t - x .k))) (r .1)
+          settled es false (lesser m (t - x .k)) (suc t) (λ f. absurd (let z : _≡_ {A = ℕ} 0 1 = cc in omega arith)) (omega (arith, lesser-second m (t - x .k))) (r .1)
       by-write false q =
           let past : m ≤ t - x .k = omega (arith, ltb-false t (wholeEnd x) q) in
-          settled es false m (suc t) (λ f. absurd (let z : _≡_ {A = ℕ} 0 1 = cc in omega arith)) (omega arith) (r .1) ∙ sym (lesser-same m (t - x .k) past)
+          settled es false m (suc t) (λ f. absurd (let z : _≡_ {A = ℕ} 0 1 = cc in omega arith)) (omega arith) (r .1) ∙ sym (lesser-low m (t - x .k) past)
 
       go : (v : Bool) → eqb (codeOf (e .pins)) 10 ≡ v → (u : Bool) → eqb (codeOf (e .pins)) 2 ≡ u → bursts true m es ≡ nextLeaves s (x .k) m es →
           bursts (true && not u) (left v u) es ≡ cond (v || u) (lesser m (t - cond v (x .k + 1 + s .tWTR) (x .k))) (nextLeaves s (x .k) m es)
       go true p true q ih = absurd (both p q)
       go true p false q ih =
-          settled es true (lesser m (t - (x .k + 1 + s .tWTR))) (suc t) (λ f. omega (arith, right-le m (t - (x .k + 1 + s .tWTR))))
-          (omega (arith, right-le m (t - (x .k + 1 + s .tWTR)))) (r .1)
+          settled es true (lesser m (t - (x .k + 1 + s .tWTR))) (suc t) (λ f. omega (arith, lesser-second m (t - (x .k + 1 + s .tWTR))))
+          (omega (arith, lesser-second m (t - (x .k + 1 + s .tWTR)))) (r .1)
       go false p true q ih = by-write (ltb t (wholeEnd x)) refl
       go false p false q ih = ih
 
@@ -222,7 +202,7 @@ module _ (s : Settings) (x : Burst) (n : newer s ≡ true) (w : x .writes ≡ tr
   pub interrupted-ahead : (es : List Event) (f : Stands) (from : ℕ) → f .last ≡ true → f .row ≡ true → x .n ≡ h (x .mode) → Rises from es →
       cutByAll s es f x ≡ withPairs (lesser (nextLeaves s (x .k) (h (x .mode)) es) (rowLeaves s (x .bank) (x .k) (h (x .mode)) es)) x
   interrupted-ahead es f from i j q r =
-      ap (λ (m : ℕ). cutByAll s es f (withPairs m x)) (q ∙ sym (lesser-same (h (x .mode)) (h (x .mode)) (omega arith)))
+      ap (λ (m : ℕ). cutByAll s es f (withPairs m x)) (q ∙ sym (lesser-low (h (x .mode)) (h (x .mode)) (omega arith)))
       ∙ apart es f (h (x .mode)) (h (x .mode))
       ∙ (λ u. withPairs (lesser (bursts (i u) (h (x .mode)) es) (rows (j u) (h (x .mode)) es)) x)
       ∙ (λ u. withPairs (lesser (next-is es (h (x .mode)) from (omega arith) r u) (row-is es (h (x .mode)) u)) x)

@@ -10,9 +10,9 @@ use Rattle.reading.specs.Search.{lesser}
 use Rattle.reading.specs.Mode.{h}
 use Rattle.reading.specs.Settings.{Settings, newer}
 use Rattle.reading.specs.Capture.{Event, eventAt}
-use Rattle.reading.proofs.Cuts.{lesser-le}
-use Rattle.pins.specs.Pins.{codeOf, bankOf, tenOf}
-use Rattle.beats.specs.Kept.{Fit, eventsFrom, gives, cutsBurst, keptBy, keptAhead, cutAhead, leftBy, nextLeaves, rowLeaves, interruptedAhead, interruptible, keptWhole, keptOf}
+use Rattle.reading.proofs.Laws.{lesser-first}
+use Rattle.pins.specs.Pins.{codeOf, bankOf, tenOf, gives}
+use Rattle.beats.specs.Kept.{Fit, eventsFrom, cutsBurst, keptBy, keptAhead, cutAhead, leftByBurst, nextLeaves, rowLeaves, interruptedAhead, interruptible, keptWhole, keptOf}
 use Rattle.beats.proofs.Columns.{half-le}
 use Rattle.beats.proofs.Events.{next-event, no-event, rise-behind}
 use Rattle.beats.proofs.Cut.{cut-once}
@@ -70,7 +70,7 @@ by-le : (b k pairs : ℕ) (e : Event) → keptBy b k pairs e ≤ pairs
 by-le b k pairs e = go (cutsBurst b (e .pins))
   where
     go : (v : Bool) → cond v (lesser pairs (e .cycle - k)) pairs ≤ pairs
-    go true = lesser-le pairs (e .cycle - k)
+    go true = lesser-first pairs (e .cycle - k)
     go false = omega arith
 
 ahead-le : (b k end pairs : ℕ) (es : List Event) → keptAhead b k end pairs es ≤ pairs
@@ -87,14 +87,14 @@ unfolding nextLeaves
 next-le s k pairs [] = omega arith
 next-le s k pairs (e ∷ es) = go (gives (e .pins)) (next-le s k pairs es)
   where
-    go : (v : Bool) → nextLeaves s k pairs es ≤ pairs → cond v (leftBy s k pairs e) (nextLeaves s k pairs es) ≤ pairs
-    go true ih = lesser-le pairs (e .cycle - cond (eqb (codeOf (e .pins)) 10) (k + 1 + s .tWTR) k)
+    go : (v : Bool) → nextLeaves s k pairs es ≤ pairs → cond v (leftByBurst s k pairs e) (nextLeaves s k pairs es) ≤ pairs
+    go true ih = lesser-first pairs (e .cycle - cond (eqb (codeOf (e .pins)) 10) (k + 1 + s .tWTR) k)
     go false ih = ih
 
 -- a write that is interrupted and keeps a pair: where one is all that it has, or all that is left already, no more is lost
 module _ (s : Settings) (mode : ℕ) (e : Event) (es : List Event) (some : 1 ≤ interruptedAhead s mode e es) where
   next-most : interruptedAhead s mode e es ≤ nextLeaves s (e .cycle) (h mode) es
-  next-most = lesser-le (nextLeaves s (e .cycle) (h mode) es) (rowLeaves s (bankOf (e .pins)) (e .cycle) (h mode) es)
+  next-most = lesser-first (nextLeaves s (e .cycle) (h mode) es) (rowLeaves s (bankOf (e .pins)) (e .cycle) (h mode) es)
 
   pub one-there : {half : ℕ} → half ≡ h mode → half ≡ 1 → half ≡ interruptedAhead s mode e es
   one-there f o = omega (arith, some, next-most, next-le s (e .cycle) (h mode) es)
@@ -110,7 +110,7 @@ kept-half s mode e es = go (interruptible s (e .pins)) (gives (e .pins)) (tenOf 
     go true v a =
         omega (
           arith,
-          lesser-le (nextLeaves s (e .cycle) (h mode) es) (rowLeaves s (bankOf (e .pins)) (e .cycle) (h mode) es),
+          lesser-first (nextLeaves s (e .cycle) (h mode) es) (rowLeaves s (bankOf (e .pins)) (e .cycle) (h mode) es),
           next-le s (e .cycle) (h mode) es,
         )
     go false true true = omega arith

@@ -10,8 +10,8 @@ use lib.Dec.{leb, eqb}
 use Rattle.reading.specs.Search.{lesser}
 use Rattle.reading.specs.Settings.{Settings}
 use Rattle.reading.specs.Capture.{Event, eventAt}
-use Rattle.pins.specs.Pins.{codeOf, bankOf}
-use Rattle.beats.specs.Kept.{Fit, eventsFrom, gives, shutsBank, takesBank, nextLeaves, rowLeaves}
+use Rattle.pins.specs.Pins.{codeOf, bankOf, gives}
+use Rattle.beats.specs.Kept.{Fit, eventsFrom, shutsBank, takesBank, nextLeaves, rowLeaves}
 use Rattle.beats.proofs.Events.{Rises, next-event, no-event, rise-behind}
 
 -- what is left where no cycle has gone by

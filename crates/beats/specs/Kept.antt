@@ -9,7 +9,7 @@ use Rattle.reading.specs.Search.{count, lesser}
 use Rattle.reading.specs.Mode.{h}
 use Rattle.reading.specs.Settings.{Settings, newer}
 use Rattle.reading.specs.Capture.{Event, eventAt, cycleFits}
-use Rattle.pins.specs.Pins.{codeOf, bankOf, tenOf}
+use Rattle.pins.specs.Pins.{codeOf, bankOf, tenOf, gives}
 
 -- n events that fit
 pub record Fit (bytes : List ℕ) (n : ℕ) : Type 0 where
@@ -20,10 +20,6 @@ pub record Fit (bytes : List ℕ) (n : ℕ) : Type 0 where
 -- of n events those from event i on
 abbrev pub eventsFrom : List ℕ → ℕ → ℕ → List Event
 eventsFrom bytes n i = map (eventAt bytes) (count i (n - i))
-
--- the pins ask for a READ or a WRITE
-abbrev pub gives : ℕ → Bool
-gives w = eqb (codeOf w) 10 || eqb (codeOf w) 2
 
 -- with A10 high PRECHARGE names all banks
 abbrev pub namesBank : ℕ → ℕ → Bool
@@ -53,12 +49,12 @@ cutAhead mode e es = keptAhead (e .pins) (e .cycle) (e .cycle + h mode) (h mode)
 -- ---- a write that can be interrupted: it was given at k, of so many pairs
 
 -- what the READ or WRITE that comes first behind it leaves
-abbrev pub leftBy : Settings → ℕ → ℕ → Event → ℕ
-leftBy s k pairs e = lesser pairs (e .cycle - cond (eqb (codeOf (e .pins)) 10) (k + 1 + s .tWTR) k)
+abbrev pub leftByBurst : Settings → ℕ → ℕ → Event → ℕ
+leftByBurst s k pairs e = lesser pairs (e .cycle - cond (eqb (codeOf (e .pins)) 10) (k + 1 + s .tWTR) k)
 
 unfoldable pub nextLeaves : Settings → ℕ → ℕ → List Event → ℕ
 nextLeaves s k pairs [] = pairs
-nextLeaves s k pairs (e ∷ es) = cond (gives (e .pins)) (leftBy s k pairs e) (nextLeaves s k pairs es)
+nextLeaves s k pairs (e ∷ es) = cond (gives (e .pins)) (leftByBurst s k pairs e) (nextLeaves s k pairs es)
 
 -- ACTIVE, WRITE and READ with auto precharge of its bank: a PRECHARGE behind it finds another write there, or none, or an idle bank
 abbrev pub takesBank : ℕ → ℕ → Bool

@@ -34,16 +34,16 @@ abbrev pub placeIn : Bool → ℕ → ℕ → ℕ → ℕ
 placeIn interleaved length column beat = cond interleaved (bitXor (column % length) beat) ((column + beat) % length)
 
 -- the number of a row's first cell
-abbrev pub firstCell : Settings → ℕ → ℕ → ℕ
-firstCell s bank row = (bank * 2 ^ s .rowBits + row) * 2 ^ s .columnBits
+abbrev pub firstInRow : Settings → ℕ → ℕ → ℕ
+firstInRow s bank row = (bank * 2 ^ s .rowBits + row) * 2 ^ s .columnBits
 
 -- those of the four banks, by their rows
 abbrev pub firstCells : Settings → ℕ → ℕ → ℕ → ℕ → List ℕ
-firstCells s a b c d = firstCell s 0 a ∷ firstCell s 1 b ∷ firstCell s 2 c ∷ firstCell s 3 d ∷ []
+firstCells s a b c d = firstInRow s 0 a ∷ firstInRow s 1 b ∷ firstInRow s 2 c ∷ firstInRow s 3 d ∷ []
 
 -- the same after the pins' command: ACTIVE opens its bank on its row
 abbrev pub cellsOpened : Settings → List ℕ → ℕ → List ℕ
-cellsOpened s firsts w = cond (eqb (codeOf w) 12) (set firsts (bankOf w) (firstCell s (bankOf w) (addressOf w))) firsts
+cellsOpened s firsts w = cond (eqb (codeOf w) 12) (set firsts (bankOf w) (firstInRow s (bankOf w) (addressOf w))) firsts
 
 -- the cells of the first beats of a burst, in the block that begins with cell `block`
 abbrev pub blockCells : Bool → ℕ → ℕ → ℕ → ℕ → List ℕ

@@ -3,6 +3,7 @@ use deadlines::sums::after2;
 use deadlines::sums::data_after;
 use deadlines::sums::past;
 use settings::Settings;
+use settings::mode;
 use settings::places::COLUMN_BITS;
 use settings::places::EDITION;
 use settings::places::ROW_BITS;
@@ -15,26 +16,15 @@ ghost use lib.ListN.{length};
 ghost use lib.Seq.{sets};
 ghost use lib.Dec.{eqb};
 ghost use Rattle.reading.specs.Search.{lesser};
-ghost use Rattle.reading.specs.Mode.{BL};
 ghost use Rattle.reading.specs.Settings.{settingsOf};
 ghost use Rattle.reading.specs.Capture.{eventAt};
 ghost use Rattle.reading.specs.Bursts.{columnOf};
 ghost use Rattle.pins.specs.Pins.{codeOf, bankOf, addressOf, modeAfter};
-ghost use Rattle.beats.specs.Kept.{Fit, gives, namesBank, shutsBank, cutsBurst, eventsFrom, cutAhead, nextLeaves, takesBank, rowLeaves, interruptedAhead, keptWhole};
+ghost use Rattle.beats.specs.Kept.{Fit, namesBank, shutsBank, cutsBurst, eventsFrom, cutAhead, nextLeaves, takesBank, rowLeaves, interruptedAhead, keptWhole};
 ghost use Rattle.beats.specs.Kept as is;
-ghost use Rattle.beats.specs.Rows.{Sized, InRow, InBlock, firstCell, firstCells, cellsOpened, blockCells, beatCells};
+ghost use Rattle.beats.specs.Rows.{Sized, InRow, InBlock, firstInRow, firstCells, cellsOpened, blockCells, beatCells};
 
 // ---- what the pins of an event are to a burst
-
-pub fn gives_burst(w: u32) -> bool
-    ensures { λ r. ⌜ r ≡ gives w ⌝ }
-{
-    let asked = pins::code(w);
-    if asked == pins::READ {
-        return true;
-    }
-    asked == pins::WRITE
-}
 
 // With A10 high PRECHARGE names all banks.
 fn names_bank(bank: usize, w: u32) -> bool
@@ -110,13 +100,6 @@ pub fn mode_after(mode: u32, w: u32) -> u32
 
 // ---- columns and cells
 
-// BL of a mode word.
-fn length_of(mode: u32) -> u32
-    ensures { λ r. ⌜ r ≡ BL mode ⌝ }
-{
-    1 << (mode % 8)
-}
-
 fn power(bits: u32) -> u32
     requires { ⌜ bits < 32 ⌝ }
     ensures { λ r. ⌜ r ≡ 2 ^ bits ⌝ }
@@ -136,7 +119,7 @@ pub fn column(s: &Settings, w: u32) -> u32
 // The number of a row's first cell.
 pub fn first_cell(s: &Settings, bank: u32, row: u32) -> u32
     requires { ⌜ Sized (settingsOf (now s)) × ((bank < 4) × (row < 16384)) ⌝ }
-    ensures { λ r. ⌜ r ≡ firstCell (settingsOf (now (s .entry))) bank row ⌝ }
+    ensures { λ r. ⌜ r ≡ firstInRow (settingsOf (now (s .entry))) bank row ⌝ }
 {
     (bank * power(s[ROW_BITS]) + row) * power(s[COLUMN_BITS])
 }
@@ -201,9 +184,9 @@ pub fn write_burst(out: &mut [u32], at: usize, first: u32, mode: u32, column: u3
     requires { ⌜ at + 2 * pairs ≤ length (now out) ⌝ }
     ensures { λ _. ⌜ now (out .exit) ≡ sets (now (out .entry)) at (beatCells first mode column (2 * pairs)) ⌝ }
 {
-    let length = length_of(mode);
+    let length = mode::burst_length(mode);
     let block = first + column / length * length;
-    if mode / 8 % 2 == 1 {
+    if mode::interleaved(mode) {
         write_interleaved(out, at, block, length, column, pairs);
         return;
     }
@@ -221,7 +204,7 @@ fn look_ahead(bytes: &[u8], n: u32, i: u32, mode: u32) -> u32
     let at = i as usize;
     let burst = capture::pins_at(bytes, at);
     let k = capture::cycle_at(bytes, at);
-    let half = length_of(mode) / 2;
+    let half = mode::half(mode);
     let end = k + half;
     let mut j = i + 1;
     'later: while j < n {
@@ -270,7 +253,7 @@ fn next_leaves(s: &Settings, bytes: &[u8], n: u32, i: u32, pairs: u32) -> u32
             return pairs;
         }
         let w = capture::pins_at(bytes, behind);
-        if !gives_burst(w) {
+        if !pins::gives_burst(w) {
             j += 1;
             continue 'later;
         }
@@ -346,7 +329,7 @@ pub fn interrupted(s: &Settings, bytes: &[u8], n: u32, i: u32, mode: u32) -> u32
     requires { ⌜ 1 ≤ interruptedAhead (settingsOf (now s)) mode (eventAt (now bytes) i) (eventsFrom (now bytes) n (i + 1)) ⌝ }
     ensures { λ r. ⌜ r ≡ interruptedAhead (settingsOf (now (s .entry))) mode (eventAt (now (bytes .entry)) i) (eventsFrom (now (bytes .entry)) n (i + 1)) ⌝ }
 {
-    let half = length_of(mode) / 2;
+    let half = mode::half(mode);
     if half == 1 {
         return half;
     }
@@ -364,11 +347,11 @@ pub fn kept(bytes: &[u8], n: u32, i: u32, mode: u32) -> u32
     ensures { λ r. ⌜ r ≡ keptWhole mode (eventAt (now (bytes .entry)) i) (eventsFrom (now (bytes .entry)) n (i + 1)) ⌝ }
 {
     let w = capture::pins_at(bytes, i as usize);
-    if !gives_burst(w) {
+    if !pins::gives_burst(w) {
         return 0;
     }
     // before the test: the compiler puts the look ahead in place here, which needs it too
-    let half = length_of(mode) / 2;
+    let half = mode::half(mode);
     if pins::ten(w) {
         return half;
     }

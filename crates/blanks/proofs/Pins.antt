@@ -1,30 +1,22 @@
 -- What each function says of a pin word is what the reading says.
 use Prim.Native.Nat.{ℕ, _+_, _*_, _/_, _%_, _^_, _<_}
-use mathlib.Core.Bool.{Bool, true, false, _&&_, _||_}
-use mathlib.Core.Path.{_≡_, refl, sym, ap, _∙_}
+use mathlib.Core.Bool.{Bool, true, false, _&&_}
+use mathlib.Core.Path.{_≡_, sym, ap, _∙_}
 use native.Mathlib.Nat.{mod-eq-of-lt}
 use native.Mathlib.Omega.{arith}
 use lib.Dec.{eqb, ltb}
 use borrow.Author.Tests.{eq-eqb, ne-eqb}
 use Rattle.reading.specs.Settings.{Settings}
 use Rattle.reading.specs.Blank.{namesColumn, namesRow, blankPins}
-use Rattle.pins.specs.Pins.{codeOf, addressOf}
-use Rattle.alike.proofs.Pins.{column-is, row-is, as-made}
+use Rattle.pins.specs.Pins.{codeOf, addressOf, gives}
+use Rattle.pins.proofs.Commands.{gives-is}
+use Rattle.alike.proofs.Pins.{row-is, as-made}
 
-or-none : (b : Bool) → (b || false) ≡ b
-or-none true = refl
-or-none false = refl
+-- READ and WRITE name a column, and give a burst
+pub column-told : (w : ℕ) {v u : Bool} → v ≡ gives w → v ≡ u → namesColumn w ≡ u
+column-told w e f = gives-is w ∙ sym e ∙ f
 
 module _ (w : ℕ) {q : ℕ} (e : q ≡ codeOf w) where
-  column-by : namesColumn w ≡ (eqb q 10 || (eqb q 2 || false))
-  column-by = column-is w ∙ ap (λ (k : ℕ). eqb k 10 || (eqb k 2 || false)) (sym e)
-
-  pub reads : q ≡ 10 → true ≡ namesColumn w
-  reads f = sym (column-by ∙ ap (λ (b : Bool). b || (eqb q 2 || false)) (eq-eqb q 10 f))
-
-  pub writes : (q ≡ 10 → ⊥) → eqb q 2 ≡ namesColumn w
-  writes f = sym (column-by ∙ ap (λ (b : Bool). b || (eqb q 2 || false)) (ne-eqb q 10 f) ∙ or-none (eqb q 2))
-
   module _ (s : Settings) where
     row-by : namesRow s w ≡ (eqb q 12 && ltb (addressOf w) (2 ^ s .rowBits))
     row-by = row-is w s ∙ ap (λ (k : ℕ). eqb k 12 && ltb (addressOf w) (2 ^ s .rowBits)) (sym e)

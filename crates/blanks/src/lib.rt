@@ -8,24 +8,13 @@ ghost use Prim.Native.Nat.{_+_, _*_, _≤_, _<_};
 ghost use lib.ListN.{length, take};
 ghost use lib.Seq.{sets};
 ghost use Rattle.reading.specs.Settings.{settingsOf};
-ghost use Rattle.reading.specs.Blank.{namesColumn, namesRow, blankPins, blankOutcome};
+ghost use Rattle.reading.specs.Blank.{namesRow, blankPins, blankOutcome};
 ghost use Rattle.blanks.specs.Meaning.{means, blankedEvents, Writable};
 
 // What is said of a capture that is to be blanked.
 pub enum Blanked {
     Refused { number: u32, place: u32 },
     Written { bytes: u32 },
-}
-
-// READ and WRITE name a column.
-fn names_column(w: u32) -> bool
-    ensures { λ r. ⌜ r ≡ namesColumn w ⌝ }
-{
-    let asked = pins::code(w);
-    if asked == pins::READ {
-        return true;
-    }
-    asked == pins::WRITE
 }
 
 // ACTIVE names a row, here one that the part has.
@@ -45,7 +34,7 @@ fn blank_pins(s: &Settings, w: u32) -> u32
     ensures { λ r. ⌜ r ≡ blankPins (settingsOf (now (s .entry))) w ⌝ }
 {
     let above = w / pins::BANK * pins::BANK;
-    if names_column(w) {
+    if pins::gives_burst(w) {
         return above + w / 1024 % 2 * 1024;
     }
     if names_row(s, w) {

@@ -17,7 +17,7 @@ use Rattle.reading.specs.Part.{Part, Bank, cuts, interrupts, atMost, cutBy}
 use Rattle.reading.specs.Rules.{autoOver, untouchable}
 use Rattle.reading.proofs.Cuts.{All, nil, cons, auto-uncut}
 use Rattle.reading.proofs.Alone.{Spent}
-use Rattle.reading.proofs.Found.{later-first, later-second}
+use Rattle.reading.proofs.Laws.{later-first, later-second}
 use Rattle.bridge.specs.Summary.{heldBy}
 use Rattle.bridge.proofs.Tests.{ltb-is, held-is}
 
@@ -79,48 +79,6 @@ pub record Given (from : ℕ) (x : Burst) : Type 0 where
   pub before : x .k < from
   pub most : x .n ≤ h (x .mode)
   pub bank : x .bank < 4
-
-pub lesser-right : (a b : ℕ) → lesser a b ≤ b
-lesser-right a b = go (leb a b) refl
-  where
-    go : (v : Bool) → leb a b ≡ v → cond v a b ≤ b
-    go true e = leb-true a b e
-    go false e = omega arith
-
-pub lesser-low : (a b : ℕ) → a ≤ b → lesser a b ≡ a
-lesser-low a b p = rw (le-leb a b p)
-
-pub lesser-high : (a b : ℕ) → b ≤ a → lesser a b ≡ b
-lesser-high a b p = go (leb a b) refl
-  where
-    go : (v : Bool) → leb a b ≡ v → cond v a b ≡ b
-    go true e = omega (arith, leb-true a b e)
-    go false e = refl
-
-pub later-low : (a b : ℕ) → a ≤ b → later a b ≡ b
-later-low a b p = rw (le-leb a b p)
-
-pub later-high : (a b : ℕ) → b ≤ a → later a b ≡ a
-later-high a b p = go (leb a b) refl
-  where
-    go : (v : Bool) → leb a b ≡ v → cond v b a ≡ a
-    go true e = omega (arith, leb-true a b e)
-    go false e = refl
-
--- adding to both sides
-pub lesser-add : (c a b : ℕ) → lesser (a + c) (b + c) ≡ lesser a b + c
-lesser-add c a b = go (leb a b) refl
-  where
-    go : (v : Bool) → leb a b ≡ v → lesser (a + c) (b + c) ≡ cond v a b + c
-    go true e = lesser-low (a + c) (b + c) (omega (arith, leb-true a b e))
-    go false e = lesser-high (a + c) (b + c) (omega (arith, leb-false a b e))
-
-pub later-add : (c a b : ℕ) → later (a + c) (b + c) ≡ later a b + c
-later-add c a b = go (leb a b) refl
-  where
-    go : (v : Bool) → leb a b ≡ v → later (a + c) (b + c) ≡ cond v b a + c
-    go true e = later-low (a + c) (b + c) (omega (arith, leb-true a b e))
-    go false e = later-high (a + c) (b + c) (omega (arith, leb-false a b e))
 
 -- ---- writes: of all bursts but the last they have ended
 

@@ -14,8 +14,9 @@ use Rattle.reading.specs.Settings.{Settings}
 use Rattle.reading.specs.Commands.{Command, READ, is}
 use Rattle.reading.specs.Bursts.{Burst, dataEnd, withPairs}
 use Rattle.reading.specs.Part.{Part, cuts, interrupts, interruptedTo, atMost, cutBy}
+use Rattle.reading.proofs.Laws.{lesser-low, lesser-high, lesser-second}
 use Rattle.bridge.specs.Summary.{lastOf}
-use Rattle.bridge.proofs.Bursts.{Given, lesser-low, lesser-high, lesser-right}
+use Rattle.bridge.proofs.Bursts.{Given}
 
 -- the last pair of a burst that c cuts, c more cycles counted: the lesser of what it was and t
 cut-pairs : (c : ℕ) (k n t : ℕ) → k ≤ t → k + c + lesser n (t - k) ≡ lesser (k + c + n) (t + c)
@@ -60,7 +61,7 @@ same-last f (x ∷ xs) = refl
 module _ (s : Settings) (p : Part) (t : ℕ) (c : Command) (x : Burst) where
   pub interrupted-until : x .auto ≡ false → cuts p c x ≡ false → interrupts s p c x ≡ true →
       x .k + 1 + cond (is READ c) (s .tWTR) (s .tWR) ≤ t → dataEnd (cutBy s p t c x) + cond (is READ c) (s .tWTR) (s .tWR) ≤ t
-  interrupted-until a e f l = omega (arith, l, left, lesser-right (x .n) (interruptedTo s t c x))
+  interrupted-until a e f l = omega (arith, l, left, lesser-second (x .n) (interruptedTo s t c x))
     where
       left : cutBy s p t c x .n ≡ lesser (x .n) (interruptedTo s t c x)
       left = rw (e, f, a)

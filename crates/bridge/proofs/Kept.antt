@@ -18,8 +18,9 @@ use Rattle.reading.specs.Part.{Part, Bank, openOn, idleFrom, autoPrecharge, clo
 use Rattle.reading.specs.Rules.{rule3, rule10, afterWrite}
 use Rattle.reading.proofs.Cuts.{All, nil, cons, all-map, all-map₂, cut-lowers}
 use Rattle.reading.proofs.Alone.{standing, cutAlone, cuts-alone}
+use Rattle.reading.proofs.Laws.{lesser-second}
 use Rattle.bridge.specs.Summary.{cleared, heldBy}
-use Rattle.bridge.proofs.Bursts.{calm, read-calm, find-map, Given, Ended, Running, first, all-spent, Late, nothing, behind, Over, held-over, lesser-right}
+use Rattle.bridge.proofs.Bursts.{calm, read-calm, find-map, Given, Ended, Running, first, all-spent, Late, nothing, behind, Over, held-over}
 use Rattle.bridge.proofs.Cut.{cut-until, interrupted-until, Latency}
 use Rattle.bridge.proofs.Standing.{Stays, auto, unshut, FirstStays, Standing}
 use Rattle.bridge.proofs.Stays.{stays-later}
@@ -70,7 +71,7 @@ module _ (s : Settings) (p : Part) (from t : ℕ) (l : from ≤ t) (c : Command)
       omega (
         arith,
         cut-until s p from t l c x gx (λ b. absurd (let z : _≡_ {A = ℕ} 0 1 = cc in omega arith)) 0 e (read-calm s p c x w),
-        lesser-right (x .k + 0 + x .n) (t + 0),
+        lesser-second (x .k + 0 + x .n) (t + 0),
       )
 
   module _ (e : among (READ ∷ WRITE ∷ []) c ≡ false) where
@@ -237,7 +238,7 @@ module _ (s : Settings) (p : Part) (from t : ℕ) (l : from ≤ t) (g : Sound fr
       one : (x : Burst) → Given from x → Over t (λ y. y .writes) x → Ended (suc t) (cutBy s p t c x)
       one x gx ox =
           record {
-            by = λ f. omega (arith, cut-until s p from t l c x gx (ox .by f) 1 (rw f) (calm s p c x refl refl), lesser-right (x .k + 1 + x .n) (t + 1));
+            by = λ f. omega (arith, cut-until s p from t l c x gx (ox .by f) 1 (rw f) (calm s p c x refl refl), lesser-second (x .k + 1 + x .n) (t + 1));
           }
 
       over : (x : Burst) → Given from x → Running from (p .banks) (p .bursts) x →

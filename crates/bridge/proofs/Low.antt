@@ -15,7 +15,7 @@ use Rattle.reading.specs.Bursts.{dataEnd}
 use Rattle.reading.specs.Sleep.{rested}
 use Rattle.reading.specs.Part.{Part, lastWrite}
 use Rattle.reading.specs.Rules.{rule1, rule2, rule3, rule4, rule5, rule7, rule8, rule9, rule10, rule11, rule12, rule13, rule14, rule15, rules, lowestBroken}
-use Rattle.deadlines.specs.Deadlines.{FAR, orElse, taken, enterBreaks, lowBreaks, selfBreaks}
+use Rattle.deadlines.specs.Deadlines.{FAR, ruleUnless, taken, enterBreaks, lowBreaks, selfBreaks}
 use Rattle.steps.specs.Steps.{unlessLower}
 use Rattle.bridge.specs.Summary.{SleepHeld, Timed, laid, summary, sleepHeld, overdueBy}
 use Rattle.bridge.proofs.Tests.{num, num-cond, after-is, cleared-is, leb-later}
@@ -31,9 +31,9 @@ use Rattle.reading.proofs.Cuts.{All}
 module _ (s : Settings) (p : Part) (t : ℕ) where
   abbrev upTo14 : Command → ℕ → ℕ
   upTo14 c rest =
-      orElse (rule1 s p t c) 1 (orElse (rule2 s p t c) 2 (orElse (rule3 s p t c) 3 (orElse (rule4 s p t c) 4 (orElse (rule5 s p t c) 5 (orElse (rule7 s p t c) 7 (orElse (rule8 s p t c) 8 (orElse (rule9 s p t c) 9 (orElse (rule10 s p t c) 10 (orElse (rule11 s p t c) 11 (orElse (rule12 s p t c) 12 (orElse (rule13 s p t c) 13 (orElse (rule14 s p t c) 14 rest))))))))))))
+      ruleUnless (rule1 s p t c) 1 (ruleUnless (rule2 s p t c) 2 (ruleUnless (rule3 s p t c) 3 (ruleUnless (rule4 s p t c) 4 (ruleUnless (rule5 s p t c) 5 (ruleUnless (rule7 s p t c) 7 (ruleUnless (rule8 s p t c) 8 (ruleUnless (rule9 s p t c) 9 (ruleUnless (rule10 s p t c) 10 (ruleUnless (rule11 s p t c) 11 (ruleUnless (rule12 s p t c) 12 (ruleUnless (rule13 s p t c) 13 (ruleUnless (rule14 s p t c) 14 rest))))))))))))
 
-  chain-is : (c : Command) → num (lowestBroken rules s p t c) ≡ upTo14 c (orElse (rule15 s p t c) 15 0)
+  chain-is : (c : Command) → num (lowestBroken rules s p t c) ≡ upTo14 c (ruleUnless (rule15 s p t c) 15 0)
   chain-is c = simp num-cond
 
 -- what a rule, if there is one, is followed by
@@ -41,8 +41,8 @@ abbrev sealed : ℕ → ℕ → ℕ
 sealed rule rest = cond (eqb rule 0) rest rule
 
 sealed-chain : (k1 k2 k3 k4 k5 k7 k8 k9 k10 k11 k12 k13 k14 w e : Bool) →
-    sealed (orElse k1 1 (orElse k2 2 (orElse k3 3 (orElse k4 4 (orElse k5 5 (orElse k7 7 (orElse k8 8 (orElse k9 9 (orElse k10 10 (orElse k11 11 (orElse k12 12 (orElse k13 13 (orElse k14 14 (orElse w 15 0)))))))))))))) (orElse e 15 0) ≡
-    orElse k1 1 (orElse k2 2 (orElse k3 3 (orElse k4 4 (orElse k5 5 (orElse k7 7 (orElse k8 8 (orElse k9 9 (orElse k10 10 (orElse k11 11 (orElse k12 12 (orElse k13 13 (orElse k14 14 (orElse w 15 (orElse e 15 0))))))))))))))
+    sealed (ruleUnless k1 1 (ruleUnless k2 2 (ruleUnless k3 3 (ruleUnless k4 4 (ruleUnless k5 5 (ruleUnless k7 7 (ruleUnless k8 8 (ruleUnless k9 9 (ruleUnless k10 10 (ruleUnless k11 11 (ruleUnless k12 12 (ruleUnless k13 13 (ruleUnless k14 14 (ruleUnless w 15 0)))))))))))))) (ruleUnless e 15 0) ≡
+    ruleUnless k1 1 (ruleUnless k2 2 (ruleUnless k3 3 (ruleUnless k4 4 (ruleUnless k5 5 (ruleUnless k7 7 (ruleUnless k8 8 (ruleUnless k9 9 (ruleUnless k10 10 (ruleUnless k11 11 (ruleUnless k12 12 (ruleUnless k13 13 (ruleUnless k14 14 (ruleUnless w 15 (ruleUnless e 15 0))))))))))))))
 sealed-chain false k2 k3 k4 k5 k7 k8 k9 k10 k11 k12 k13 k14 w e = refl
 sealed-chain true false k3 k4 k5 k7 k8 k9 k10 k11 k12 k13 k14 w e = refl
 sealed-chain true true false k4 k5 k7 k8 k9 k10 k11 k12 k13 k14 w e = refl
@@ -79,18 +79,18 @@ module _ (s : Settings) (p : Part) (t : ℕ) where
   command-agrees o b a ten n r =
       let c = does o b a ten in
       let low : rule15 s p t (doesLow o b a ten) ≡ false = rw (n, r) (none-allowed (p .sleep .asleep)) in
-      chain-is s p t (doesLow o b a ten) ∙ ap (λ (v : Bool). upTo14 s p t (doesLow o b a ten) (orElse v 15 0)) low
+      chain-is s p t (doesLow o b a ten) ∙ ap (λ (v : Bool). upTo14 s p t (doesLow o b a ten) (ruleUnless v 15 0)) low
       ∙ same-rules o b a ten n 15
       ∙ broken c
       ∙ ap (λ (v : ℕ). sealed v 15) (sym (chain-is s p t c))
     where
-      broken : (c : Command) → upTo14 s p t c 15 ≡ sealed (upTo14 s p t c (orElse (rule15 s p t c) 15 0)) 15
+      broken : (c : Command) → upTo14 s p t c 15 ≡ sealed (upTo14 s p t c (ruleUnless (rule15 s p t c) 15 0)) 15
       broken c =
           never-kept (rule15 s p t c)
           ∙ sym (sealed-chain (rule1 s p t c) (rule2 s p t c) (rule3 s p t c) (rule4 s p t c) (rule5 s p t c) (rule7 s p t c)
           (rule8 s p t c) (rule9 s p t c) (rule10 s p t c) (rule11 s p t c) (rule12 s p t c) (rule13 s p t c) (rule14 s p t c) (rule15 s p t c) false)
         where
-          never-kept : (w : Bool) → upTo14 s p t c 15 ≡ upTo14 s p t c (orElse w 15 15)
+          never-kept : (w : Bool) → upTo14 s p t c 15 ≡ upTo14 s p t c (ruleUnless w 15 15)
           never-kept true = refl
           never-kept false = refl
 
@@ -99,29 +99,29 @@ module _ (s : Settings) (p : Part) (t : ℕ) where
 module _ (s : Settings) (k : Clock) (t : ℕ) (timed : Timed s t) where
   abbrev entered : SleepHeld → Bool → Bool → Bool → ℕ
   entered h busy bus end =
-      orElse busy 4 (orElse (ltb t (h .overdue)) 14 (orElse bus 15 (orElse end 15 (orElse (leb (h .wake) t) 15 0))))
+      ruleUnless busy 4 (ruleUnless (ltb t (h .overdue)) 14 (ruleUnless bus 15 (ruleUnless end 15 (ruleUnless (leb (h .wake) t) 15 0))))
 
   due-some : eqb (overdueBy s k) 0 ≡ false
   due-some = ne-eqb (overdueBy s k) 0 (λ e. omega (arith, timed .ticks, suc-mul (8 + k .paid) (s .tREFI)))
 
   -- asleep they are asked for rule 14 alone; awake they enter
   low-is : (a v : Bool) (left : Option ℕ) (busy bus end : Bool) →
-      orElse (implies (not a || false) busy) 4
-      (orElse (implies (not (a && v)) (inTime s k t)) 14
-      (orElse (cond a true ((bus && end) && after (cond v (s .tXSR) (s .tXP)) left t)) 15 0)) ≡
+      ruleUnless (implies (not a || false) busy) 4
+      (ruleUnless (implies (not (a && v)) (inTime s k t)) 14
+      (ruleUnless (cond a true ((bus && end) && after (cond v (s .tXSR) (s .tXP)) left t)) 15 0)) ≡
       cond (ltb t (sleepHeld s k (sleepOf a v left) .asleep)) 0
       (cond (eqb (sleepHeld s k (sleepOf a v left) .overdue) 0) 14 (entered (sleepHeld s k (sleepOf a v left)) busy bus end))
   low-is true true left busy bus end = rw (lt-ltb t FAR (timed .early))
   low-is true false left busy bus end = rw (in-time-is s (timed .ticks) k t) (go (ltb t (overdueBy s k)))
     where
-      go : (v : Bool) → orElse v 14 0 ≡ cond v 0 14
+      go : (v : Bool) → ruleUnless v 14 0 ≡ cond v 0 14
       go true = refl
       go false = refl
   low-is false v left busy bus end =
       rw (never t, in-time-is s (timed .ticks) k t, due-some, after-is (cond v (s .tXSR) (s .tXP)) left t)
       (go busy (ltb t (overdueBy s k)) bus end _)
     where
-      go : (b i u e w : Bool) → orElse b 4 (orElse i 14 (orElse ((u && e) && w) 15 0)) ≡ orElse b 4 (orElse i 14 (orElse u 15 (orElse e 15 (orElse w 15 0))))
+      go : (b i u e w : Bool) → ruleUnless b 4 (ruleUnless i 14 (ruleUnless ((u && e) && w) 15 0)) ≡ ruleUnless b 4 (ruleUnless i 14 (ruleUnless u 15 (ruleUnless e 15 (ruleUnless w 15 0))))
       go false i u e w = refl
       go true false u e w = refl
       go true true false e w = refl
@@ -154,7 +154,7 @@ module _ (s : Settings) (p : Part) (t : ℕ) (timed : Timed s t) (from : ℕ) (l
 
   -- rule 12 asked for the read's end before rule 15 does
   self-last : (u i a e w : Bool) →
-      orElse u 12 (orElse i 14 (orElse (cond a false ((u && e) && w)) 15 0)) ≡ orElse u 12 (orElse i 14 (orElse (cond a false w) 15 (orElse e 15 0)))
+      ruleUnless u 12 (ruleUnless i 14 (ruleUnless (cond a false ((u && e) && w)) 15 0)) ≡ ruleUnless u 12 (ruleUnless i 14 (ruleUnless (cond a false w) 15 (ruleUnless e 15 0)))
   self-last false i a e w = refl
   self-last true false a e w = refl
   self-last true true true e w = refl
@@ -168,8 +168,8 @@ module _ (s : Settings) (p : Part) (t : ℕ) (timed : Timed s t) (from : ℕ) (l
   self-agrees b a ten =
       let c = does AUTO-REFRESH b a ten in
       chain-is s p t (doesLow AUTO-REFRESH b a ten) ∙ same-rules s p t AUTO-REFRESH b a ten refl _
-      ∙ ap (λ (v : ℕ). orElse (rule3 s p t c) 3 (orElse (rule4 s p t c) 4 (orElse (rule5 s p t c) 5 v)))
+      ∙ ap (λ (v : ℕ). ruleUnless (rule3 s p t c) 3 (ruleUnless (rule4 s p t c) 4 (ruleUnless (rule5 s p t c) 5 v)))
       (self-last (rule12 s p t c) (rule14 s p t c) (p .sleep .asleep) over (rested s (p .sleep) t))
       ∙ sym (sealed-chain true true (rule3 s p t c) (rule4 s p t c) (rule5 s p t c) true true true true true (rule12 s p t c) true
       (rule14 s p t c) (rule15 s p t c) over)
-      ∙ (λ i. sealed ((sym (chain-is s p t c) ∙ refresh-agrees s p t timed b a ten) i) (orElse (over-is i) 15 0))
+      ∙ (λ i. sealed ((sym (chain-is s p t c) ∙ refresh-agrees s p t timed b a ten) i) (ruleUnless (over-is i) 15 0))

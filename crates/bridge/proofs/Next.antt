@@ -19,6 +19,7 @@ use Rattle.reading.specs.Rules.{rule14}
 use Rattle.reading.specs.Commands.{ACTIVE, READ, WRITE, BURST-TERMINATE, PRECHARGE, AUTO-REFRESH, MODE-REGISTER-SET, NOP, DESELECT, Command, is}
 use Rattle.reading.specs.Bursts.{Burst, reads, dataEnd, restsFrom}
 use Rattle.reading.specs.Part.{Part, Bank, openOn, idleFrom, cuts, cutBy, burstGiven, clockAfter, partAfter, bankWrite, lastBankWrite}
+use Rattle.reading.proofs.Laws.{both, either-way, lesser-low, lesser-add, later-low, later-high, later-add, later-first, later-second}
 use Rattle.reading.proofs.Cuts.{All, nil, cons, auto-uncut, spent-uncut}
 use Rattle.deadlines.specs.Deadlines.{LAST, at, paceOf, overdueAfter, quietAfter, lowAfter, selfAfter, cutWrite, newWrite, plainWrite, autoWrite, restAfter, restAll}
 use Rattle.deadlines.specs.Deadlines.{activeAfter, readAfter, writeAfter, cutRead, closeAfter, closeAllAfter, refreshAfter, modeSetAfter}
@@ -26,8 +27,7 @@ use Rattle.bridge.specs.Summary.{BankHeld, SleepHeld, Held, Timed, laid,
 use Rattle.bridge.proofs.Laid.{same, same-read, same-write, banked, readGiven, newGiven, timed, restsEarly}
 use Rattle.bridge.proofs.Laid.{onBank, activated, shut, writtenTill, autoShut, closed, writtenBy, active-laid, auto-laid, auto-write-laid, plain-laid, cut-laid, new-laid, rest-laid}
 use Rattle.bridge.proofs.Bursts.{uncut, calm, read-calm, rests-stay, find-same, find-map, held-cut, Given, Running, first, all-spent, Late, nothing, behind, Over, held-over}
-use Rattle.bridge.proofs.Bursts.{find-all, find-holds, lesser-low, lesser-add, later-low, later-high, later-add}
-use Rattle.bridge.proofs.Tests.{first-of}
+use Rattle.bridge.proofs.Bursts.{find-all, find-holds}
 use Rattle.bridge.proofs.Cut.{cut-until, Latency, same-latency, same-last}
 use Rattle.bridge.proofs.Standing.{Standing}
 use Rattle.bridge.proofs.Rules.{does, doesLow}
@@ -72,10 +72,6 @@ module _ (s : Settings) (p : Part) (from₀ t : ℕ) (l : from₀ ≤ t) (g : So
   whole : (c : Command) → ((x : Burst) → cuts p c x ≡ false) → is READ c ≡ false → is PRECHARGE c ≡ false → map (cutBy s p t c) xs ≡ xs
   whole c e f h = map-same (cutBy s p t c) (λ x. uncut s p t c x (e x) (calm s p c x f h)) xs
 
-  none-cut : (w : Bool) → cond w false false ≡ false
-  none-cut true = refl
-  none-cut false = refl
-
   abbrev isWrite : Burst → Bool
   isWrite x = x .writes
 
@@ -102,28 +98,28 @@ module _ (s : Settings) (p : Part) (from₀ t : ℕ) (l : from₀ ≤ t) (g : So
 
   pub quiet-next : (b a : ℕ) (ten : Bool) → Timed s t → rule14 s p t (does NOP b a ten) ≡ true → laid (after (does NOP b a ten)) ≡ quietAfter s (laid X) t
   quiet-next b a ten early k =
-      ap (λ (y : Held). laid (slept (sleepy (does NOP b a ten)) y)) (unchanged (does NOP b a ten) (λ x. none-cut (x .writes)) refl refl)
+      ap (λ (y : Held). laid (slept (sleepy (does NOP b a ten)) y)) (unchanged (does NOP b a ten) (λ x. either-way (x .writes) false) refl refl)
       ∙ quiet-laid s t (p .clock) early (p .sleep .asleep) (p .sleep .self) (p .sleep .left) X k
 
   pub deselect-next : (b a : ℕ) (ten : Bool) → Timed s t → rule14 s p t (does DESELECT b a ten) ≡ true → laid (after (does DESELECT b a ten)) ≡ quietAfter s (laid X) t
   deselect-next b a ten early k =
-      ap (λ (y : Held). laid (slept (sleepy (does DESELECT b a ten)) y)) (unchanged (does DESELECT b a ten) (λ x. none-cut (x .writes)) refl refl)
+      ap (λ (y : Held). laid (slept (sleepy (does DESELECT b a ten)) y)) (unchanged (does DESELECT b a ten) (λ x. either-way (x .writes) false) refl refl)
       ∙ quiet-laid s t (p .clock) early (p .sleep .asleep) (p .sleep .self) (p .sleep .left) X k
 
   pub low-next : (b a : ℕ) (ten : Bool) → Timed s t → rule14 s p t (doesLow NOP b a ten) ≡ true → laid (after (doesLow NOP b a ten)) ≡ lowAfter (laid X) t
   low-next b a ten early k =
-      ap (λ (y : Held). laid (slept (sleepy (doesLow NOP b a ten)) y)) (unchanged (doesLow NOP b a ten) (λ x. none-cut (x .writes)) refl refl)
+      ap (λ (y : Held). laid (slept (sleepy (doesLow NOP b a ten)) y)) (unchanged (doesLow NOP b a ten) (λ x. either-way (x .writes) false) refl refl)
       ∙ low-laid s t (p .clock) early (p .sleep .asleep) (p .sleep .self) (p .sleep .left) X k
 
   pub low-deselect-next : (b a : ℕ) (ten : Bool) → Timed s t → rule14 s p t (doesLow DESELECT b a ten) ≡ true →
       laid (after (doesLow DESELECT b a ten)) ≡ lowAfter (laid X) t
   low-deselect-next b a ten early k =
-      ap (λ (y : Held). laid (slept (sleepy (doesLow DESELECT b a ten)) y)) (unchanged (doesLow DESELECT b a ten) (λ x. none-cut (x .writes)) refl refl)
+      ap (λ (y : Held). laid (slept (sleepy (doesLow DESELECT b a ten)) y)) (unchanged (doesLow DESELECT b a ten) (λ x. either-way (x .writes) false) refl refl)
       ∙ low-laid s t (p .clock) early (p .sleep .asleep) (p .sleep .self) (p .sleep .left) X k
 
   pub self-next : (b a : ℕ) (ten : Bool) → p .sleep .asleep ≡ false → laid (after (doesLow AUTO-REFRESH b a ten)) ≡ selfAfter (laid X)
   self-next b a ten e =
-      ap (λ (y : Held). laid (slept (sleepy (doesLow AUTO-REFRESH b a ten)) y)) (unchanged (doesLow AUTO-REFRESH b a ten) (λ x. none-cut (x .writes)) refl refl)
+      ap (λ (y : Held). laid (slept (sleepy (doesLow AUTO-REFRESH b a ten)) y)) (unchanged (doesLow AUTO-REFRESH b a ten) (λ x. either-way (x .writes) false) refl refl)
       ∙ self-laid s t (p .clock) (p .sleep .asleep) (p .sleep .self) (p .sleep .left) X e
 
   -- the commands with CKE high come awake, and leave sleep alone
@@ -138,41 +134,25 @@ module _ (s : Settings) (p : Part) (from₀ t : ℕ) (l : from₀ ≤ t) (g : So
       let set = from (p .lastModeSet) (s .tMRD) in
       let y : SleepHeld = record { overdue = overdueAfter s t (X .sleep .overdue); wake = X .sleep .wake; asleep = X .sleep .asleep; self = X .sleep .self } in
       ap (λ (z : Held). laid (timed (later (t + s .tRFC) set) (sleepy (does AUTO-REFRESH b a ten)) z))
-      (unchanged (does AUTO-REFRESH b a ten) (λ x. none-cut (x .writes)) refl refl)
+      (unchanged (does AUTO-REFRESH b a ten) (λ x. either-way (x .writes) false) refl refl)
       ∙ ap (λ (z : SleepHeld). laid (timed (later (t + s .tRFC) set) z X))
       (refresh-laid s t (p .clock) ticks (p .sleep .asleep) (p .sleep .self) (p .sleep .left) awake)
-      ∙ ap (λ (v : ℕ). laid (timed v y X)) (later-high (t + s .tRFC) set (omega (arith, busy, later-least)))
-    where
-      later-least : from (p .lastModeSet) (s .tMRD) ≤ X .busy
-      later-least = go (leb (from (p .lastRefresh) (s .tRFC)) (from (p .lastModeSet) (s .tMRD))) refl
-        where
-          go : (v : Bool) → leb (from (p .lastRefresh) (s .tRFC)) (from (p .lastModeSet) (s .tMRD)) ≡ v →
-              from (p .lastModeSet) (s .tMRD) ≤ cond v (from (p .lastModeSet) (s .tMRD)) (from (p .lastRefresh) (s .tRFC))
-          go true e = omega arith
-          go false e = omega (arith, leb-false (from (p .lastRefresh) (s .tRFC)) (from (p .lastModeSet) (s .tMRD)) e)
+      ∙ ap (λ (v : ℕ). laid (timed v y X)) (later-high (t + s .tRFC) set (omega (arith, busy, later-second (from (p .lastRefresh) (s .tRFC)) set)))
 
   pub mode-next : p .sleep .asleep ≡ false → (b a : ℕ) (ten : Bool) → X .busy ≤ t → laid (after (does MODE-REGISTER-SET b a ten)) ≡ modeSetAfter s (laid X) t
   unfolding modeSetAfter
   mode-next awake b a ten busy =
       let refreshed = from (p .lastRefresh) (s .tRFC) in
       ap (λ (z : Held). laid (timed (later refreshed (t + s .tMRD)) (sleepy (does MODE-REGISTER-SET b a ten)) z))
-      (unchanged (does MODE-REGISTER-SET b a ten) (λ x. none-cut (x .writes)) refl refl)
+      (unchanged (does MODE-REGISTER-SET b a ten) (λ x. either-way (x .writes) false) refl refl)
       ∙ ap (λ (z : SleepHeld). laid (timed (later refreshed (t + s .tMRD)) z X)) (awake-stays awake)
-      ∙ ap (λ (v : ℕ). laid (timed v (X .sleep) X)) (later-low refreshed (t + s .tMRD) (omega (arith, busy, later-least)))
-    where
-      later-least : from (p .lastRefresh) (s .tRFC) ≤ X .busy
-      later-least = go (leb (from (p .lastRefresh) (s .tRFC)) (from (p .lastModeSet) (s .tMRD))) refl
-        where
-          go : (v : Bool) → leb (from (p .lastRefresh) (s .tRFC)) (from (p .lastModeSet) (s .tMRD)) ≡ v →
-              from (p .lastRefresh) (s .tRFC) ≤ cond v (from (p .lastModeSet) (s .tMRD)) (from (p .lastRefresh) (s .tRFC))
-          go true e = leb-true (from (p .lastRefresh) (s .tRFC)) (from (p .lastModeSet) (s .tMRD)) e
-          go false e = omega arith
+      ∙ ap (λ (v : ℕ). laid (timed v (X .sleep) X)) (later-low refreshed (t + s .tMRD) (omega (arith, busy, later-first refreshed (from (p .lastModeSet) (s .tMRD)))))
 
   pub active-next : p .sleep .asleep ≡ false → (b a : ℕ) (ten : Bool) → b < 4 → laid (after (does ACTIVE b a ten)) ≡ activeAfter s (laid X) t b
   active-next awake b a ten m = ap laid entries ∙ sym (active-laid s X t b m)
     where
       cut : map (cutBy s p t (does ACTIVE b a ten)) xs ≡ xs
-      cut = whole (does ACTIVE b a ten) (λ x. none-cut (x .writes)) refl refl
+      cut = whole (does ACTIVE b a ten) (λ x. either-way (x .writes) false) refl refl
 
       bank : (i : ℕ) (v : Bool) →
           let k = cond v (openOn a t (p .banks i)) (p .banks i) in
@@ -210,7 +190,7 @@ module _ (s : Settings) (p : Part) (from₀ t : ℕ) (l : from₀ ≤ t) (g : So
   written-stays c e i o q =
       ap (λ (v : Option ℕ). ended s (find (λ x. x .writes && (eqb i (x .bank) && ever v (λ a. leb a (x .k)))) (map (cutBy s p t c) xs)) (s .tWR)) q
       ∙ ap (λ (v : Option Burst). ended s v (s .tWR)) (find-map (bankWrite p i) (cutBy s p t c) (λ x. refl) xs)
-      ∙ rest-stays c e (find (bankWrite p i) xs) (λ x f. first-of (x .writes) _ (find-holds (bankWrite p i) xs f)) (s .tWR)
+      ∙ rest-stays c e (find (bankWrite p i) xs) (λ x f. both (x .writes) _ (find-holds (bankWrite p i) xs f) .0) (s .tWR)
 
   writes-left : (c : Command) → is WRITE c ≡ false → writeHeld s (map (cutBy s p t c) xs) ≡ X .write
   writes-left c e = same-write (held-cut isWrite (λ n x. refl) s p t c xs) (end-stays c e) (same-writer c)
@@ -306,7 +286,7 @@ module _ (s : Settings) (p : Part) (from₀ t : ℕ) (l : from₀ ≤ t) (g : So
       found f = rw f at e
 
       ended-there : find (bankWrite p i) ys ≡ some x → dataEnd x ≤ from₀
-      ended-there f = find-all (bankWrite p i) r f .by (first-of (x .writes) _ (find-holds (bankWrite p i) ys f))
+      ended-there f = find-all (bankWrite p i) r f .by (both (x .writes) _ (find-holds (bankWrite p i) ys f) .0)
 
       go : (w : Bool) → y .writes ≡ w → dataEnd x ≤ from₀
       go false w = ended-there (found (rw w))
@@ -347,7 +327,7 @@ module _ (s : Settings) (p : Part) (from₀ t : ℕ) (l : from₀ ≤ t) (g : So
           by : (v : Bool) → cond v (x .k + 2) (dataEnd (cutBy s p t c x)) ≡ lesser (cond v (x .k + 2) (dataEnd x)) (t + 1)
           by true = sym (lesser-low (x .k + 2) (t + 1) (omega (arith, gx .before)))
           by false =
-              write-end b a ten x gx (find-all (bankWrite p i) (held-over isWrite t xs q) f) (first-of (x .writes) _ (find-holds (bankWrite p i) xs f))
+              write-end b a ten x gx (find-all (bankWrite p i) (held-over isWrite t xs q) f) (both (x .writes) _ (find-holds (bankWrite p i) xs f) .0)
 
       -- one that has ended is not cut
       rests-low : (x : Burst) → Given from₀ x → dataEnd x ≤ from₀ → restsFrom s x ≤ t + 1

@@ -10,7 +10,7 @@ use Rattle.reading.specs.Search.{implies, after}
 use Rattle.reading.specs.Settings.{Settings}
 use Rattle.reading.specs.RefreshClock.{Clock, clockAfterRefresh, clockAfterSleep, inTime}
 use Rattle.reading.specs.Sleep.{Sleep, rested}
-use Rattle.deadlines.specs.Deadlines.{FAR, orElse, overdueAfter, quietAfter, leaveAfter, powerUpAfter, wakeAfter, lowAfter, enterAfter, selfAfter}
+use Rattle.deadlines.specs.Deadlines.{FAR, ruleUnless, overdueAfter, quietAfter, leaveAfter, powerUpAfter, wakeAfter, lowAfter, enterAfter, selfAfter}
 use Rattle.bridge.specs.Summary.{SleepHeld, Held, Timed, laid, from, overdueBy, sleepHeld}
 use Rattle.bridge.proofs.Laid.{timed as at-times}
 use Rattle.bridge.proofs.Clock.{in-time-is, refreshed-is}
@@ -40,25 +40,25 @@ module _ (s : Settings) (k : Clock) (x : Sleep) (t : ℕ) (timed : Timed s t) wh
       go true false = rw (never t) (in-time-is s (timed .ticks) k t)
       go false v = rw (never t) (in-time-is s (timed .ticks) k t ∙ sym (or-false (ltb t (overdueBy s k))))
 
-  pub quiet-is : orElse asked 14 (orElse (cond (x .asleep) true true) 15 0) ≡ orElse (timelyBy h t) 14 0
-  quiet-is = rw timely-is (ap (λ (v : Bool). orElse (timelyBy h t) 14 (orElse v 15 0)) (go (x .asleep)))
+  pub quiet-is : ruleUnless asked 14 (ruleUnless (cond (x .asleep) true true) 15 0) ≡ ruleUnless (timelyBy h t) 14 0
+  quiet-is = rw timely-is (ap (λ (v : Bool). ruleUnless (timelyBy h t) 14 (ruleUnless v 15 0)) (go (x .asleep)))
     where
       go : (a : Bool) → cond a true true ≡ true
       go true = refl
       go false = refl
 
   -- of a command that waits
-  pub last-is : orElse asked 14 (orElse (cond (x .asleep) false (rested s x t)) 15 0) ≡
-      orElse (timelyBy h t) 14 (orElse (ltb t (h .overdue) && leb (h .wake) t) 15 0)
+  pub last-is : ruleUnless asked 14 (ruleUnless (cond (x .asleep) false (rested s x t)) 15 0) ≡
+      ruleUnless (timelyBy h t) 14 (ruleUnless (ltb t (h .overdue) && leb (h .wake) t) 15 0)
   last-is = rw (timely-is, after-is (cond (x .self) (s .tXSR) (s .tXP)) (x .left) t) (go (x .asleep) (cond (x .self) FAR (overdueBy s k)) (leb (h .wake) t))
     where
       go : (a : Bool) (far : ℕ) (w : Bool) →
-          orElse (ltb t (cond a 0 (overdueBy s k)) || ltb t (cond a far 0)) 14 (orElse (cond a false w) 15 0) ≡
-          orElse (ltb t (cond a 0 (overdueBy s k)) || ltb t (cond a far 0)) 14 (orElse (ltb t (cond a 0 (overdueBy s k)) && w) 15 0)
+          ruleUnless (ltb t (cond a 0 (overdueBy s k)) || ltb t (cond a far 0)) 14 (ruleUnless (cond a false w) 15 0) ≡
+          ruleUnless (ltb t (cond a 0 (overdueBy s k)) || ltb t (cond a far 0)) 14 (ruleUnless (ltb t (cond a 0 (overdueBy s k)) && w) 15 0)
       go true far w = rw (never t)
       go false far w = rw (never t) (awake (ltb t (overdueBy s k)) w)
         where
-          awake : (v w : Bool) → orElse (v || false) 14 (orElse w 15 0) ≡ orElse (v || false) 14 (orElse (v && w) 15 0)
+          awake : (v w : Bool) → ruleUnless (v || false) 14 (ruleUnless w 15 0) ≡ ruleUnless (v || false) 14 (ruleUnless (v && w) 15 0)
           awake true w = refl
           awake false w = refl
 

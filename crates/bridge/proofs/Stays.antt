@@ -1,5 +1,5 @@
 -- What is known of a write that is the last burst, after a command that gives no burst.
-use Prim.Native.Nat.{ℕ, zero, suc, _+_, _≤_, _<_}
+use Prim.Native.Nat.{ℕ, suc, _+_, _≤_}
 use mathlib.Core.Bool.{Bool, true, false, cond, not, _&&_, _||_, and-false}
 use mathlib.Core.List.{[], _∷_, map}
 use mathlib.Core.Logic.{_⊎_, inl, inr}
@@ -13,35 +13,13 @@ use Rattle.reading.specs.Settings.{Settings, newer}
 use Rattle.reading.specs.Commands.{Command, ACTIVE, READ, WRITE, is, among}
 use Rattle.reading.specs.Bursts.{Burst, dataEnd, restsFrom}
 use Rattle.reading.specs.Part.{Part, Bank, openOn, idleFrom, closes, interrupts, cuts, cutBy, bankWrite, lastBankWrite, partAfter}
-use Rattle.reading.specs.Rules.{everyBank, rule3, rule10, afterWrite}
+use Rattle.reading.specs.Rules.{rule3, rule10, afterWrite}
+use Rattle.reading.proofs.Laws.{both, every-bank}
 use Rattle.reading.proofs.Cuts.{All, cut-lowers, auto-uncut}
-use Rattle.bridge.proofs.Tests.{first-of}
 use Rattle.bridge.proofs.Bursts.{Given, uncut, find-map}
 use Rattle.bridge.proofs.Cut.{interrupted-until}
 use Rattle.bridge.proofs.Standing.{Stays, auto, unshut, shut}
 use Rattle.bridge.proofs.Next.{fresh}
-
-second-of : (a b : Bool) → (a && b) ≡ true → b ≡ true
-second-of true b e = e
-second-of false b e = let z : _≡_ {A = ℕ} 0 1 = cc in absurd (omega arith)
-
--- what holds of every bank holds of each
-pub at-each : (f : ℕ → Bool) → everyBank f ≡ true → (b : ℕ) → b < 4 → f b ≡ true
-at-each f = go (f 0) (f 1) (f 2) (f 3) refl refl refl refl
-  where
-    never : (v : Bool) → false ≡ true → v ≡ true
-    never v e = let z : _≡_ {A = ℕ} 0 1 = cc in absurd (omega arith)
-
-    go : (p q r v : Bool) → f 0 ≡ p → f 1 ≡ q → f 2 ≡ r → f 3 ≡ v → (f 0 && (f 1 && (f 2 && f 3))) ≡ true → (b : ℕ) → b < 4 → f b ≡ true
-    go true true true true e₀ e₁ e₂ e₃ k zero l = e₀
-    go true true true true e₀ e₁ e₂ e₃ k (suc zero) l = e₁
-    go true true true true e₀ e₁ e₂ e₃ k (suc (suc zero)) l = e₂
-    go true true true true e₀ e₁ e₂ e₃ k (suc (suc (suc zero))) l = e₃
-    go true true true true e₀ e₁ e₂ e₃ k (suc (suc (suc (suc b)))) l = absurd (omega arith)
-    go false q r v e₀ e₁ e₂ e₃ k b l = never (f b) (rw e₀ at k)
-    go true false r v e₀ e₁ e₂ e₃ k b l = never (f b) (rw (e₀, e₁) at k)
-    go true true false v e₀ e₁ e₂ e₃ k b l = never (f b) (rw (e₀, e₁, e₂) at k)
-    go true true true false e₀ e₁ e₂ e₃ k b l = never (f b) (rw (e₀, e₁, e₂, e₃) at k)
 
 module _ (s : Settings) (p : Part) (from t : ℕ) (l : from ≤ t) (c : Command) (e : among (READ ∷ WRITE ∷ []) c ≡ false)
     (kept3 : rule3 s p t c ≡ true) (kept10 : rule10 s p t c ≡ true) (given : All (Given from) (p .bursts)) where
@@ -100,7 +78,7 @@ module _ (s : Settings) (p : Part) (from t : ℕ) (l : from ≤ t) (c : Command)
       where
         waited : ever (lastBankWrite p b) (λ y. leb (restsFrom s y + s .tWR) t) ≡ true
         waited =
-            let z = at-each (λ i. implies (closes c i (p .banks i)) (afterWrite s (s .tWR) (lastBankWrite p i) t)) kept10 b (g .bank) in
+            let z = every-bank (λ i. implies (closes c i (p .banks i)) (afterWrite s (s .tWR) (lastBankWrite p i) t)) kept10 b (g .bank) in
             rw k at z
 
         rests : restsFrom s x + s .tWR ≤ t
@@ -127,8 +105,8 @@ module _ (s : Settings) (p : Part) (from t : ℕ) (l : from ≤ t) (c : Command)
         -- rule 3
         idle : opens ≡ true → ⊥
         idle q =
-            let own : b ≡ c .bank = eqb-true b (c .bank) (second-of (is ACTIVE c) (eqb b (c .bank)) q) in
-            let shut-bank : not (p .banks (c .bank) .opened) ≡ true = rw (first-of (is ACTIVE c) (eqb b (c .bank)) q) at kept3 in
+            let own : b ≡ c .bank = eqb-true b (c .bank) (both (is ACTIVE c) (eqb b (c .bank)) q .1) in
+            let shut-bank : not (p .banks (c .bank) .opened) ≡ true = rw (both (is ACTIVE c) (eqb b (c .bank)) q .0) at kept3 in
             let stands-open : p .banks (c .bank) .opened ≡ true = ap (λ (i : ℕ). p .banks i .opened) (sym own) ∙ o in
             let z : _≡_ {A = ℕ} 0 1 = cc in
             omega arith

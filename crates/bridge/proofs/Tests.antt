@@ -12,7 +12,7 @@ use Rattle.reading.specs.Mode.{h, CL}
 use Rattle.reading.specs.Settings.{Settings}
 use Rattle.reading.specs.Bursts.{Burst, restsFrom}
 use Rattle.reading.specs.Rules.{autoOver}
-use Rattle.deadlines.specs.Deadlines.{orElse}
+use Rattle.deadlines.specs.Deadlines.{ruleUnless}
 use Rattle.bridge.specs.Summary.{from, ended, cleared, heldBy}
 
 -- the rule's number, 0 for none
@@ -20,7 +20,7 @@ abbrev pub num : Option ℕ → ℕ
 num none = 0
 num (some r) = r
 
-pub num-cond : (k : Bool) (x : Option ℕ) (r : ℕ) → num (cond (not k) (some r) x) ≡ orElse k r (num x)
+pub num-cond : (k : Bool) (x : Option ℕ) (r : ℕ) → num (cond (not k) (some r) x) ≡ ruleUnless k r (num x)
 num-cond true x r = refl
 num-cond false x r = refl
 
@@ -84,7 +84,3 @@ ltb-is t c = go (leb c t) refl
     go : (v : Bool) → leb c t ≡ v → ltb t c ≡ not v
     go true e = le-ltb t c (leb-true c t e)
     go false e = lt-ltb t c (leb-false c t e)
-
-pub first-of : (a b : Bool) → (a && b) ≡ true → a ≡ true
-first-of true b e = refl
-first-of false b e = e

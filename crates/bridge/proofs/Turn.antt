@@ -14,6 +14,7 @@ use Rattle.reading.specs.Commands.{Op, is, quiet as quietly, ACTIVE, READ, WRIT
 use Rattle.reading.specs.Bursts.{reads}
 use Rattle.reading.specs.Part.{Part, start, partAfter}
 use Rattle.reading.specs.Rules.{keepsRule, rules, lowestBroken}
+use Rattle.reading.proofs.Laws.{both}
 use Rattle.reading.proofs.Cuts.{nil}
 use Rattle.reading.proofs.Found.{find-none}
 use Rattle.deadlines.specs.Deadlines.{paceOf, startOf, closeBreaks, closeAllBreaks}
@@ -22,7 +23,7 @@ use Rattle.steps.specs.Steps.{unlessLower, highBreaks, Quiet, stepBreaks, stepA
 use Rattle.steps.proofs.Codes as codes
 use Rattle.pins.proofs.Pins.{turned, op-is}
 use Rattle.bridge.specs.Summary.{Held, Timed, laid, summary, from}
-use Rattle.bridge.proofs.Tests.{num, first-of, after-is, leb-later, held-is, cleared-is}
+use Rattle.bridge.proofs.Tests.{num, after-is, leb-later, held-is, cleared-is}
 use Rattle.bridge.proofs.Bursts.{terminate-is, nothing}
 use Rattle.bridge.proofs.Rules.{does, doesLow, says, quiet, deselect, read-agrees, write-agrees, active-agrees, terminate-agrees, close-agrees, close-all-agrees, refresh-agrees, mode-agrees}
 use Rattle.bridge.proofs.Next.{Sound, quiet-next, deselect-next, low-next, low-deselect-next, self-next, refresh-next, mode-next, active-next, read-next, write-next, terminate-next, close-next, close-all-next}
@@ -188,7 +189,7 @@ module _ (s : Settings) (wide : s .rowBits < 32) (p : Part) (from₀ t : ℕ) (l
       held : lowestBroken rules s p t c ≡ none → X .read .reads ≤ t
       held z =
           leb-true (X .read .reads) t
-          (first-of (leb (X .read .reads) t) _ (sym (terminate-is from₀ t l (g .bursts) (g .late)) ∙ kept c z 13 thirteenth))
+          (both (leb (X .read .reads) t) _ (sym (terminate-is from₀ t l (g .bursts) (g .late)) ∙ kept c z 13 thirteenth) .0)
 
   turn-refresh : lowOf w ≡ false → codeOf w ≡ 8 → Turned (commandOf w)
   unfolding b a ten

@@ -1,6 +1,6 @@
 -- What it means that a capture is accepted.
 use Prim.Native.Nat.{ℕ, zero, suc, _+_, _-_, _*_, _≤_, _<_}
-use mathlib.Core.Bool.{Bool, true, false, cond, not, _&&_, _||_, and-eq-true-iff}
+use mathlib.Core.Bool.{Bool, true, false, cond, not, _&&_, _||_}
 use mathlib.Core.List.{List}
 use mathlib.Core.Option.{Option, none, some}
 use mathlib.Core.Path.{_≡_, refl, sym, ap, _∙_}
@@ -14,6 +14,7 @@ use Rattle.reading.specs.Words.{wordAt}
 use Rattle.reading.specs.Settings.{settingsOf, settingFits, badSetting}
 use Rattle.reading.specs.Capture.{headerWord, countIn, eventsStart, captureSize, mostEvents, newestEdition, eventCount, editionIn, settingWords, eventBytes, eventAt, lengthFits, headerFits, lastCycle, pinLimit, cycleFits, eventFits, badEvent}
 use Rattle.reading.specs.Answers.{Answer, refused, answered, unless, settingsIn, accepted}
+use Rattle.reading.proofs.Laws.{both, not-given}
 use Rattle.words.proofs.Search.{none-below}
 use Rattle.settings.specs.Meaning.{held}
 use Rattle.settings.proofs.Padded.{held-settings}
@@ -73,13 +74,6 @@ nothing-wrong none none none (some p) h = let z : _≡_ {A = ℕ} 0 1 = cc in ab
 nothing-wrong none none (some p) o4 h = let z : _≡_ {A = ℕ} 0 1 = cc in absurd (omega arith)
 nothing-wrong none (some p) o3 o4 h = let z : _≡_ {A = ℕ} 0 1 = cc in absurd (omega arith)
 nothing-wrong (some p) o2 o3 o4 h = let z : _≡_ {A = ℕ} 0 1 = cc in absurd (omega arith)
-
-not-given : (b : Bool) → given 0 b ≡ none → b ≡ false
-not-given true h = let z : _≡_ {A = ℕ} 0 1 = cc in absurd (omega arith)
-not-given false h = refl
-
-pub both : (a b : Bool) → (a && b) ≡ true → (a ≡ true) × (b ≡ true)
-both a b h = and-eq-true-iff a b .0 h
 
 third-and-last : (a b c d e f : Bool) → (a && b && c && d && e && f) ≡ true → (c ≡ true) × (f ≡ true)
 third-and-last a b c d e f h =
@@ -150,7 +144,7 @@ module _ (capture : List ℕ) where
       let fits : (i : ℕ) → i < eventCount capture → eventFits limit (eventBytes capture) i ≡ true =
       λ i l. not-false _ (none-below (λ j. not (eventFits limit (eventBytes capture) j)) (eventCount capture) (clear .3) i l) in
       record {
-        sized = sized (not-false _ (not-given _ (clear .0))) (not-false _ (not-given _ (clear .1)));
+        sized = sized (not-false _ (not-given 0 _ (clear .0))) (not-false _ (not-given 0 _ (clear .1)));
         settings = λ i l. in-range (settingWords capture) (length (settingWords capture)) ranges i (omega (arith, words-count));
         events = λ i l. both (ltb (eventAt (eventBytes capture) i .pins) limit) _ (fits i l) .1;
         pins = λ i l. ltb-true _ _ (both (ltb (eventAt (eventBytes capture) i .pins) limit) _ (fits i l) .0);

@@ -10,8 +10,8 @@ use native.Mathlib.Omega.{arith}
 use borrow.Author.Tests.{leb-true, ltb-true, lt-ltb, le-leb, ne-eqb}
 use lib.Dec.{leb, ltb, eqb}
 use Rattle.reading.specs.Capture.{eventAt, lastCycle, eventFits, badEvent}
+use Rattle.reading.proofs.Laws.{both}
 use Rattle.words.proofs.Search.{nothing-below}
-use Rattle.capture.proofs.Accepted.{both}
 
 module _ (limit : ℕ) (bytes : List ℕ) (n : ℕ) where
   -- events 0 to i - 1 were looked at

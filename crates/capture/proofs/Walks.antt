@@ -13,11 +13,11 @@ use lib.Dec.{leb, ltb, eqb, leb·zero}
 use Rattle.reading.specs.Search.{count}
 use Rattle.reading.specs.Words.{wordAt}
 use Rattle.reading.specs.Capture.{headerWord, countIn, settingWords, eventAt, lastCycle, eventFits, badEvent}
+use Rattle.reading.proofs.Laws.{both}
 use Rattle.words.proofs.Search as search
 use Rattle.words.proofs.Search.{foundFrom, one-less, none-left}
 use Rattle.settings.specs.Meaning.{padded}
 use Rattle.capture.specs.Meaning.{fitsFrom}
-use Rattle.capture.proofs.Accepted.{both}
 
 -- ---- the words of the settings: with those from i on stored, all are there
 

@@ -6,8 +6,9 @@ use settings::SLEEPING;
 use settings::Settings;
 use settings::places::EDITION;
 use words::Found;
+use words::both;
 ghost use mathlib.Core.Path.{_≡_};
-ghost use mathlib.Core.Bool.{true, not, _&&_};
+ghost use mathlib.Core.Bool.{true, not};
 ghost use mathlib.Core.Option.{none};
 ghost use Prim.Native.Nat.{_+_, _*_, _≤_};
 ghost use lib.ListN.{length};
@@ -203,12 +204,6 @@ fn event_fits(limit: u32, next: u32, cycle: u32, pins: u32) -> bool
         return false;
     }
     next <= cycle
-}
-
-fn both(a: bool, b: bool) -> bool
-    ensures { λ r. ⌜ r ≡ (a && b) ⌝ }
-{
-    if a { b } else { false }
 }
 
 // Told of a capture without a branch for each event, as most are: cycles that rise are not too large if the last is not.

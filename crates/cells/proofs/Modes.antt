@@ -16,7 +16,7 @@ use Rattle.reading.specs.Commands.{MODE-REGISTER-SET, Command, commandOf, is}
 use Rattle.reading.specs.Part.{Part, step}
 use Rattle.reading.specs.Rules.{brokenBy}
 use Rattle.reading.proofs.Meaning.{none-broken}
-use Rattle.capture.proofs.Accepted.{both}
+use Rattle.reading.proofs.Laws.{both}
 
 pub few-pairs : (m : ℕ) → modeWord m ≡ true → h m ≤ 8
 few-pairs m v =

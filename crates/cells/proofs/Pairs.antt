@@ -17,15 +17,15 @@ use Rattle.reading.specs.Part.{Part, closes, lastWrite, lastBankWrite, isThat, 
 use Rattle.reading.specs.Rules.{afterWrite, rule10, rule11, brokenBy}
 use Rattle.reading.specs.Verdict.{clean, judgeFrom, judgeBy}
 use Rattle.reading.proofs.Meaning.{none-broken}
-use Rattle.reading.proofs.Six.{every-bank}
 use Rattle.reading.proofs.Cuts.{All, nil, cons}
 use Rattle.reading.proofs.Alone.{standing, standing-pairs, standsAfter, cutAlone}
-use Rattle.capture.proofs.Accepted.{both}
+use Rattle.reading.proofs.Laws.{both, every-bank}
 use Rattle.bridge.proofs.Bursts.{Given, find-all}
 use Rattle.bridge.proofs.Next.{Sound}
 use Rattle.bridge.proofs.Turn.{turned-event, start-sound}
-use Rattle.beats.specs.Kept.{gives, keptOf}
-use Rattle.beats.proofs.Commands.{gives-is}
+use Rattle.pins.specs.Pins.{gives}
+use Rattle.pins.proofs.Commands.{gives-is}
+use Rattle.beats.specs.Kept.{keptOf}
 use Rattle.beats.proofs.Events.{Rises}
 use Rattle.beats.proofs.Cut.{cutByAll}
 use Rattle.beats.proofs.Ahead.{Told, leftOf, kept-in-the-end}

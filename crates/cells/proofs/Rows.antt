@@ -10,15 +10,14 @@ use lib.ListN.{getD, set}
 use Rattle.reading.specs.Settings.{Settings}
 use Rattle.reading.specs.Capture.{Event}
 use Rattle.reading.specs.Part.{Part, step}
-use Rattle.pins.specs.Pins.{codeOf, bankOf, addressOf, modeAfter}
-use Rattle.beats.specs.Kept.{gives}
-use Rattle.beats.specs.Rows.{firstCell, firstCells, cellsOpened}
+use Rattle.pins.specs.Pins.{codeOf, bankOf, addressOf, gives, modeAfter}
+use Rattle.beats.specs.Rows.{firstInRow, firstCells, cellsOpened}
 use Rattle.beats.proofs.Commands.{row-is}
 
 abbrev pub firstsOf : Settings → Part → List ℕ
 firstsOf s p = firstCells s (p .banks 0 .row) (p .banks 1 .row) (p .banks 2 .row) (p .banks 3 .row)
 
-pub first-at : (s : Settings) (p : Part) (b : ℕ) → b < 4 → getD (firstsOf s p) b 0 ≡ firstCell s b (p .banks b .row)
+pub first-at : (s : Settings) (p : Part) (b : ℕ) → b < 4 → getD (firstsOf s p) b 0 ≡ firstInRow s b (p .banks b .row)
 first-at s p zero l = refl
 first-at s p (suc zero) l = refl
 first-at s p (suc (suc zero)) l = refl
@@ -63,14 +62,14 @@ module _ (s : Settings) (p : Part) (e : Event) where
       other : opens ≡ true → (b : ℕ) → bankOf (e .pins) ≡ b → (k : ℕ) → eqb k b ≡ false → next .banks k .row ≡ p .banks k .row
       other f b g k h = row-by true false k f (ap (eqb k) g ∙ h)
 
-      opened : opens ≡ true → (b : ℕ) → bankOf (e .pins) ≡ b → b < 4 → set (firstsOf s p) b (firstCell s b (addressOf (e .pins))) ≡ firstsOf s next
+      opened : opens ≡ true → (b : ℕ) → bankOf (e .pins) ≡ b → b < 4 → set (firstsOf s p) b (firstInRow s b (addressOf (e .pins))) ≡ firstsOf s next
       opened f zero g l = sym (λ i. firstCells s (own f 0 g 0 refl i) (other f 0 g 1 refl i) (other f 0 g 2 refl i) (other f 0 g 3 refl i))
       opened f (suc zero) g l = sym (λ i. firstCells s (other f 1 g 0 refl i) (own f 1 g 1 refl i) (other f 1 g 2 refl i) (other f 1 g 3 refl i))
       opened f (suc (suc zero)) g l = sym (λ i. firstCells s (other f 2 g 0 refl i) (other f 2 g 1 refl i) (own f 2 g 2 refl i) (other f 2 g 3 refl i))
       opened f (suc (suc (suc zero))) g l = sym (λ i. firstCells s (other f 3 g 0 refl i) (other f 3 g 1 refl i) (other f 3 g 2 refl i) (own f 3 g 3 refl i))
       opened f (suc (suc (suc (suc b)))) g l = absurd (omega arith)
 
-      go : (v : Bool) → opens ≡ v → cond v (set (firstsOf s p) (bankOf (e .pins)) (firstCell s (bankOf (e .pins)) (addressOf (e .pins)))) (firstsOf s p) ≡ firstsOf s next
+      go : (v : Bool) → opens ≡ v → cond v (set (firstsOf s p) (bankOf (e .pins)) (firstInRow s (bankOf (e .pins)) (addressOf (e .pins)))) (firstsOf s p) ≡ firstsOf s next
       go true f = opened f (bankOf (e .pins)) refl (omega arith)
       go false f = sym (λ i. firstCells s (stays f 0 i) (stays f 1 i) (stays f 2 i) (stays f 3 i))
 

@@ -9,8 +9,8 @@ use lib.ListN.{getD}
 use Rattle.reading.specs.Settings.{Settings}
 use Rattle.reading.specs.Capture.{Event, eventAt}
 use Rattle.reading.specs.Bursts.{columnOf}
-use Rattle.pins.specs.Pins.{bankOf, addressOf}
-use Rattle.beats.specs.Kept.{gives, eventsFrom, keptOf}
+use Rattle.pins.specs.Pins.{bankOf, addressOf, gives}
+use Rattle.beats.specs.Kept.{eventsFrom, keptOf}
 use Rattle.cells.specs.declared.Given.{Given}
 use Rattle.cells.specs.declared.Given.the-variants.{Burst, Other}
 use Rattle.cells.specs.Meaning.{givenAs, givenBy}

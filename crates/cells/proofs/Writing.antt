@@ -12,9 +12,9 @@ use Rattle.reading.specs.Capture.{Event, eventAt}
 use Rattle.reading.specs.Bursts.{columnOf}
 use Rattle.reading.specs.Part.{Part, start, step}
 use Rattle.words.proofs.Runs.{sets-append}
-use Rattle.pins.specs.Pins.{bankOf, addressOf, modeAfter}
-use Rattle.beats.specs.Kept.{gives, eventsFrom, keptOf}
-use Rattle.beats.specs.Rows.{InRow, firstCell, firstCells, cellsOpened, beatCells}
+use Rattle.pins.specs.Pins.{bankOf, addressOf, gives, modeAfter}
+use Rattle.beats.specs.Kept.{eventsFrom, keptOf}
+use Rattle.beats.specs.Rows.{InRow, firstInRow, firstCells, cellsOpened, beatCells}
 use Rattle.beats.proofs.Columns.{column-lt, first-lt}
 use Rattle.beats.proofs.Commands.{mode-is}
 use Rattle.beats.proofs.Events.{no-event}
@@ -115,7 +115,7 @@ module _ (settings bytes : List ℕ) (n : ℕ) (old : List ℕ) where
 
     -- an event that gives a burst, by the number of its row's first cell and by its column
     module _ {bank first column : ℕ} (eb : bank ≡ bankOf pins) (ef : first ≡ getD firsts bank 0) (ec : column ≡ columnOf s (addressOf pins)) where
-      first-is : first ≡ firstCell s bank (b .reached .banks bank .row)
+      first-is : first ≡ firstInRow s bank (b .reached .banks bank .row)
       first-is = ef ∙ ap (λ (xs : List ℕ). getD xs bank 0) (b .rowed) ∙ first-at s (b .reached) bank (omega (arith, eb))
 
       pub in-row : Listable settings bytes n → InRow first column pairs

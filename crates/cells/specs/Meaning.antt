@@ -14,8 +14,8 @@ use Rattle.reading.specs.Bursts.{columnOf}
 use Rattle.reading.specs.Verdict.{verdictOf}
 use Rattle.reading.specs.Cells.{burstsOf, cellsOf}
 use Rattle.reading.specs.Answers.{Answer, refused, answered, unless, Outcome, leaves, fitting, notClean}
-use Rattle.pins.specs.Pins.{bankOf, addressOf}
-use Rattle.beats.specs.Kept.{gives, eventsFrom, keptOf}
+use Rattle.pins.specs.Pins.{bankOf, addressOf, gives}
+use Rattle.beats.specs.Kept.{eventsFrom, keptOf}
 use Rattle.beats.specs.Rows.{Sized}
 use Rattle.judge.specs.Meaning.{Fit, eventsIn}
 use Rattle.cells.specs.declared.Given.{Given}

@@ -104,7 +104,7 @@ fn step(s: &Settings, bytes: &[u8], n: u32, i: u32, firsts: &[u32; 4], mode: u32
     ensures { λ r. ⌜ r ≡ givenAs (givenBy (settingsOf (now (s .entry))) (now (bytes .entry)) n i (now (firsts .entry)) mode) ⌝ }
 {
     let w = capture::pins_at(bytes, i as usize);
-    if !beats::gives_burst(w) {
+    if !pins::gives_burst(w) {
         return Given::Other;
     }
     let bank = pins::bank(w);
@@ -125,7 +125,7 @@ fn newer_step(s: &Settings, bytes: &[u8], n: u32, i: u32, firsts: &[u32; 4], mod
     ensures { λ r. ⌜ r ≡ givenAs (givenBy (settingsOf (now (s .entry))) (now (bytes .entry)) n i (now (firsts .entry)) mode) ⌝ }
 {
     let w = capture::pins_at(bytes, i as usize);
-    if !beats::gives_burst(w) {
+    if !pins::gives_burst(w) {
         return Given::Other;
     }
     let bank = pins::bank(w);

@@ -1,3 +1,2 @@
 -- Laws that the proofs of several functions share.
-pub mod Shifts
 pub mod Waits

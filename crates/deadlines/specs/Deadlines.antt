@@ -88,8 +88,8 @@ abbrev pub paceOf : ℕ → List ℕ
 paceOf mode = h mode ∷ CL mode ∷ []
 
 -- the rule where it is not kept, else what the later rules say
-abbrev pub orElse : Bool → ℕ → ℕ → ℕ
-orElse kept rule rest = cond kept rest rule
+abbrev pub ruleUnless : Bool → ℕ → ℕ → ℕ
+ruleUnless kept rule rest = cond kept rest rule
 
 -- ---- the refresh clock
 
@@ -144,7 +144,7 @@ refreshWaits d = asks 4 (at d BUSY) ∷ asksEach 5 (λ i. at d (REST + i)) (asks
 -- the rule of the first that is not over, else what the later rules say
 unfoldable pub unmet : List Wait → ℕ → ℕ → ℕ
 unmet [] t rest = rest
-unmet (w ∷ ws) t rest = orElse (leb (w .till) t) (w .rule) (unmet ws t rest)
+unmet (w ∷ ws) t rest = ruleUnless (leb (w .till) t) (w .rule) (unmet ws t rest)
 
 -- when all are over: the latest of them
 unfoldable pub soonest : List Wait → ℕ
@@ -155,27 +155,27 @@ soonest (w ∷ v ∷ ws) = later (w .till) (soonest (v ∷ ws))
 -- ---- which rule is broken
 
 -- rule 14, of NOP and DESELECT, which wait for nothing
-abbrev pub timely : List ℕ → ℕ → Bool
-timely d t = ltb t (at d OVERDUE) || ltb t (at d ASLEEP)
+abbrev pub refreshKept : List ℕ → ℕ → Bool
+refreshKept d t = ltb t (at d OVERDUE) || ltb t (at d ASLEEP)
 
 abbrev pub quietBreaks : List ℕ → ℕ → ℕ
-quietBreaks d t = orElse (timely d t) 14 0
+quietBreaks d t = ruleUnless (refreshKept d t) 14 0
 
 -- rules 14 and 15, of every other command: not asleep, nor before leaving is over
 abbrev pub lastBreaks : List ℕ → ℕ → ℕ
-lastBreaks d t = orElse (timely d t) 14 (orElse (ltb t (at d OVERDUE) && leb (at d WAKE) t) 15 0)
+lastBreaks d t = ruleUnless (refreshKept d t) 14 (ruleUnless (ltb t (at d OVERDUE) && leb (at d WAKE) t) 15 0)
 
 unfoldable pub activeBreaks : Settings → List ℕ → ℕ → ℕ → ℕ → ℕ
 activeBreaks s d t b a =
-    orElse (ltb a (2 ^ (s .rowBits % 32))) 1
-    (orElse (eqb (at d (OPENED + b)) 0) 3
+    ruleUnless (ltb a (2 ^ (s .rowBits % 32))) 1
+    (ruleUnless (eqb (at d (OPENED + b)) 0) 3
     (unmet (activeWaits d b) t (lastBreaks d t)))
 
 unfoldable pub readBreaks : List ℕ → ℕ → ℕ → ℕ
-readBreaks d t b = orElse (not (eqb (at d (OPENED + b)) 0)) 3 (unmet (readWaits d b) t (lastBreaks d t))
+readBreaks d t b = ruleUnless (not (eqb (at d (OPENED + b)) 0)) 3 (unmet (readWaits d b) t (lastBreaks d t))
 
 unfoldable pub writeBreaks : List ℕ → ℕ → ℕ → ℕ
-writeBreaks d t b = orElse (not (eqb (at d (OPENED + b)) 0)) 3 (unmet (writeWaits d b) t (lastBreaks d t))
+writeBreaks d t b = ruleUnless (not (eqb (at d (OPENED + b)) 0)) 3 (unmet (writeWaits d b) t (lastBreaks d t))
 
 -- the last write's row was closed since, which interrupted the write or waited for it
 abbrev pub gone : List ℕ → Bool
@@ -189,16 +189,16 @@ taken d t = leb (at d LAST) (t + 5) || gone d
 
 unfoldable pub terminateBreaks : List ℕ → ℕ → ℕ
 terminateBreaks d t =
-    orElse (leb (at d BUSY) t) 4
-    (orElse (leb (at d READS) t) 13
-    (orElse (taken d t) 13
+    ruleUnless (leb (at d BUSY) t) 4
+    (ruleUnless (leb (at d READS) t) 13
+    (ruleUnless (taken d t) 13
     (lastBreaks d t)))
 
 unfoldable pub closeBreaks : List ℕ → ℕ → ℕ → ℕ
 closeBreaks d t b =
-    orElse (leb (at d BUSY) t) 4
-    (orElse (leb (at d (CLOSE + b)) t || eqb (at d (OPENED + b)) 0) 9
-    (orElse (leb (at d (WRITTEN + b)) t || eqb (at d (OPENED + b)) 0) 10
+    ruleUnless (leb (at d BUSY) t) 4
+    (ruleUnless (leb (at d (CLOSE + b)) t || eqb (at d (OPENED + b)) 0) 9
+    (ruleUnless (leb (at d (WRITTEN + b)) t || eqb (at d (OPENED + b)) 0) 10
     (lastBreaks d t)))
 
 -- rules 9 and 10 of the banks that are open
@@ -209,22 +209,22 @@ abbrev pub allWritten : List ℕ → ℕ → Bool
 allWritten d t = everyBank (λ i. leb (at d (WRITTEN + i)) t || eqb (at d (OPENED + i)) 0)
 
 unfoldable pub closeAllBreaks : List ℕ → ℕ → ℕ
-closeAllBreaks d t = orElse (leb (at d BUSY) t) 4 (orElse (allHeld d t) 9 (orElse (allWritten d t) 10 (lastBreaks d t)))
+closeAllBreaks d t = ruleUnless (leb (at d BUSY) t) 4 (ruleUnless (allHeld d t) 9 (ruleUnless (allWritten d t) 10 (lastBreaks d t)))
 
 abbrev pub allIdle : List ℕ → Bool
 allIdle d = everyBank (λ i. eqb (at d (OPENED + i)) 0)
 
 unfoldable pub refreshBreaks : List ℕ → ℕ → ℕ
-refreshBreaks d t = orElse (allIdle d) 3 (unmet (refreshWaits d) t (lastBreaks d t))
+refreshBreaks d t = ruleUnless (allIdle d) 3 (unmet (refreshWaits d) t (lastBreaks d t))
 
 -- NOP and DESELECT with CKE low: awake they enter power-down, asleep they stay
 unfoldable pub enterBreaks : List ℕ → ℕ → ℕ
 enterBreaks d t =
-    orElse (leb (at d BUSY) t) 4
-    (orElse (ltb t (at d OVERDUE)) 14
-    (orElse (leb (at d BUS) t) 15
-    (orElse (taken d t) 15
-    (orElse (leb (at d WAKE) t) 15 0))))
+    ruleUnless (leb (at d BUSY) t) 4
+    (ruleUnless (ltb t (at d OVERDUE)) 14
+    (ruleUnless (leb (at d BUS) t) 15
+    (ruleUnless (taken d t) 15
+    (ruleUnless (leb (at d WAKE) t) 15 0))))
 
 unfoldable pub lowBreaks : List ℕ → ℕ → ℕ
 lowBreaks d t = cond (ltb t (at d ASLEEP)) 0 (cond (eqb (at d OVERDUE) 0) 14 (enterBreaks d t))
@@ -233,10 +233,10 @@ lowBreaks d t = cond (ltb t (at d ASLEEP)) 0 (cond (eqb (at d OVERDUE) 0) 14 (en
 unfoldable pub selfBreaks : List ℕ → ℕ → ℕ
 selfBreaks d t =
     let rule = refreshBreaks d t in
-    cond (eqb rule 0) (orElse (taken d t) 15 0) rule
+    cond (eqb rule 0) (ruleUnless (taken d t) 15 0) rule
 
 unfoldable pub modeBreaks : List ℕ → ℕ → ℕ → ℕ → ℕ
-modeBreaks d t b a = orElse (cond (eqb b 0) (modeWord a) (eqb b 2)) 2 (refreshBreaks d t)
+modeBreaks d t b a = ruleUnless (cond (eqb b 0) (modeWord a) (eqb b 2)) 2 (refreshBreaks d t)
 
 -- ---- what a command makes of the deadlines
 

@@ -1,4 +1,5 @@
 // The deadlines that are kept of a part, in an array that is lent: where each stands, and the sums they are made of.
+pub mod banks;
 pub mod clock;
 pub mod places;
 pub mod sums;

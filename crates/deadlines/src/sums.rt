@@ -1,11 +1,11 @@
 // Sums of cycles and times, wide enough to hold them; choices without a branch.
 use crate::Pace;
+use settings::mode;
 ghost use mathlib.Core.Path.{_≡_};
 ghost use mathlib.Core.Bool.{cond};
 ghost use Prim.Native.Nat.{_+_, _^_, _%_};
 ghost use lib.Dec.{leb};
 ghost use Rattle.reading.specs.Search.{lesser, later};
-ghost use Rattle.reading.specs.Mode.{h};
 ghost use Rattle.deadlines.specs.Deadlines.{paceOf};
 
 pub fn past(deadline: u64, t: u32) -> bool
@@ -57,17 +57,11 @@ pub fn pick(c: bool, a: u64, b: u64) -> u64
     if c { a } else { b }
 }
 
-fn half(mode: u32) -> u32
-    ensures { λ r. ⌜ r ≡ h mode ⌝ }
-{
-    (1 << (mode % 8)) / 2
-}
-
 // h and CL of a mode word.
 pub fn pace(mode: u32) -> Pace
     ensures { λ r. ⌜ r ≡ paceOf mode ⌝ }
 {
-    [half(mode), mode / 16 % 8]
+    [mode::half(mode), mode::latency(mode)]
 }
 
 // The number of rows that a part of some row bits has.

@@ -19,6 +19,7 @@ use Rattle.reading.specs.Verdict as is
 use Rattle.reading.specs.Answers.{Answer, Outcome, answered, unless, settingsIn, verdictIn, notClean, cellsIn, fitting, leaves, cellsOutcome}
 use Rattle.reading.proofs.Meaning.{verdict-clean}
 use Rattle.reading.proofs.Tables.{tableRow, row-published}
+use Rattle.reading.proofs.Beats.{cells-append}
 use Rattle.capture.proofs.Accepted.{accepted-rest}
 use Rattle.cells.specs.declared.Listed.{Listed}
 use Rattle.cells.specs.declared.Listed.the-variants as listed
@@ -41,18 +42,12 @@ module _ (s : Settings) where
   cells-length [] = refl
   cells-length (x ∷ xs) = length-append (burstCells s x) (cellsOf s xs) ∙ (λ i. burst-length x i + cells-length xs i)
 
-  cells-append : (xs ys : List Burst) → cellsOf s (xs ++ ys) ≡ cellsOf s xs ++ cellsOf s ys
-  unfolding cellsOf
-  cells-append [] ys = refl
-  cells-append (x ∷ xs) ys =
-      ap (λ (cs : List ℕ). burstCells s x ++ cs) (cells-append xs ys) ∙ sym (append-assoc (burstCells s x) (cellsOf s xs) (cellsOf s ys))
-
   beat-there : (xs : List Burst) (x : Burst) (ys : List Burst) (tail : List ℕ) (j : ℕ) → j < 2 * x .n →
       getD (cellsOf s (xs ++ x ∷ ys) ++ tail) (beatsOf xs + j) 0 ≡ beatCell s x j
   unfolding cellsOf burstCells
   beat-there xs x ys tail j l =
       let split : cellsOf s (xs ++ x ∷ ys) ++ tail ≡ cellsOf s xs ++ (burstCells s x ++ (cellsOf s ys ++ tail)) =
-      ap (λ (cs : List ℕ). cs ++ tail) (cells-append xs (x ∷ ys)) ∙ append-assoc (cellsOf s xs) (burstCells s x ++ cellsOf s ys) tail
+      ap (λ (cs : List ℕ). cs ++ tail) (cells-append s xs (x ∷ ys)) ∙ append-assoc (cellsOf s xs) (burstCells s x ++ cellsOf s ys) tail
       ∙ ap (λ (cs : List ℕ). cellsOf s xs ++ cs) (append-assoc (burstCells s x) (cellsOf s ys) tail) in
       (λ i. getD (split i) (sym (cells-length xs) i + j) 0)
       ∙ getD-append-add (cellsOf s xs) (burstCells s x ++ (cellsOf s ys ++ tail)) j 0

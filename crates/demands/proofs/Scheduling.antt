@@ -16,6 +16,7 @@ use Rattle.reading.specs.Commands.{commandOf}
 use Rattle.reading.specs.Schedule.{Schedule, planned, late, policyFits, badRequest, scheduleOf, captureOf}
 use Rattle.reading.specs.Memory.{Run, replay, plain}
 use Rattle.reading.specs.Answers.{Answer, refused, answered, unless, leaves, fitting, whenPlanned, settingsIn, judgeAnswer, scheduleOutcome}
+use Rattle.reading.proofs.Laws.{not-given}
 use Rattle.judge.specs.declared.Verdict.{Verdict}
 use Rattle.judge.specs.declared.Verdict.the-variants.{Clean}
 use Rattle.schedule.specs.declared.Scheduled.the-variants as said
@@ -34,10 +35,6 @@ pub record Written (ws qs : List ℕ) (policy : ℕ) (out : List ℕ) (n : ℕ) 
   pub schedule : scheduleOf (settingsOf ws) policy qs ≡ planned events
   pub bytes : take n (scheduleOutcome ws qs policy out .buffer) ≡ captureOf ws events
   pub behind : drop n (scheduleOutcome ws qs policy out .buffer) ≡ drop n out
-
-not-given : (b : Bool) → given 0 b ≡ none → b ≡ false
-not-given true e = let z : _≡_ {A = ℕ} 0 1 = cc in absurd (omega arith)
-not-given false e = refl
 
 unrefused : {B : Type 0} {number place n : ℕ} → _≡_ {A = Answer ℕ} (refused number place) (answered n) → B
 unrefused e = let z : _≡_ {A = ℕ} 0 1 = cc in absurd (omega arith)
@@ -71,7 +68,7 @@ module _ (ws qs : List ℕ) (policy : ℕ) (out : List ℕ) (n : ℕ) (e : sched
   go none none none (some i) x p q r s h = unrefused (ap (λ o. o .answer) h ∙ e)
   go none none none none (late i) p q r s h = unrefused (ap (λ o. o .answer) h ∙ e)
   go none none none none (planned es) p q r s h =
-      fits es (eqb-true (length ws) 14 (not-false (eqb (length ws) 14) (not-given _ p))) q r s (ltb (length out) (length (captureOf ws es))) h
+      fits es (eqb-true (length ws) 14 (not-false (eqb (length ws) 14) (not-given 0 _ p))) q r s (ltb (length out) (length (captureOf ws es))) h
 
   written : Written ws qs policy out n
   unfolding scheduleOutcome

@@ -11,7 +11,7 @@ use Rattle.reading.specs.Schedule.{closeAllPins, refreshPins}
 use Rattle.deadlines.specs.Deadlines.{PAIRS, at, paceOf, activeAfter, readAfter, writeAfter, closeAfter, closeAllAfter, refreshAfter}
 use Rattle.plan.specs.Behind.{ROW, READ-END, WRITE-END, FREE, EVENTS}
 use Rattle.plan.specs.Soonest.{activeSoonest, burstSoonest, closeSoonest, closeAllSoonest, refreshSoonest}
-use Rattle.plan.specs.Draft.{Draft, cycleFor, noted, placedAt, endOf, burstAfter, burstEnds, activating, closing, bursting, closingAll, refreshAt, refreshingIdle}
+use Rattle.plan.specs.Draft.{Draft, cycleFor, noted, placedAt, endOf, burstAfter, burstEnds, activating, closingBank, bursting, closingAll, refreshAt, refreshingIdle}
 use Rattle.drafts.specs.Room.{draft}
 
 module _ (x : Draft) {t soonest : ℕ} (at-cycle : t ≡ cycleFor (at (x .standing) FREE) soonest) {pins : ℕ} {k₁ k w : List ℕ}
@@ -38,8 +38,8 @@ module _ (x : Draft) {t soonest : ℕ} (at-cycle : t ≡ cycleFor (at (x .standi
           (λ u. activeAfter s (x .deadlines) u b) (λ u. set (x .standing) (ROW + b) row) dd kk
 
       pub closed : {m : List ℕ} → m ≡ paceOf (s .mode) → soonest ≡ closeSoonest (x .deadlines) (x .standing) b → pins ≡ pinsOf PRECHARGE b 0 →
-          {d : List ℕ} → d ≡ closeAfter s (x .deadlines) m t b → k₁ ≡ x .standing → draft d k w ≡ closing s b x
-      unfolding closing
+          {d : List ℕ} → d ≡ closeAfter s (x .deadlines) m t b → k₁ ≡ x .standing → draft d k w ≡ closingBank s b x
+      unfolding closingBank
       closed mm ss pp dd kk =
           noted-as (closeSoonest (x .deadlines) (x .standing) b) (pinsOf PRECHARGE b 0) ss pp
           (λ u. closeAfter s (x .deadlines) (paceOf (s .mode)) u b) (λ u. x .standing) (dd ∙ (λ i. closeAfter s (x .deadlines) (mm i) t b)) kk

@@ -23,7 +23,7 @@ ghost use lib.Seq.{sets};
 ghost use Rattle.reading.specs.Settings.{settingsOf};
 ghost use Rattle.deadlines.specs.Deadlines.{paceOf};
 ghost use Rattle.plan.specs.Behind as is;
-ghost use Rattle.plan.specs.Draft.{cycleFor, endOf, burstAfter, burstEnds, activating, closing, bursting, closingAll, refreshingIdle};
+ghost use Rattle.plan.specs.Draft.{cycleFor, endOf, burstAfter, burstEnds, activating, closingBank, bursting, closingAll, refreshingIdle};
 ghost use Rattle.drafts.specs.Room.{Room, draft};
 
 // The cycle of a command: the first that is free and not before its deadlines.
@@ -78,7 +78,7 @@ pub fn close(
     requires { ⌜ b < 4 ⌝ }
     requires { ⌜ Room (now k) (now words) 1 ⌝ }
     requires { ⌜ now pace ≡ paceOf (settingsOf (now s) .mode) ⌝ }
-    ensures { λ r. ⌜ draft (now (d .exit)) (now (k .exit)) (now (words .exit)) ≡ closing (settingsOf (now (s .entry))) b (draft (now (d .entry)) (now (k .entry)) (now (words .entry))) ⌝ }
+    ensures { λ r. ⌜ draft (now (d .exit)) (now (k .exit)) (now (words .exit)) ≡ closingBank (settingsOf (now (s .entry))) b (draft (now (d .entry)) (now (k .entry)) (now (words .entry))) ⌝ }
 {
     let t = cycle_for(k[FREE], soonest::close(&*d, &*k, b));
     effects::close_after(s, d, pace, t, b);

@@ -17,6 +17,7 @@ use Rattle.reading.specs.Part.{Part, start, step, run}
 use Rattle.reading.specs.Rules.{keepsRule, rules, brokenBy}
 use Rattle.reading.specs.Verdict as is
 use Rattle.reading.specs.Verdict.{broken, brokenOr, judgeFrom, verdictOf, judgedOf, judgeBy, verdictBy}
+use Rattle.reading.proofs.Laws.{both}
 use Rattle.capture.proofs.Accepted.{cycle-fits, cycle-rises}
 use Rattle.deadlines.specs.Deadlines.{FAR, paceOf}
 use Rattle.part.specs.declared.Answer.{Answer}
@@ -35,18 +36,10 @@ use Rattle.judge.proofs.Events.{next-of, none-of, run-next}
 -- no rule has the number 0
 found-positive : (f : ℕ → Bool) (xs : List ℕ) → every (λ r. not (eqb r 0)) xs ≡ true → (r : ℕ) → find f xs ≡ some r → r ≡ 0 → ⊥
 found-positive f [] p r e z = let k : _≡_ {A = ℕ} 0 1 = cc in omega arith
-found-positive f (x ∷ xs) p r e z = go (f x) e (found-positive f xs (both-right (not (eqb x 0)) _ p) r)
+found-positive f (x ∷ xs) p r e z = go (f x) e (found-positive f xs (both (not (eqb x 0)) _ p .1) r)
   where
-    both-right : (a b : Bool) → (a && b) ≡ true → b ≡ true
-    both-right true b q = q
-    both-right false b q = let k : _≡_ {A = ℕ} 0 1 = cc in absurd (omega arith)
-
-    both-left : (a b : Bool) → (a && b) ≡ true → a ≡ true
-    both-left true b q = refl
-    both-left false b q = q
-
     go : (v : Bool) → cond v (some x) (find f xs) ≡ some r → (find f xs ≡ some r → r ≡ 0 → ⊥) → ⊥
-    go true q ih = let k : x ≡ r = cc in eqb-false x 0 (not-true (eqb x 0) (both-left (not (eqb x 0)) _ p)) (k ∙ z)
+    go true q ih = let k : x ≡ r = cc in eqb-false x 0 (not-true (eqb x 0) (both (not (eqb x 0)) _ p .0)) (k ∙ z)
     go false q ih = ih q z
 
 pub positive : (s : Settings) (p : Part) (e : Event) (r : ℕ) → brokenBy s p e ≡ some r → r ≡ 0 → ⊥

@@ -12,11 +12,11 @@ use Rattle.reading.specs.Settings.{Settings}
 use Rattle.reading.specs.Bursts.{Burst, beatColumn, cellNumber, beatCell}
 use Rattle.reading.specs.Memory.{Contents, Datum, store, load, Run, storeBeats, play, replayBursts, requested, plain}
 use Rattle.reading.proofs.Beats.{pairs-are-beats}
-use Rattle.memory.specs.Serving.{Sized, Alike, Serves, Each, nil, cons}
+use Rattle.memory.specs.Serving.{Sized, SameBeats, Serves, Each, nil, cons}
 
 -- ---- bursts that are alike do the same, whatever the length and the order
 
-module _ (s : Settings) (x y : Burst) (a : Alike x y) where
+module _ (s : Settings) (x y : Burst) (a : SameBeats x y) where
   -- a beat's cell is of bank, row, column and mode alone
   alike-cells : (j : ℕ) → beatCell s x j ≡ beatCell s y j
   unfolding beatCell

@@ -23,7 +23,7 @@ EachFits s qs = (i : ℕ) → i < length qs → requestFits s (getD qs i 0) ≡ 
 -- ---- bursts
 
 -- the same but for when it is given, how many pairs it keeps, and how its row is closed
-pub record Alike (x y : Burst) : Type 0 where
+pub record SameBeats (x y : Burst) : Type 0 where
   pub writes : x .writes ≡ y .writes
   pub bank : x .bank ≡ y .bank
   pub row : x .row ≡ y .row
@@ -32,7 +32,7 @@ pub record Alike (x y : Burst) : Type 0 where
 
 -- the burst that a request asks for, with all its pairs: by auto precharge, or because nothing cut it
 pub record Serves (s : Settings) (x : Burst) (q : ℕ) : Type 0 where
-  pub alike : Alike x (requested s q)
+  pub alike : SameBeats x (requested s q)
   pub whole : x .n ≡ h (x .mode)
 
 -- two lists, element by element

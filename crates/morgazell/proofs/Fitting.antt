@@ -24,6 +24,7 @@ use Rattle.reading.specs.Answers.{Answer, Report, refused, answered, unless, ac
 use Rattle.reading.specs.Blank.{blanked, blankOutcome}
 use Rattle.reading.proofs.Meaning.{BrokenAt, verdict-broken}
 use Rattle.reading.proofs.Cuts.{All, nil, cons, Whole, bursts-whole}
+use Rattle.reading.proofs.Laws.{not-given}
 use Rattle.capture.proofs.Accepted.{sized, count-range, words-count, accepted-sound, accepted-rest, refused-rest}
 use Rattle.beats.proofs.Columns.{half-le}
 use Rattle.judge.proofs.Events.{length-count}
@@ -62,11 +63,7 @@ below f n i e = omega (arith, counted f 0 n i e)
 -- ---- a capture: refused with a number from 1 to 4 and a small place, or short
 
 few : (capture : List ℕ) → given 0 (not (lengthFits capture)) ≡ none → given 0 (not (headerFits capture)) ≡ none → eventCount capture ≤ 8000
-few capture a b = sized capture (not-false _ (clear _ a)) (not-false _ (clear _ b)) .few
-  where
-    clear : (b : Bool) → given 0 b ≡ none → b ≡ false
-    clear true e = let z : _≡_ {A = ℕ} 0 1 = cc in absurd (omega arith)
-    clear false e = refl
+few capture a b = sized capture (not-false _ (not-given 0 _ a)) (not-false _ (not-given 0 _ b)) .few
 
 at-given : (k : ℕ) → Value k → (b : Bool) (place : ℕ) → given k b ≡ some place → Value place
 at-given k small true place e = let z : k ≡ place = cc in rw (sym z) small
@@ -269,19 +266,18 @@ schedule-fits ws qs policy buffer =
     go (given 0 (not (eqb (length ws) 14))) (badSetting ws) (given 0 (not (policyFits policy))) (badRequest (settingsOf ws) qs) (scheduleOf (settingsOf ws) policy qs)
     refl refl refl refl refl
   where
-    fourteen : (b : Bool) → eqb (length ws) 14 ≡ b → given 0 (not b) ≡ none → length ws ≡ 14
-    fourteen true e f = eqb-true (length ws) 14 e
-    fourteen false e f = let z : _≡_ {A = ℕ} 0 1 = cc in absurd (omega arith)
+    fourteen : given 0 (not (eqb (length ws) 14)) ≡ none → length ws ≡ 14
+    fourteen e = eqb-true (length ws) 14 (not-false _ (not-given 0 _ e))
 
     go : (a b d c : Option ℕ) (x : Schedule) → given 0 (not (eqb (length ws) 14)) ≡ a → badSetting ws ≡ b → given 0 (not (policyFits policy)) ≡ d →
         badRequest (settingsOf ws) qs ≡ c → scheduleOf (settingsOf ws) policy qs ≡ x →
         Filled buffer (unless 2 a (unless 3 b (unless 10 d (unless 5 c (whenPlanned x (λ es. fitting buffer (captureOf ws es)))))))
     go (some place) b d c x p q m r s = (omega arith, at-zero (not (eqb (length ws) 14)) place p)
-    go none (some place) d c x p q m r s = (omega arith, bad-setting ws place (omega (arith, fourteen (eqb (length ws) 14) refl p)) q)
+    go none (some place) d c x p q m r s = (omega arith, bad-setting ws place (omega (arith, fourteen p)) q)
     go none none (some place) c x p q m r s = (omega arith, at-zero (not (policyFits policy)) place m)
     go none none none (some place) x p q m r s = (omega arith, bad-request (settingsOf ws) qs place r)
     go none none none none (late i) p q m r s = (omega arith, late-fits (settingsOf ws) policy qs i r s)
     go none none none none (planned es) p q m r s =
-        let l : length ws ≡ 14 = fourteen (eqb (length ws) 14) refl p in
+        let l : length ws ≡ 14 = fourteen p in
         room buffer (captureOf ws es)
         (omega (arith, size ws es l, plan.schedule-fits ws qs l q r policy es s .few, few-requests (settingsOf ws) qs r))

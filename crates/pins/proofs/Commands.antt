@@ -1,15 +1,16 @@
 -- Which command a pin word carries, by the number of its command pins.
 use Prim.Native.Nat.{ℕ}
-use mathlib.Core.Bool.{Bool, true, false, not}
+use mathlib.Core.Bool.{Bool, true, false, not, _||_, or-false}
+use mathlib.Core.List.{[], _∷_}
 use mathlib.Core.Option.{none}
 use mathlib.Core.Path.{_≡_, refl, sym, ap, _∙_}
 use native.Mathlib.Omega.{arith}
 use borrow.Author.Tests.{not-false}
 use lib.Dec.{eqb}
 use Rattle.reading.specs.Search.{lowest}
-use Rattle.reading.specs.Commands.{Op, ACTIVE, READ, WRITE, BURST-TERMINATE, PRECHARGE, MODE-REGISTER-SET, code, opOf, commandOf, is}
+use Rattle.reading.specs.Commands.{Op, ACTIVE, READ, WRITE, BURST-TERMINATE, PRECHARGE, MODE-REGISTER-SET, code, opOf, commandOf, is, among}
 use Rattle.words.proofs.Search.{none-below}
-use Rattle.pins.specs.Pins.{codeOf}
+use Rattle.pins.specs.Pins.{codeOf, gives}
 use Rattle.pins.proofs.Pins.{turned, op-is}
 
 same : Bool → Bool → Bool
@@ -56,3 +57,6 @@ module _ (w : ℕ) where
   pub mode-set-is : is MODE-REGISTER-SET (commandOf w) ≡ eqb (codeOf w) 0
   unfolding agrees same
   mode-set-is = agreed MODE-REGISTER-SET 0 refl w
+
+  pub gives-is : among (READ ∷ WRITE ∷ []) (commandOf w) ≡ gives w
+  gives-is = λ i. read-is i || (or-false (is WRITE (commandOf w)) ∙ write-is) i

@@ -1,6 +1,6 @@
 -- Pin words by arithmetic; the reading takes them apart bit by bit.
 use Prim.Native.Nat.{ℕ, _/_, _%_}
-use mathlib.Core.Bool.{Bool, true, false, cond, _&&_}
+use mathlib.Core.Bool.{Bool, true, false, cond, _&&_, _||_}
 use lib.Dec.{eqb}
 
 -- the pins CS#, RAS#, CAS#, WE#, CS# the lowest
@@ -37,6 +37,10 @@ byCode q active read write precharge terminate refresh mode quiet =
 -- NOP and DESELECT: none of the seven
 abbrev pub quietCode : ℕ → Bool
 quietCode q = byCode q false false false false false false false true
+
+-- READ and WRITE give a burst
+abbrev pub gives : ℕ → Bool
+gives w = eqb (codeOf w) 10 || eqb (codeOf w) 2
 
 -- MODE REGISTER SET with 00 replaces the mode word
 unfoldable pub modeAfter : ℕ → ℕ → ℕ

@@ -1,7 +1,7 @@
 // Pin words: what the pins of an event ask for, and the pins that ask for a command.
 ghost use mathlib.Core.Path.{_≡_};
 ghost use Prim.Native.Nat.{_<_};
-ghost use Rattle.pins.specs.Pins.{codeOf, wideCodeOf, bankOf, addressOf, tenOf, lowOf};
+ghost use Rattle.pins.specs.Pins.{codeOf, wideCodeOf, bankOf, addressOf, tenOf, lowOf, gives};
 
 // The command pins as a number: CS#, RAS#, CAS#, WE#, CS# the lowest. The odd ones are DESELECT.
 pub const ACTIVE: u32 = 12;
@@ -79,4 +79,15 @@ pub fn low(w: u32) -> bool
     ensures { λ r. ⌜ r ≡ lowOf w ⌝ }
 {
     w / 1_048_576 % 2 == 1
+}
+
+// READ and WRITE give a burst.
+pub fn gives_burst(w: u32) -> bool
+    ensures { λ r. ⌜ r ≡ gives w ⌝ }
+{
+    let asked = code(w);
+    if asked == READ {
+        return true;
+    }
+    asked == WRITE
 }

@@ -16,7 +16,7 @@ use Rattle.reading.specs.Bursts.{reads}
 use Rattle.reading.specs.Part.{Part, autoPrecharge, cutBy, partAfter, lastRead, lastWrite}
 use Rattle.reading.specs.Schedule.{cutsNothing}
 use Rattle.reading.proofs.Cuts.{All}
-use Rattle.reading.proofs.Found.{later-first}
+use Rattle.reading.proofs.Laws.{later-first}
 use Rattle.deadlines.specs.Deadlines.{readWaits, writeWaits, soonest, paceOf, readAfter, writeAfter}
 use Rattle.bridge.specs.Summary.{Held, laid, summary}
 use Rattle.bridge.proofs.Tests.{ended-is, leb-later}

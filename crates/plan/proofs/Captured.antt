@@ -19,6 +19,7 @@ use Rattle.reading.specs.Verdict.{clean, verdictOf}
 use Rattle.reading.specs.Schedule.{closesRows, badRequest, freeFrom, planned, scheduleOf, eventWords, captureOf}
 use Rattle.reading.specs.Answers.{Answer, Report, answered, settingsIn, accepted, verdictIn, judgeAnswer}
 use Rattle.reading.proofs.Meaning.{eventOf}
+use Rattle.words.proofs.Search.{none-of}
 use Rattle.words.proofs.Words.{bytesOf-length, word-drop, word-of-bytes}
 use Rattle.words.proofs.Events.{words-length, cycle-word, pins-word}
 use Rattle.settings.proofs.Fitting.{rowAt, at-most, in-range, each-in-range}
@@ -38,11 +39,6 @@ counted f x k (suc n) (y ∷ xs) l e =
       sym (ap f (add-zero k)) ∙ e 0 (omega arith),
       counted f x (suc k) n xs (omega arith) (λ i j. ap f (suc-add k i ∙ sym (add-suc k i)) ∙ e (suc i) (omega arith)),
     )
-
-nowhere : (f : ℕ → Bool) (k n : ℕ) → ((i : ℕ) → i < n → f (k + i) ≡ false) → find f (count k n) ≡ none
-nowhere f k zero e = refl
-nowhere f k (suc n) e =
-    rw (sym (ap f (add-zero k)) ∙ e 0 (omega arith)) (nowhere f (suc k) n (λ i j. ap f (suc-add k i ∙ sym (add-suc k i)) ∙ e (suc i) (omega arith)))
 
 -- ---- events that rise
 
@@ -216,7 +212,7 @@ module _ (ws : List ℕ) (es : List Event) (fourteen : length ws ≡ 14) (good :
 
   right-events : badEvent (2 ^ 20) (eventBytes C) (eventCount C) ≡ none
   unfolding badEvent
-  right-events = rw counts (nowhere (λ i. not (eventFits (2 ^ 20) (eventBytes C) i)) 0 (length es) (λ i l. rw (zero-add i) (ap not (event-fits i l))))
+  right-events = rw counts (none-of (λ i. not (eventFits (2 ^ 20) (eventBytes C) i)) 0 (length es) (λ i l. rw (zero-add i) (ap not (event-fits i l))))
 
   pub captured : {A : Type 0} (rest : Answer A) → accepted C rest ≡ rest
   unfolding accepted

@@ -24,7 +24,7 @@ use Rattle.memory.proofs.Pins.{bank-small}
 use Rattle.plan.specs.Behind.{ROW, FREE, EVENTS, stood, partOf, deadlinesOf, standingOf}
 use Rattle.plan.specs.Margin.{marginOf}
 use Rattle.plan.specs.Soonest.{activeSoonest, burstSoonest, closeSoonest, closeAllSoonest, refreshSoonest}
-use Rattle.plan.specs.Draft.{Draft, cycleFor, noted, placedAt, burstAfter, burstEnds, activating, closing, bursting, opening, requesting}
+use Rattle.plan.specs.Draft.{Draft, cycleFor, noted, placedAt, burstAfter, burstEnds, activating, closingBank, bursting, opening, requesting}
 use Rattle.plan.specs.Draft.{closingAll, idling, refreshAt, refreshingIdle, refreshing, closedRefreshAt, timely, from, alone, behind, turned, kept}
 use Rattle.plan.proofs.Ranged.{Ranged}
 use Rattle.plan.proofs.Sending.{length-sent}
@@ -152,8 +152,8 @@ module _ {s : Settings} (g : Ranged s) {asked : List ℕ} {es : List Event} (r :
         let t = placed-is (λ d k. activeSoonest d bank) w in
         drafts-sent w v room t (λ i. activeAfter s (v .deadlines i) (t i) bank) (λ i. set (v .standing i) (ROW + bank) (cellRow s (firstCell q)))
 
-    drafts-close : Open s q es → Drafts s es x (send placing s es (closePins s q)) (closing s bank x)
-    unfolding closing
+    drafts-close : Open s q es → Drafts s es x (send placing s es (closePins s q)) (closingBank s bank x)
+    unfolding closingBank
     drafts-close o =
         let w = close-sent g r q fits o in
         let t = placed-is (λ d k. closeSoonest d k bank) w in
@@ -211,7 +211,7 @@ module _ {s : Settings} (g : Ranged s) (q : ℕ) (fits : requestFits s q ≡ tru
       go : (o : Bool) → partOf s es .banks own .opened ≡ o → {o′ : Bool} → o′ ≡ not o →
           (e : Bool) → eqb (partOf s es .banks own .row) (cellRow s (firstCell q)) ≡ e → {e′ : Bool} → e′ ≡ e →
           Drafts s es x (sendAll placing s es (cond (not o) (activePins s q ∷ []) (cond e [] (closePins s q ∷ activePins s q ∷ []))))
-          (cond o′ (activating s own (cellRow s (firstCell q)) x) (cond e′ x (activating s own (cellRow s (firstCell q)) (closing s own x))))
+          (cond o′ (activating s own (cellRow s (firstCell q)) x) (cond e′ x (activating s own (cellRow s (firstCell q)) (closingBank s own x))))
       go false k oo e m ee = rw oo (drafts-active g r v (omega arith) q fits (omega arith) k)
       go true k oo true m ee = rw (oo, ee) (drafts-none v)
       go true k oo false m ee =

@@ -16,7 +16,7 @@ use Rattle.reading.specs.Verdict.{clean, verdictOf}
 use Rattle.reading.specs.Rules.{everyBank, placing}
 use Rattle.reading.specs.Schedule.{firstCell, cellBank, cellRow, requestFits, activePins, burstPins, closePins, closeAllPins, refreshPins, rowCommands}
 use Rattle.reading.specs.Schedule.{freeFrom, lastFrom, placed, send, sendAll, sendRequest, sendRefresh, refreshInTime}
-use Rattle.reading.proofs.Six.{every-bank}
+use Rattle.reading.proofs.Laws.{every-bank}
 use Rattle.bridge.specs.Summary.{overdueBy}
 use Rattle.bridge.proofs.Clock as clock
 use Rattle.plan.specs.Behind.{partOf}

@@ -13,7 +13,8 @@ use Rattle.reading.specs.Search.{find, lesser, later}
 use Rattle.reading.specs.Mode.{h, CL}
 use Rattle.reading.specs.Settings.{Settings}
 use Rattle.reading.specs.Bursts.{Burst, wholeEnd}
-use Rattle.reading.proofs.Cuts.{All, nil, cons, lesser-le}
+use Rattle.reading.proofs.Laws.{lesser-first}
+use Rattle.reading.proofs.Cuts.{All, nil, cons}
 use Rattle.deadlines.specs.Deadlines.{OPENED, OTHER, REST, COLUMN, CLOSE, WRITTEN, LOCKED, BUSY, OVERDUE, BUS, READS, WRITES, END, LAST, WRITER, LATENCY, at}
 use Rattle.deadlines.specs.Deadlines.{Wait, otherBank, soonest, overdueFrom, paceOf, startOf}
 use Rattle.deadlines.specs.Deadlines.{activeAfter, autoAfter, readAfter, cutWrite, newWrite, plainWrite, autoWrite, writeAfter, cutRead, restAfter, closeAfter, restAll, closeAllAfter, refreshAfter}
@@ -85,7 +86,7 @@ near-cut : {s : Settings} {n : ℕ} {d : List ℕ} → Near s n d → (m : List 
 unfolding cutRead
 near-cut {s} {n} {d} near m t cut =
     let bus = near .by BUS (omega arith) in
-    near-set near BUS _ (either cut _ (at d BUS) (n + waitOf s) (omega (arith, bus, lesser-le (at d BUS) (t + at m LATENCY))) bus)
+    near-set near BUS _ (either cut _ (at d BUS) (n + waitOf s) (omega (arith, bus, lesser-first (at d BUS) (t + at m LATENCY))) bus)
 
 module _ (s : Settings) (g : Ranged s) {n : ℕ} {d : List ℕ} (near : Near s n d) (t : ℕ) (l : n ≤ t) where
   now : Near s (suc t) d
@@ -122,7 +123,7 @@ module _ (s : Settings) (g : Ranged s) {n : ℕ} {d : List ℕ} (near : Near s n
     unfolding newWrite cutWrite
     near-new =
         let o : ℕ = WRITTEN + at d WRITER % 4 in
-        let least = lesser-le (at d o) (t + 1 + 0 + s .tWR) in
+        let least = lesser-first (at d o) (t + 1 + 0 + s .tWR) in
         let d₁ = near-set now o (lesser (at d o) (t + 1 + 0 + s .tWR)) (omega (arith, least, now .by o (omega arith))) in
         let d₂ = near-set d₁ (WRITTEN + b) (t + 1 + h m + s .tWR) (omega arith) in
         let d₃ = near-set d₂ END (t + 1 + h m + s .tWTR) (omega arith) in

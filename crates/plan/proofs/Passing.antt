@@ -15,7 +15,7 @@ use Rattle.reading.specs.Bursts.{restsFrom}
 use Rattle.reading.specs.Part.{Part, bankWrite}
 use Rattle.reading.specs.Rules.{keepsRule, placing}
 use Rattle.reading.specs.Schedule.{passes}
-use Rattle.reading.proofs.Found.{later-first, later-second}
+use Rattle.reading.proofs.Laws.{later-first, later-second}
 use Rattle.deadlines.specs.Deadlines.{CLOSE, WRITTEN, Wait, readWaits, writeWaits, soonest}
 use Rattle.deadlines.proofs.Waits.{unasked}
 use Rattle.bridge.specs.Summary.{Held, laid, summary, from}

@@ -19,6 +19,7 @@ use Rattle.reading.specs.Rules.{placing}
 use Rattle.reading.specs.Schedule.{asksWrite, firstCell, cellBank, cellRow, cellColumn, requestFits, activePins, columnPins, burstPins, closePins, closeAllPins, refreshPins}
 use Rattle.reading.specs.Schedule.{cutsNothing, goes, freeFrom, placed, send}
 use Rattle.reading.proofs.Cuts.{All}
+use Rattle.reading.proofs.Laws.{either-way}
 use Rattle.deadlines.specs.Deadlines.{refreshWaits, paceOf, soonest, activeAfter, closeAfter, closeAllAfter, refreshAfter}
 use Rattle.bridge.proofs.Tests.{leb-later}
 use Rattle.bridge.proofs.Rules.{does}
@@ -51,10 +52,6 @@ Open s q es = partOf s es .banks (cellBank s (firstCell q)) .opened ≡ true
 pub record OnRow (s : Settings) (q : ℕ) (es : List Event) : Type 0 where
   pub opened : Open s q es
   pub row : partOf s es .banks (cellBank s (firstCell q)) .row ≡ cellRow s (firstCell q)
-
-none-cut : (w : Bool) → cond w false false ≡ false
-none-cut true = refl
-none-cut false = refl
 
 -- a PRECHARGE of all banks leaves none open, one of bank b not that one
 shut : (u : ℕ) (x : Bank) (named : Bool) → named ≡ true → (cond (x .opened && named) (idleFrom u x) x) .opened ≡ false
@@ -105,7 +102,7 @@ module _ {s : Settings} (g : Ranged s) {asked : List ℕ} {es : List Event} (r :
         record {
           going = λ t l.
               going-free refreshPins refresh-carried t (refreshSoonest d)
-              (refresh-passed s p t 0 0 false idle) (nothing-cut s p (g .old) free t l (r .sound) w (does AUTO-REFRESH 0 0 false) (λ x. none-cut (x .writes)));
+              (refresh-passed s p t 0 0 false idle) (nothing-cut s p (g .old) free t l (r .sound) w (does AUTO-REFRESH 0 0 false) (λ x. either-way (x .writes) false));
           soon = refresh-most (r .near);
           short = never-longer s g;
         }
@@ -230,7 +227,7 @@ module _ {s : Settings} (g : Ranged s) {asked : List ℕ} {es : List Event} (r :
             going = λ t l.
                 going-free (activePins s q) (active-carried s (g .sized) q fits) t (activeSoonest d bank)
                 (active-passed s p t bank row (eqb (bit 10 row) 1) lb (row-low s g q fits) idle)
-                (nothing-cut s p (g .old) free t l (r .sound) w (activeCommand s q) (λ x. none-cut (x .writes)));
+                (nothing-cut s p (g .old) free t l (r .sound) w (activeCommand s q) (λ x. either-way (x .writes) false));
             soon = active-most (r .near) bank lb;
             short = never-longer s g;
           }

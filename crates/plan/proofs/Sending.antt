@@ -17,7 +17,8 @@ use Rattle.reading.specs.Part.{Part, start, partAfter, step, run}
 use Rattle.reading.specs.Rules.{keepsRule, rule14, rule15, placing, brokenBy}
 use Rattle.reading.specs.Verdict.{clean, brokenOr, judgeFrom, verdictOf, judgeBy, verdictBy}
 use Rattle.reading.specs.Schedule.{cutsNothing, passes, goes, earliest, freeFrom, lastFrom, placed, send}
-use Rattle.reading.proofs.Found.{earliest-is, later-first, later-second}
+use Rattle.reading.proofs.Laws.{both, later-first, later-second}
+use Rattle.reading.proofs.Found.{earliest-is}
 use Rattle.memory.proofs.Part.{run-more}
 use Rattle.plan.specs.Behind.{partOf}
 use Rattle.plan.specs.Margin.{waitOf}
@@ -107,10 +108,6 @@ pub record Goes (s : Settings) (es : List Event) (pins soonest : ℕ) : Type 0 w
   pub going : (t : ℕ) → freeFrom 0 es ≤ t → goes placing s (partOf s es) pins t ≡ leb soonest t
   pub soon : soonest ≤ freeFrom 0 es + waitOf s
   pub short : waitOf s ≤ longest
-
-both : (a b : Bool) → (a && b) ≡ true → (a ≡ true) × (b ≡ true)
-both true b e = (refl, e)
-both false b e = let z : _≡_ {A = ℕ} 0 1 = cc in absurd (omega arith)
 
 module _ {s : Settings} {es : List Event} {pins soonest : ℕ} (w : Goes s es pins soonest) where
   pub goes-at : placed placing s es pins ≡ later (freeFrom 0 es) soonest

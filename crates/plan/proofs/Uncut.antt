@@ -17,8 +17,9 @@ use Rattle.reading.specs.Bursts.{Burst, reads, wholeEnd, withPairs}
 use Rattle.reading.specs.Part.{Part, cuts, interrupts, cutBy}
 use Rattle.reading.specs.Schedule.{cutsNothing}
 use Rattle.reading.proofs.Cuts.{All, nil, cons, auto-uncut}
+use Rattle.reading.proofs.Laws.{either-way, lesser-low, lesser-high}
 use Rattle.bridge.specs.Summary.{lastOf}
-use Rattle.bridge.proofs.Bursts.{uncut, lesser-low, lesser-high, Given, Running, first, Late, nothing, behind, Ended, find-all, find-holds}
+use Rattle.bridge.proofs.Bursts.{uncut, Given, Running, first, Late, nothing, behind, Ended, find-all, find-holds}
 use Rattle.bridge.proofs.Cut.{cut-until}
 use Rattle.bridge.proofs.Next.{Sound}
 use Rattle.bridge.proofs.Kept.{first-read}
@@ -206,15 +207,11 @@ module _ (s : Settings) (p : Part) (old : newer s ≡ false) (from t : ℕ) (l :
   pub close-uncut : (b a : ℕ) → cutsNothing s p t (does PRECHARGE b a false) ≡
       leb (cond (eqb (lastOf (p .bursts)) b) (cutEnd (find reads (p .bursts))) 0) t
   close-uncut b a =
-      close-cuts b a false (λ o. cond named (cutEnd o) 0) (none-named named) (λ x m. rw m (none-named named)) (λ x. most x named (x .auto))
+      close-cuts b a false (λ o. cond named (cutEnd o) 0) (either-way named 0) (λ x m. rw m (either-way named 0)) (λ x. most x named (x .auto))
       (λ x f u e m. rw (m, last-bank x u e m))
     where
       named : Bool
       named = eqb (lastOf (p .bursts)) b
-
-      none-named : (v : Bool) → _≡_ {A = ℕ} (cond v 0 0) 0
-      none-named true = refl
-      none-named false = refl
 
       most : (x : Burst) (v auto : Bool) → cond v (cond auto 0 (wholeEnd x)) 0 ≤ wholeEnd x
       most x true true = omega arith

@@ -56,8 +56,8 @@ module _ (s : Settings) where
       let t = placedAt x (activeSoonest (x .deadlines) b) in
       noted x t (pinsOf ACTIVE b row) (activeAfter s (x .deadlines) t b) (set (x .standing) (ROW + b) row)
 
-  unfoldable pub closing : ℕ → Draft → Draft
-  closing b x =
+  unfoldable pub closingBank : ℕ → Draft → Draft
+  closingBank b x =
       let t = placedAt x (closeSoonest (x .deadlines) (x .standing) b) in
       noted x t (pinsOf PRECHARGE b 0) (closeAfter s (x .deadlines) (paceOf (s .mode)) t b) (x .standing)
 
@@ -70,7 +70,7 @@ module _ (s : Settings) where
   unfoldable pub opening : ℕ → ℕ → Draft → Draft
   opening b row x =
       cond (eqb (at (x .deadlines) (OPENED + b)) 0) (activating b row x)
-      (cond (eqb (at (x .standing) (ROW + b)) row) x (activating b row (closing b x)))
+      (cond (eqb (at (x .standing) (ROW + b)) row) x (activating b row (closingBank b x)))
 
   unfoldable pub requesting : ℕ → Bool → Draft → Draft
   requesting q closed x =

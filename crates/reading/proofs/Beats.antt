@@ -1,6 +1,7 @@
--- Beats of a burst: they stay in the block and are pairwise different, once over the length 2 ^ k.
+-- Beats of a burst: they stay in the block and are pairwise different, once over the length 2 ^ k. And the cells of several bursts.
 use Prim.Native.Nat.{ℕ, zero, suc, _+_, _-_, _*_, _/_, _%_, _^_, _≤_, _<_}
 use mathlib.Core.Bool.{Bool, true, false, cond}
+use mathlib.Core.List.{List, [], _∷_, _++_, append-assoc}
 use mathlib.Core.Logic.{_⊎_, inl, inr}
 use mathlib.Core.Path.{_≡_, refl, sym, ap, _∙_}
 use native.Mathlib.Decide.{decLt}
@@ -10,7 +11,9 @@ use lib.Arith.{bin-ind, digits-div}
 use lib.Bits.{bitXor, xor-lt, xor-step, differ}
 use lib.Pow.{pow-pos}
 use Rattle.reading.specs.Mode.{BL, h, interleaved}
-use Rattle.reading.specs.Bursts.{place, beatColumn}
+use Rattle.reading.specs.Settings.{Settings}
+use Rattle.reading.specs.Bursts.{Burst, place, beatColumn, burstCells}
+use Rattle.reading.specs.Cells.{cellsOf}
 
 -- ---- xor with one number tells two others apart
 
@@ -103,3 +106,11 @@ pairs-are-beats m l = go (m % 8) l
     go : (k : ℕ) → 1 ≤ k → 2 * (2 ^ k / 2) ≡ 2 ^ k
     go zero g = absurd (omega arith)
     go (suc k) g = omega arith
+
+-- ---- bursts one behind the other
+
+pub cells-append : (s : Settings) (xs ys : List Burst) → cellsOf s (xs ++ ys) ≡ cellsOf s xs ++ cellsOf s ys
+unfolding cellsOf
+cells-append s [] ys = refl
+cells-append s (x ∷ xs) ys =
+    ap (λ (cs : List ℕ). burstCells s x ++ cs) (cells-append s xs ys) ∙ sym (append-assoc (burstCells s x) (cellsOf s xs) (cellsOf s ys))

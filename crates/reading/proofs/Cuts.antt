@@ -6,9 +6,8 @@ use mathlib.Core.Option.{Option, none, some}
 use mathlib.Core.Path.{_≡_, refl, ap, _∙_}
 use native.Mathlib.Nat.{le-refl}
 use native.Mathlib.Omega.{arith}
-use lib.Dec.{leb, ltb}
-use borrow.Author.Tests.{leb-false, le-leb}
-use Rattle.reading.specs.Search.{lesser}
+use lib.Dec.{ltb}
+use borrow.Author.Tests.{le-leb}
 use Rattle.reading.specs.Mode.{h}
 use Rattle.reading.specs.Settings.{Settings, newer}
 use Rattle.reading.specs.Capture.{Event}
@@ -16,15 +15,9 @@ use Rattle.reading.specs.Commands.{Command, READ, WRITE, BURST-TERMINATE
 use Rattle.reading.specs.Bursts.{Burst, withPairs, wholeEnd}
 use Rattle.reading.specs.Part.{Part, start, closes, cutPairs, atMost, cutBy, burstGiven, step, run}
 use Rattle.reading.specs.Cells.{burstsOf}
+use Rattle.reading.proofs.Laws.{lesser-first}
 
 -- ---- one burst, one event
-
-pub lesser-le : (a b : ℕ) → lesser a b ≤ a
-lesser-le a b = go (leb a b) refl
-  where
-    go : (t : Bool) → leb a b ≡ t → cond t a b ≤ a
-    go true e = le-refl a
-    go false e = omega (arith, leb-false a b e)
 
 -- pairs that have all gone by are not lost
 pub none-left : (k n t : ℕ) (b : Bool) → k + n ≤ t → atMost (cond b (some (t - k)) none) n ≡ n
@@ -37,7 +30,7 @@ module _ (s : Settings) (p : Part) (t : ℕ) (c : Command) (x : Burst) where
     where
       go : (o : Option ℕ) → atMost o (x .n) ≤ x .n
       go none = le-refl (x .n)
-      go (some most) = lesser-le (x .n) most
+      go (some most) = lesser-first (x .n) most
 
   pub auto-uncut : x .auto ≡ true → cutBy s p t c x ≡ x
   auto-uncut a = rw a

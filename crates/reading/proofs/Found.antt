@@ -1,4 +1,4 @@
--- What it means that a search finds something, or nothing; and the later of two.
+-- What it means that a search finds something, or nothing.
 use Prim.Native.Nat.{ℕ, zero, suc, _+_, _≤_, _<_}
 use mathlib.Core.Bool.{Bool, true, false, cond}
 use mathlib.Core.List.{List, [], _∷_, List·Memᴰ, List·Memᴰ·not-nil, List·Memᴰ·cases-cons}
@@ -7,9 +7,7 @@ use mathlib.Core.Option.{none, some}
 use mathlib.Core.Path.{_≡_, refl, ap, _∙_}
 use native.Mathlib.Decide.{decLt}
 use native.Mathlib.Omega.{arith}
-use lib.Dec.{leb}
-use borrow.Author.Tests.{leb-true, leb-false}
-use Rattle.reading.specs.Search.{find, later}
+use Rattle.reading.specs.Search.{find}
 use Rattle.reading.specs.Schedule.{earliest}
 
 module _ {A : Type 0} (f : A → Bool) where
@@ -91,19 +89,3 @@ module _ (f : ℕ → Bool) where
       go : Dec (from < t) → (from < t → earliest f (suc from) n ≡ t) → cond (f from) from (earliest f (suc from) n) ≡ t
       go (yes l) ih = rw (g from (omega arith) l) (ih l)
       go (no l) ih = let e : from ≡ t = omega arith in rw (e, h)
-
--- ---- the later of two is before neither
-
-pub later-first : (a b : ℕ) → a ≤ later a b
-later-first a b = go (leb a b) refl
-  where
-    go : (v : Bool) → leb a b ≡ v → a ≤ cond v b a
-    go true e = leb-true a b e
-    go false e = omega arith
-
-pub later-second : (a b : ℕ) → b ≤ later a b
-later-second a b = go (leb a b) refl
-  where
-    go : (v : Bool) → leb a b ≡ v → b ≤ cond v b a
-    go true e = omega arith
-    go false e = omega (arith, leb-false a b e)

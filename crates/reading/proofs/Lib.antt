@@ -1,4 +1,5 @@
 -- What follows from the definitions alone: worked cases, and what a verdict, a beat and a cut mean.
+pub mod Laws
 pub mod Cases
 pub mod Found
 pub mod Meaning

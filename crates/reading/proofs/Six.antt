@@ -1,7 +1,7 @@
 -- Why rule 6 need not be asked: where tRC is at most tRAS + tRP, rules 3, 5 and 9 and the cycle of an auto precharge keep the
 -- ACTIVEs of a bank tRC apart, so no event breaks rule 6 and no lower one. Both readings, with the rule and without, agree.
-use Prim.Native.Nat.{ℕ, zero, suc, _+_, _<_}
-use mathlib.Core.Bool.{Bool, true, false, cond, not, _&&_, true≢false, false≢true}
+use Prim.Native.Nat.{ℕ, suc, _+_, _<_}
+use mathlib.Core.Bool.{Bool, true, false, cond, not, _&&_, true≢false}
 use mathlib.Core.List.{List, [], _∷_, _++_, List·Memᴰ, Memᴰ·append-right}
 use mathlib.Core.Option.{Option, none, some}
 use mathlib.Core.Path.{_≡_, refl, ap, _∙_}
@@ -14,8 +14,9 @@ use Rattle.reading.specs.Settings.{Settings, Consistent}
 use Rattle.reading.specs.Capture.{Event}
 use Rattle.reading.specs.Commands.{Command, ACTIVE, READ, WRITE, is, among, commandOf}
 use Rattle.reading.specs.Part.{Bank, Part, start, step, openOn, idleFrom, autoPrecharge, closes, bankAfter, partAfter}
-use Rattle.reading.specs.Rules.{everyBank, belowSix, keepsRule, rule3, rule5, rule6, rule9, lowestBroken}
-use Rattle.reading.proofs.Found.{find-none, later-first}
+use Rattle.reading.specs.Rules.{belowSix, keepsRule, rule3, rule5, rule6, rule9, lowestBroken}
+use Rattle.reading.proofs.Laws.{both, every-bank, later-first}
+use Rattle.reading.proofs.Found.{find-none}
 use Rattle.reading.specs.Schedule.{passes}
 use Rattle.reading.specs.Verdict.{judgeBy, brokenOr}
 
@@ -45,26 +46,11 @@ left-unasked f (y ∷ before) x behind h = go (f y) h (left-unasked f before x b
     go false g rest = refl
     go true g rest = rest g
 
-and-left : (a b : Bool) → a && b ≡ true → a ≡ true
-and-left true b e = refl
-and-left false b e = e
-
-and-right : (a b : Bool) → a && b ≡ true → b ≡ true
-and-right true b e = e
-and-right false b e = absurd (false≢true e)
-
 third : List·Memᴰ 3 belowSix
 third = List·Memᴰ.List·Memᴰ·tail (List·Memᴰ.List·Memᴰ·tail (List·Memᴰ.List·Memᴰ·head refl))
 
 fifth : List·Memᴰ 5 belowSix
 fifth = List·Memᴰ.List·Memᴰ·tail (List·Memᴰ.List·Memᴰ·tail (List·Memᴰ.List·Memᴰ·tail (List·Memᴰ.List·Memᴰ·tail (List·Memᴰ.List·Memᴰ·head refl))))
-
-pub every-bank : (f : ℕ → Bool) → everyBank f ≡ true → (b : ℕ) → b < 4 → f b ≡ true
-every-bank f e zero l = and-left (f 0) _ e
-every-bank f e (suc zero) l = and-left (f 1) _ (and-right (f 0) _ e)
-every-bank f e (suc (suc zero)) l = and-left (f 2) _ (and-right (f 1) _ (and-right (f 0) _ e))
-every-bank f e (suc (suc (suc zero))) l = and-right (f 2) _ (and-right (f 1) _ (and-right (f 0) _ e))
-every-bank f e (suc (suc (suc (suc b)))) l = absurd (omega arith)
 
 module _ (s : Settings) where
   -- ---- a bank
@@ -160,10 +146,10 @@ module _ (s : Settings) where
             left-unasked (λ r. keepsRule r s p t (commandOf w)) belowSix 6 behind
             (λ e.
             let keeps : ℕ → Bool = λ r. keepsRule r s p t (commandOf w) in
-            let behind-two = and-right (keeps 2) _ (and-right (keeps 1) _ e) in
-            let behind-three = and-right (keeps 3) _ behind-two in
-            six-kept p t (commandOf w) (omega arith) rest (and-left (keeps 3) _ behind-two)
-            (and-left (keeps 5) _ (and-right (keeps 4) _ behind-three)))
+            let behind-two = both (keeps 2) _ (both (keeps 1) _ e .1) .1 in
+            let behind-three = both (keeps 3) _ behind-two .1 in
+            six-kept p t (commandOf w) (omega arith) rest (both (keeps 3) _ behind-two .0)
+            (both (keeps 5) _ (both (keeps 4) _ behind-three .1) .0))
 
         rest-on : lowestBroken asked s p t (commandOf w) ≡ none → Rest (partAfter s p t (commandOf w))
         rest-on e = next-rest p t (commandOf w) (kept asked e 9 (Memᴰ·append-right belowSix nine)) rest

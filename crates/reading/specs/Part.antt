@@ -10,7 +10,7 @@ use Rattle.reading.specs.Settings.{Settings, newer}
 use Rattle.reading.specs.RefreshClock.{Clock, clockAtStart, clockAfterRefresh, clockAfterSleep}
 use Rattle.reading.specs.Capture.{Event}
 use Rattle.reading.specs.Commands.{Command, ACTIVE, READ, WRITE, BURST-TERMINATE, PRECHARGE, AUTO-REFRESH, MODE-REGISTER-SET, is, among, names, commandOf}
-use Rattle.reading.specs.Sleep.{Sleep, sleepAtStart, leaves, sleepAfter}
+use Rattle.reading.specs.Sleep.{Sleep, sleepAtStart, wakes, sleepAfter}
 use Rattle.reading.specs.Bursts.{Burst, reads, columnOf, withPairs, wholeEnd}
 
 -- open or idle, the row it was opened on, its last ACTIVE, its precharge cycle
@@ -145,7 +145,7 @@ abbrev pub refreshes : Command → Bool
 refreshes c = not (c .low) && is AUTO-REFRESH c
 
 abbrev pub clockAfter : Settings → ℕ → Command → Sleep → Clock → Clock
-clockAfter s t c x k = cond (leaves x c && x .self) (clockAfterSleep s t) (cond (refreshes c) (clockAfterRefresh s t k) k)
+clockAfter s t c x k = cond (wakes x c && x .self) (clockAfterSleep s t) (cond (refreshes c) (clockAfterRefresh s t k) k)
 
 abbrev pub partAfter : Settings → Part → ℕ → Command → Part
 partAfter s p t c =

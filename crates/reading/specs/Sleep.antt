@@ -21,8 +21,8 @@ abbrev pub enters : Sleep → Command → Bool
 enters x c = c .low && not (x .asleep)
 
 -- CKE rises
-abbrev pub leaves : Sleep → Command → Bool
-leaves x c = x .asleep && not (c .low)
+abbrev pub wakes : Sleep → Command → Bool
+wakes x c = x .asleep && not (c .low)
 
 abbrev pub inSelfRefresh : Sleep → Bool
 inSelfRefresh x = x .asleep && x .self
@@ -33,7 +33,7 @@ sleepAfter t c x =
     record {
       asleep = c .low;
       self = cond (enters x c) (is AUTO-REFRESH c) (x .self);
-      left = cond (enters x c) none (cond (leaves x c) (some t) (x .left));
+      left = cond (enters x c) none (cond (wakes x c) (some t) (x .left));
     }
 
 -- leaving is over: tXSR after self refresh, tXP after power-down

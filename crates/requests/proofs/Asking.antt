@@ -16,7 +16,7 @@ use Rattle.reading.specs.Schedule.{firstCell, cellBank, requestFits, badRequest
 use Rattle.memory.specs.Serving.{Sized}
 use Rattle.words.proofs.Search as search
 use Rattle.words.proofs.Search.{foundFrom}
-use Rattle.requests.specs.Asked.{Asked, cellsOf, below, EachBelow}
+use Rattle.requests.specs.Asked.{Asked, cellCount, below, EachBelow}
 
 pub all-bits : (bits : ℕ) → bits ≤ 31 → 2 ^ (bits % 32) ≡ 2 ^ bits
 all-bits bits l = let e : bits % 32 ≡ bits = mod-eq-of-lt (omega arith) in rw e
@@ -50,7 +50,7 @@ module _ (s : Settings) (q : ℕ) (z : Sized s) where
   abbrev cell : ℕ
   cell = firstCell q
 
-  cells-are : cellsOf s ≡ 2 ^ (2 + bits)
+  cells-are : cellCount s ≡ 2 ^ (2 + bits)
   cells-are = ap (λ (n : ℕ). 2 ^ n) (omega arith)
 
   few-cells : 2 ^ (2 + bits) ≤ 2 ^ 27
@@ -73,14 +73,14 @@ module _ (s : Settings) (q : ℕ) (z : Sized s) where
           bits-clear s q e ∙ le-ltb (cellBank s cell) 4 (omega (arith, bank-is, shr-mono bits high, shl-shr (2 ^ 2) bits))
       go (suc n) e = bits-set s q (λ k. omega arith)
 
-  fits-is : below (cellsOf s) q ≡ requestFits s q
+  fits-is : below (cellCount s) q ≡ requestFits s q
   fits-is = ap (ltb (q % 2 ^ 31)) cells-are ∙ go (ltb (q % 2 ^ 31) (2 ^ (2 + bits))) refl
     where
       go : (v : Bool) → ltb (q % 2 ^ 31) (2 ^ (2 + bits)) ≡ v → v ≡ requestFits s q
       go true e = sym (one-fits (ltb-true _ _ e))
       go false e = sym (none-fits (ltb-false _ _ e))
 
-  fits-as : {n : ℕ} → n ≡ cellsOf s → {v : Bool} → below n q ≡ v → requestFits s q ≡ v
+  fits-as : {n : ℕ} → n ≡ cellCount s → {v : Bool} → below n q ≡ v → requestFits s q ≡ v
   fits-as e k = sym fits-is ∙ ap (λ (n : ℕ). below n q) (sym e) ∙ k
 
 -- ---- the walk: what is found from request i on is what is found at all
@@ -102,10 +102,10 @@ module _ (s : Settings) (qs : List ℕ) where
   begins l = record { within = omega arith; same = rw (le-ltb 2000 (length qs) l) (search.begins (bad s qs) (length qs)) }
 
 module _ {s : Settings} {qs : List ℕ} {i : ℕ} (x : Sought s qs i) where
-  pub goes-on : i < length qs → Sized s → {n : ℕ} → n ≡ cellsOf s → below n (getD qs i 0) ≡ true → Sought s qs (i + 1)
+  pub goes-on : i < length qs → Sized s → {n : ℕ} → n ≡ cellCount s → below n (getD qs i 0) ≡ true → Sought s qs (i + 1)
   goes-on l z e k = record { within = omega arith; same = sym (search.goes-on (bad s qs) (length qs) i l (ap not (fits-as s (getD qs i 0) z e k))) ∙ x .same }
 
-  pub stops : i < length qs → Sized s → {n : ℕ} → n ≡ cellsOf s → below n (getD qs i 0) ≡ false → some i ≡ badRequest s qs
+  pub stops : i < length qs → Sized s → {n : ℕ} → n ≡ cellCount s → below n (getD qs i 0) ≡ false → some i ≡ badRequest s qs
   stops l z e k = sym (search.stops (bad s qs) (length qs) i l (ap not (fits-as s (getD qs i 0) z e k))) ∙ x .same
 
   pub ends : length qs ≤ i → none ≡ badRequest s qs
@@ -131,7 +131,7 @@ looks-on {n} {qs} {fine} {one} {fine′} {i} x l f g = record { within = omega a
     more e j (yes k) m = x .low (told e .0) j k
     more e j (no k) m = let z : j ≡ i = omega arith in rw z (sym f ∙ told e .1)
 
-pub all-asked : (s : Settings) (qs : List ℕ) → Sized s → length qs ≤ 2000 → {n : ℕ} → n ≡ cellsOf s → EachBelow n qs → none ≡ badRequest s qs
+pub all-asked : (s : Settings) (qs : List ℕ) → Sized s → length qs ≤ 2000 → {n : ℕ} → n ≡ cellCount s → EachBelow n qs → none ≡ badRequest s qs
 unfolding badRequest
 all-asked s qs z l e f =
     rw (le-ltb 2000 (length qs) l) (sym (search.nothing-below (bad s qs) (length qs) (λ i k. ap not (fits-as s (getD qs i 0) z e (f i k)))))

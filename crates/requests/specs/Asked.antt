@@ -19,8 +19,8 @@ abbrev pub burstCode : Bool → ℕ
 burstCode write = pinsOf (cond write WRITE READ) 0 0
 
 -- the cells of a part of four banks, and whether a request is for one of so many
-abbrev pub cellsOf : Settings → ℕ
-cellsOf s = 2 ^ (2 + s .columnBits + s .rowBits)
+abbrev pub cellCount : Settings → ℕ
+cellCount s = 2 ^ (2 + s .columnBits + s .rowBits)
 
 abbrev pub below : ℕ → ℕ → Bool
 below cells q = ltb (q % 2 ^ 31) cells

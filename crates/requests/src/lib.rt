@@ -3,15 +3,16 @@ use settings::Settings;
 use settings::places::COLUMN_BITS;
 use settings::places::ROW_BITS;
 use words::Found;
+use words::both;
 ghost use mathlib.Core.Path.{_≡_};
-ghost use mathlib.Core.Bool.{true, cond, _&&_};
+ghost use mathlib.Core.Bool.{true, cond};
 ghost use Prim.Native.Nat.{_^_, _≤_, _<_};
 ghost use Rattle.words.specs.Found.{placeOf};
 ghost use Rattle.reading.specs.Settings.{settingsOf};
 ghost use Rattle.reading.specs.Commands.{ACTIVE, PRECHARGE, pinsOf};
 ghost use Rattle.reading.specs.Schedule.{asksWrite, firstCell, cellBank, cellRow, cellColumn, badRequest, columnPins, burstPins};
 ghost use Rattle.memory.specs.Serving.{Sized};
-ghost use Rattle.requests.specs.Asked.{Asked, burstCode, cellsOf, below, EachBelow};
+ghost use Rattle.requests.specs.Asked.{Asked, burstCode, cellCount, below, EachBelow};
 
 // The pins of each command that a schedule has, without bank and address.
 pub const REFRESH_PINS: u32 = pins::CODE * pins::REFRESH;
@@ -122,7 +123,7 @@ pub fn burst_pins(s: &Settings, q: u32, bank: u32, closed: bool) -> u32
 // The cells of the part, which has four banks.
 fn cells(s: &Settings) -> u32
     requires { ⌜ Sized (settingsOf (now s)) ⌝ }
-    ensures { λ r. ⌜ r ≡ cellsOf (settingsOf (now (s .entry))) ⌝ }
+    ensures { λ r. ⌜ r ≡ cellCount (settingsOf (now (s .entry))) ⌝ }
 {
     deadlines::sums::rows(2 + s[COLUMN_BITS] + s[ROW_BITS])
 }
@@ -132,12 +133,6 @@ fn fits(cells: u32, q: u32) -> bool
     ensures { λ r. ⌜ r ≡ below cells q ⌝ }
 {
     q % 2_147_483_648 < cells
-}
-
-fn both(a: bool, b: bool) -> bool
-    ensures { λ r. ⌜ r ≡ (a && b) ⌝ }
-{
-    if a { b } else { false }
 }
 
 // Told without a branch for each request, as most lists fit.

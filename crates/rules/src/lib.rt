@@ -1,5 +1,6 @@
 // Which rule a command breaks: a comparison for each timed rule, a search for each rule that looks at several banks.
 use deadlines::Deadlines;
+use deadlines::banks::all_idle;
 use deadlines::places::ASLEEP;
 use deadlines::places::BUS;
 use deadlines::places::BUSY;
@@ -28,11 +29,11 @@ ghost use Rattle.reading.specs.Mode.{modeWord};
 ghost use Rattle.reading.specs.Settings.{settingsOf};
 ghost use Rattle.reading.specs.Rules.{everyBank};
 ghost use Rattle.deadlines.specs.Deadlines as is;
-ghost use Rattle.deadlines.specs.Deadlines.{at, orElse};
+ghost use Rattle.deadlines.specs.Deadlines.{at, ruleUnless};
 
 // Rule 14, or 15 asleep. Awake is asked for itself, so that no branch of `last_breaks` is like another (docs/PERFORMANCE.md).
 fn late(d: &Deadlines, t: u32) -> u32
-    ensures { λ r. ⌜ r ≡ orElse (ltb t (at (now (d .entry)) is.ASLEEP)) 14 15 ⌝ }
+    ensures { λ r. ⌜ r ≡ ruleUnless (ltb t (at (now (d .entry)) is.ASLEEP)) 14 15 ⌝ }
 {
     if d[ASLEEP] == 0 {
         return 14;
@@ -57,20 +58,8 @@ fn last_breaks(d: &Deadlines, t: u32) -> u32
 
 // The searches: the banks in order, left at the first that breaks the rule, with its number; 0 if none does.
 
-fn all_idle(d: &Deadlines) -> u32
-    ensures { λ r. ⌜ r ≡ orElse (is.allIdle (now (d .entry))) 3 0 ⌝ }
-{
-    'banks: for i in 0..4 {
-        if d[OPENED + i] == 0 {
-            continue 'banks;
-        }
-        return 3;
-    }
-    0
-}
-
 fn all_rested(d: &Deadlines, t: u32) -> u32
-    ensures { λ r. ⌜ r ≡ orElse (everyBank (λ i. leb (at (now (d .entry)) (is.REST + i)) t)) 5 0 ⌝ }
+    ensures { λ r. ⌜ r ≡ ruleUnless (everyBank (λ i. leb (at (now (d .entry)) (is.REST + i)) t)) 5 0 ⌝ }
 {
     'banks: for i in 0..4 {
         if past(d[REST + i], t) {
@@ -82,7 +71,7 @@ fn all_rested(d: &Deadlines, t: u32) -> u32
 }
 
 fn others_apart(d: &Deadlines, t: u32, b: usize) -> u32
-    ensures { λ r. ⌜ r ≡ orElse (everyBank (λ i. leb (is.otherBank (now (d .entry)) b i) t)) 7 0 ⌝ }
+    ensures { λ r. ⌜ r ≡ ruleUnless (everyBank (λ i. leb (is.otherBank (now (d .entry)) b i) t)) 7 0 ⌝ }
 {
     'banks: for i in 0..4 {
         if past(d[OTHER + i], t) {
@@ -97,7 +86,7 @@ fn others_apart(d: &Deadlines, t: u32, b: usize) -> u32
 }
 
 fn all_held(d: &Deadlines, t: u32) -> u32
-    ensures { λ r. ⌜ r ≡ orElse (is.allHeld (now (d .entry)) t) 9 0 ⌝ }
+    ensures { λ r. ⌜ r ≡ ruleUnless (is.allHeld (now (d .entry)) t) 9 0 ⌝ }
 {
     'banks: for i in 0..4 {
         if d[OPENED + i] == 0 {
@@ -112,7 +101,7 @@ fn all_held(d: &Deadlines, t: u32) -> u32
 }
 
 fn all_written(d: &Deadlines, t: u32) -> u32
-    ensures { λ r. ⌜ r ≡ orElse (is.allWritten (now (d .entry)) t) 10 0 ⌝ }
+    ensures { λ r. ⌜ r ≡ ruleUnless (is.allWritten (now (d .entry)) t) 10 0 ⌝ }
 {
     'banks: for i in 0..4 {
         if d[OPENED + i] == 0 {
@@ -274,9 +263,8 @@ pub fn close_all_breaks(d: &Deadlines, t: u32) -> u32
 pub fn refresh_breaks(d: &Deadlines, t: u32) -> u32
     ensures { λ r. ⌜ r ≡ is.refreshBreaks (now (d .entry)) t ⌝ }
 {
-    let idle = all_idle(d);
-    if idle != 0 {
-        return idle;
+    if !all_idle(d) {
+        return 3;
     }
     if (t as u64) < d[BUSY] {
         return 4;

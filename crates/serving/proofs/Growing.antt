@@ -12,7 +12,7 @@ use Rattle.reading.specs.Settings.{Settings}
 use Rattle.reading.specs.Schedule.{cellRow, firstCell, cellBank}
 use Rattle.deadlines.specs.Deadlines.{OPENED, at, allIdle}
 use Rattle.plan.specs.Behind.{ROW, FREE, EVENTS}
-use Rattle.plan.specs.Draft.{Draft, noted, activating, closing, bursting, opening, requesting, closingAll, idling, refreshingIdle, refreshing}
+use Rattle.plan.specs.Draft.{Draft, noted, activating, closingBank, bursting, opening, requesting, closingAll, idling, refreshingIdle, refreshing}
 use Rattle.drafts.specs.Room.{Room, draft}
 
 pub record Grows (n : ℕ) (x y : Draft) : Type 0 where
@@ -52,8 +52,8 @@ module _ (s : Settings) where
     unfolding activating
     active-grows row x = noted-grows x _ _ _ _
 
-    pub close-grows : (x : Draft) → Grows 1 x (closing s b x)
-    unfolding closing
+    pub close-grows : (x : Draft) → Grows 1 x (closingBank s b x)
+    unfolding closingBank
     close-grows x = noted-grows x _ _ _ _
 
     pub opening-grows : (row : ℕ) (x : Draft) → Grows 2 x (opening s b row x)
@@ -61,7 +61,7 @@ module _ (s : Settings) where
     opening-grows row x =
         either (eqb (at (x .deadlines) (OPENED + b)) 0) (grows-less (active-grows row x) (omega arith))
         (either (eqb (at (x .standing) (ROW + b)) row) (grows-less (grows-none x) (omega arith))
-        (grows-on (close-grows x) (active-grows row (closing s b x))))
+        (grows-on (close-grows x) (active-grows row (closingBank s b x))))
 
   pub request-grows : (q : ℕ) (closed : Bool) (x : Draft) → Grows 3 x (requesting s q closed x)
   unfolding requesting bursting

@@ -1,4 +1,3 @@
-pub mod Banks
 pub mod Growing
 pub mod Serves
 pub mod Tries

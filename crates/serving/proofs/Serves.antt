@@ -10,7 +10,7 @@ use Rattle.reading.specs.Schedule.{asksWrite, firstCell, cellBank, cellRow, bur
 use Rattle.deadlines.specs.Deadlines.{OPENED, OVERDUE, at, paceOf, allIdle, closeAllAfter}
 use Rattle.plan.specs.Behind.{ROW, FREE}
 use Rattle.plan.specs.Soonest.{closeAllSoonest, refreshSoonest}
-use Rattle.plan.specs.Draft.{Draft, cycleFor, activating, closing, bursting, opening, requesting, closingAll, idling, refreshAt, refreshingIdle, refreshing, closedRefreshAt, timely}
+use Rattle.plan.specs.Draft.{Draft, cycleFor, activating, closingBank, bursting, opening, requesting, closingAll, idling, refreshAt, refreshingIdle, refreshing, closedRefreshAt, timely}
 use Rattle.drafts.specs.Room.{draft}
 
 -- ---- the row
@@ -25,7 +25,7 @@ module _ (s : Settings) (b row : ℕ) (x : Draft) where
     unfolding opening
     opened-there e = rw (ne-eqb (at (x .deadlines) (OPENED + b)) 0 busy, eq-eqb (at (x .standing) (ROW + b)) row e)
 
-    pub opened-other : (at (x .standing) (ROW + b) ≡ row → ⊥) → {y z : Draft} → y ≡ closing s b x → z ≡ activating s b row y → z ≡ opening s b row x
+    pub opened-other : (at (x .standing) (ROW + b) ≡ row → ⊥) → {y z : Draft} → y ≡ closingBank s b x → z ≡ activating s b row y → z ≡ opening s b row x
     unfolding opening
     opened-other e f g =
         rw (ne-eqb (at (x .deadlines) (OPENED + b)) 0 busy, ne-eqb (at (x .standing) (ROW + b)) row e) (g ∙ ap (activating s b row) f)

@@ -1,6 +1,7 @@
 // One request's turn in a schedule, with rows left open or closed: alone, or behind a refresh, or not in time.
 use deadlines::Deadlines;
 use deadlines::Pace;
+use deadlines::banks::all_idle;
 use deadlines::places::LATENCY;
 use deadlines::places::OPENED;
 use deadlines::places::OVERDUE;
@@ -22,7 +23,7 @@ ghost use mathlib.Core.Path.{_≡_};
 ghost use mathlib.Core.Bool.{_||_};
 ghost use Prim.Native.Nat.{_+_, _*_, _<_};
 ghost use Rattle.reading.specs.Settings.{settingsOf};
-ghost use Rattle.deadlines.specs.Deadlines.{paceOf, allIdle};
+ghost use Rattle.deadlines.specs.Deadlines.{paceOf};
 ghost use Rattle.requests.specs.Asked.{Asked};
 ghost use Rattle.plan.specs.Draft.{opening, requesting, idling, refreshing, closedRefreshAt, timely, turned, kept};
 ghost use Rattle.drafts.specs.Room.{Room, draft};
@@ -93,18 +94,6 @@ fn request(
         b,
         pins,
     );
-}
-
-fn all_idle(d: &Deadlines) -> bool
-    ensures { λ r. ⌜ r ≡ allIdle (now (d .entry)) ⌝ }
-{
-    'banks: for i in 0..4 {
-        if d[OPENED + i] == 0 {
-            continue 'banks;
-        }
-        return false;
-    }
-    true
 }
 
 // All banks closed, if one is open.

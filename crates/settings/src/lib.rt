@@ -1,4 +1,5 @@
 // The settings of a board: their places, their limits, and the list of words that holds them.
+pub mod mode;
 pub mod places;
 
 use places::T_RAS;
@@ -56,7 +57,7 @@ pub fn mode_word(w: u32) -> bool
     ensures { λ r. ⌜ r ≡ modeWord w ⌝ }
 {
     let length = w % 8;
-    let latency = w / 16 % 8;
+    let latency = mode::latency(w);
     if length < 1 {
         return false;
     }

@@ -7,6 +7,7 @@ use settings::COUNT;
 use settings::HELD;
 use settings::SLEEPING;
 use settings::Settings;
+use settings::mode;
 use settings::places::EDITION;
 use settings::places::T_RAS;
 use settings::places::T_RC;
@@ -14,7 +15,6 @@ use settings::places::T_RP;
 use settings::places::T_XP;
 ghost use mathlib.Core.Path.{_≡_};
 ghost use Prim.Native.Nat.{_≤_};
-ghost use Rattle.reading.specs.Mode.{BL, interleaved as isInterleaved, CL};
 ghost use Rattle.wording.specs.Values.{shown};
 
 const MODE: u32 = settings::places::MODE as u32;
@@ -64,32 +64,14 @@ fn say_setting(out: &mut Out, i: u32, word: u32) {
     say_number(out, b" ", word);
 }
 
-fn burst_length(mode: u32) -> u32
-    ensures { λ r. ⌜ r ≡ BL mode ⌝ }
-{
-    1 << (mode % 8)
-}
-
-fn interleaved(mode: u32) -> bool
-    ensures { λ r. ⌜ r ≡ isInterleaved mode ⌝ }
-{
-    mode / 8 % 2 == 1
-}
-
-fn latency(mode: u32) -> u32
-    ensures { λ r. ⌜ r ≡ CL mode ⌝ }
-{
-    mode / 16 % 8
-}
-
 fn say_mode(out: &mut Out, mode: u32) {
-    say_number(out, b", burst length ", burst_length(mode));
-    if interleaved(mode) {
+    say_number(out, b", burst length ", mode::burst_length(mode));
+    if mode::interleaved(mode) {
         say(out, b", interleaved");
     } else {
         say(out, b", sequential");
     }
-    say_number(out, b", CAS latency ", latency(mode));
+    say_number(out, b", CAS latency ", mode::latency(mode));
 }
 
 fn print_setting(out: &mut Out, i: u32, word: u32) {

@@ -52,7 +52,7 @@ pub none-below : (f : ℕ → Bool) (n : ℕ) → lowest f n ≡ none → (i : �
 none-below f n h i l = rw zero-add at (nowhere f 0 n h i l)
 
 -- and the other way round
-none-of : (f : ℕ → Bool) (k n : ℕ) → ((i : ℕ) → i < n → f (k + i) ≡ false) → find f (count k n) ≡ none
+pub none-of : (f : ℕ → Bool) (k n : ℕ) → ((i : ℕ) → i < n → f (k + i) ≡ false) → find f (count k n) ≡ none
 none-of f k zero h = refl
 none-of f k (suc n) h =
     rw (sym (ap f (add-zero k)) ∙ h 0 (omega arith))

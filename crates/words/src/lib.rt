@@ -1,5 +1,6 @@
 // Little-endian 32-bit words in a slice of bytes.
 ghost use mathlib.Core.Path.{_≡_};
+ghost use mathlib.Core.Bool.{_&&_};
 ghost use Prim.Native.Nat.{_+_, _≤_, _<_};
 ghost use lib.ListN.{length};
 ghost use lib.Seq.{sets};
@@ -9,6 +10,13 @@ ghost use Rattle.reading.specs.Words.{wordAt, wordBytes};
 pub enum Found {
     Nothing,
     At(u32),
+}
+
+// Without a branch, for a walk over what most often fits.
+pub fn both(a: bool, b: bool) -> bool
+    ensures { λ r. ⌜ r ≡ (a && b) ⌝ }
+{
+    if a { b } else { false }
 }
 
 fn wide(x: u8) -> u32

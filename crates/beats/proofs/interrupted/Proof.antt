@@ -10,8 +10,8 @@ use borrow.Author.Needs.{needs}
 use Rattle.beats.proofs.interrupted.Statement.{statement}
 use Rattle.beats.proofs.interrupted.Tie as tie
 
-length-of-requires : tie.Need-length-of-requires
-length-of-requires c κs = search needs
+half-requires : tie.Need-half-requires
+half-requires c κs = search needs
 
 returns : tie.Need-returns
 returns c =
@@ -19,7 +19,7 @@ returns c =
     let start = halved .before .before in
     let a = start .args in
     one-there (settingsOf (a .s .now)) (a .mode) (eventAt (a .bytes .now) (a .i)) (eventsFrom (a .bytes .now) (a .n) (a .i + 1)) (start .pre .1)
-    (ap (λ (v : ℕ). v / 2) (halved .length-of .ensures)) (c .if1 .taken)
+    (halved .half .ensures) (c .if1 .taken)
 
 next-leaves-requires : tie.Need-next-leaves-requires
 next-leaves-requires c κs = search needs
@@ -30,7 +30,7 @@ returns-2 c =
     let start = halved .before .before in
     let a = start .args in
     one-left (settingsOf (a .s .now)) (a .mode) (eventAt (a .bytes .now) (a .i)) (eventsFrom (a .bytes .now) (a .n) (a .i + 1)) (start .pre .1)
-    (ap (λ (v : ℕ). v / 2) (halved .length-of .ensures)) (c .before .next-leaves .ensures) (c .if2 .taken)
+    (halved .half .ensures) (c .before .next-leaves .ensures) (c .if2 .taken)
 
 row-leaves-requires : tie.Need-row-leaves-requires
 row-leaves-requires c κs = search needs
@@ -50,9 +50,9 @@ returns-3 c =
     c .fewer .ensures
     ∙ (λ u. lesser (looked .next-leaves .ensures u) (found .row-leaves .ensures u))
     ∙ ap (λ (m : ℕ). lesser (nextLeaves s (e .cycle) m later) (rowLeaves s (bankOf (e .pins)) (e .cycle) m later))
-    (ap (λ (v : ℕ). v / 2) (halved .length-of .ensures))
+    (halved .half .ensures)
 
 pub interrupted-spec : {M : Type 1} → statement M
 interrupted-spec =
     tie.close
-    (tie.spec length-of-requires returns next-leaves-requires returns-2 row-leaves-requires fewer-requires returns-3)
+    (tie.spec half-requires returns next-leaves-requires returns-2 row-leaves-requires fewer-requires returns-3)

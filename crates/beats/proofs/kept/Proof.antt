@@ -23,8 +23,8 @@ returns c =
     kept-none (a .mode) (eventAt (a .bytes .now) (a .i)) (eventsFrom (a .bytes .now) (a .n) (a .i + 1)) (at-pins-at .pins-at .ensures)
     (c .before .gives-burst .ensures) (not-true _ (c .if1 .taken))
 
-length-of-requires : tie.Need-length-of-requires
-length-of-requires c κs = search needs
+half-requires : tie.Need-half-requires
+half-requires c κs = search needs
 
 ten-requires : tie.Need-ten-requires
 ten-requires c κs = search needs
@@ -32,15 +32,15 @@ ten-requires c κs = search needs
 returns-2 : tie.Need-returns-2
 returns-2 c =
     let at-ten = c .before in
-    let at-length-of = at-ten .before in
-    let at-if1 = at-length-of .before in
+    let at-half = at-ten .before in
+    let at-if1 = at-half .before in
     let at-gives-burst = at-if1 .before in
     let at-pins-at = at-gives-burst .before in
     let start = at-pins-at .before .before in
     let a = start .args in
     kept-all (a .mode) (eventAt (a .bytes .now) (a .i)) (eventsFrom (a .bytes .now) (a .n) (a .i + 1)) (at-pins-at .pins-at .ensures)
     (at-gives-burst .gives-burst .ensures) (not-false _ (at-if1 .if1 .left)) (at-ten .ten .ensures) (c .if2 .taken)
-    (ap (λ (v : ℕ). v / 2) (at-length-of .length-of .ensures))
+    (at-half .half .ensures)
 
 look-ahead-requires : tie.Need-look-ahead-requires
 look-ahead-requires c κs = search needs
@@ -63,7 +63,7 @@ kept-spec =
     pins-at-requires
     gives-burst-requires
     returns
-    length-of-requires
+    half-requires
     ten-requires
     returns-2
     look-ahead-requires

@@ -21,14 +21,14 @@ pins-at-requires c κs = omega (arith, c .before .pre .0 .long)
 cycle-at-requires : tie.Need-cycle-at-requires Inv-later μ-later
 cycle-at-requires c κs = omega (arith, c .before .before .pre .0 .long)
 
-length-of-requires : tie.Need-length-of-requires Inv-later μ-later
-length-of-requires c κs = search needs
+half-requires : tie.Need-half-requires Inv-later μ-later
+half-requires c κs = search needs
 
 add-end : tie.Need-add-end Inv-later μ-later
 add-end c =
     let start = c .before .before .before .before in
     let a = start .args in
-    rw (c .length-of .ensures)
+    rw (c .half .ensures)
     (omega (arith, half-le (a .mode), c .before .cycle-at .ensures, cycle-fits (a .bytes .now) (a .i) (start .pre .0 .events (a .i) (start .pre .1))))
 
 add-j : tie.Need-add-j Inv-later μ-later
@@ -50,13 +50,13 @@ returns : tie.Need-returns Inv-later μ-later
 returns c =
     let at-later-test = c .before .before in
     let at-later = at-later-test .before in
-    let at-length-of = at-later .before in
-    let at-cycle-at = at-length-of .before in
+    let at-half = at-later .before in
+    let at-cycle-at = at-half .before in
     let at-pins-at = at-cycle-at .before in
     let start = at-pins-at .before .before in
     let a = start .args in
     stops (a .bytes .now) (a .n) (a .i) (a .mode) (at-later .later .inv) (at-pins-at .pins-at .ensures) (at-cycle-at .cycle-at .ensures)
-    (ap (λ (v : ℕ). v / 2) (at-length-of .length-of .ensures)) (at-later-test .later-test .taken) (c .before .cycle-at2 .ensures) (c .if1 .taken)
+    (at-half .half .ensures) (at-later-test .later-test .taken) (c .before .cycle-at2 .ensures) (c .if1 .taken)
 
 pins-at-requires-2 : tie.Need-pins-at-requires-2 Inv-later μ-later
 pins-at-requires-2 c κs = omega (arith, c .before .before .before .before .before .before .before .before .pre .0 .long)
@@ -87,13 +87,13 @@ returns-2 c =
     let at-cycle-at2 = at-if1 .before in
     let at-later-test = at-cycle-at2 .before in
     let at-later = at-later-test .before in
-    let at-length-of = at-later .before in
-    let at-cycle-at = at-length-of .before in
+    let at-half = at-later .before in
+    let at-cycle-at = at-half .before in
     let at-pins-at = at-cycle-at .before in
     let start = at-pins-at .before .before in
     let a = start .args in
     cut-short (a .bytes .now) (a .n) (a .i) (a .mode) (at-later .later .inv) (at-pins-at .pins-at .ensures) (at-cycle-at .cycle-at .ensures)
-    (ap (λ (v : ℕ). v / 2) (at-length-of .length-of .ensures)) (at-later-test .later-test .taken) (at-cycle-at2 .cycle-at2 .ensures)
+    (at-half .half .ensures) (at-later-test .later-test .taken) (at-cycle-at2 .cycle-at2 .ensures)
     (at-pins-at2 .pins-at2 .ensures) (omega (arith, at-if1 .if1 .left)) (start .pre .0)
     (omega (
       arith,
@@ -116,21 +116,21 @@ later-again c =
     let at-cycle-at2 = at-if1 .before in
     let at-later-test = at-cycle-at2 .before in
     let at-later = at-later-test .before in
-    let at-length-of = at-later .before in
-    let at-cycle-at = at-length-of .before in
+    let at-half = at-later .before in
+    let at-cycle-at = at-half .before in
     let at-pins-at = at-cycle-at .before in
     let start = at-pins-at .before .before in
     let a = start .args in
     goes-on (a .bytes .now) (a .n) (a .i) (a .mode) (at-later .later .inv) (at-pins-at .pins-at .ensures) (at-cycle-at .cycle-at .ensures)
-    (ap (λ (v : ℕ). v / 2) (at-length-of .length-of .ensures)) (at-later-test .later-test .taken) (at-cycle-at2 .cycle-at2 .ensures)
+    (at-half .half .ensures) (at-later-test .later-test .taken) (at-cycle-at2 .cycle-at2 .ensures)
     (at-pins-at2 .pins-at2 .ensures) (omega (arith, at-if1 .if1 .left)) (sym (c .if2 .left) ∙ c .before .cuts-burst .ensures)
 
 returns-3 : tie.Need-returns-3 Inv-later μ-later
 returns-3 c =
-    let at-length-of = c .before .before in
-    let start = at-length-of .before .before .before .before in
+    let at-half = c .before .before in
+    let start = at-half .before .before .before .before in
     let a = start .args in
-    ends (a .bytes .now) (a .n) (a .i) (a .mode) (c .before .later .inv) (ap (λ (v : ℕ). v / 2) (at-length-of .length-of .ensures)) (omega arith)
+    ends (a .bytes .now) (a .n) (a .i) (a .mode) (c .before .later .inv) (at-half .half .ensures) (omega arith)
 
 pub look-ahead-spec : {M : Type 1} → statement M
 look-ahead-spec =
@@ -140,7 +140,7 @@ look-ahead-spec =
     μ-later
     pins-at-requires
     cycle-at-requires
-    length-of-requires
+    half-requires
     add-end
     add-j
     later-holds

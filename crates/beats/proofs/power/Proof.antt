@@ -1,5 +1,5 @@
 use native.Mathlib.Omega.{arith}
-use Rattle.deadlines.proofs.Shifts.{one-shifted}
+use Rattle.settings.proofs.Shifts.{one-shifted}
 use borrow.Author.Needs.{needs}
 use Rattle.beats.proofs.power.Statement.{statement}
 use Rattle.beats.proofs.power.Tie as tie

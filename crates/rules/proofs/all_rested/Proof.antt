@@ -4,7 +4,8 @@ use native.Mathlib.Omega.{arith}
 use lib.Dec.{leb}
 use borrow.Author.Needs.{needs}
 use Rattle.deadlines.specs.Deadlines.{REST, at}
-use Rattle.rules.proofs.Banks.{Passed, none, more, passed, left}
+use Rattle.reading.proofs.Laws.{Passed, none-yet, one-more}
+use Rattle.rules.proofs.Banks.{passed, left}
 use Rattle.rules.proofs.all_rested.Statement.{statement}
 use Rattle.rules.proofs.all_rested.Tie as tie
 
@@ -15,7 +16,7 @@ abbrev μ-banks : tie.MeasureT-banks
 μ-banks d t i₀ i = 4 - i
 
 banks-holds : tie.Need-banks-holds Inv-banks μ-banks
-banks-holds c = none
+banks-holds c = none-yet
 
 add-past : tie.Need-add-past Inv-banks μ-banks
 add-past c = omega arith
@@ -36,7 +37,7 @@ banks-less : tie.Need-banks-less Inv-banks μ-banks
 banks-less c = omega arith
 
 banks-again : tie.Need-banks-again Inv-banks μ-banks
-banks-again c = more (c .before .before .before .before .banks .inv) (sym (c .before .past .ensures) ∙ c .if1 .taken)
+banks-again c = one-more (c .before .before .before .before .banks .inv) (sym (c .before .past .ensures) ∙ c .if1 .taken)
 
 returns : tie.Need-returns Inv-banks μ-banks
 returns c = left (c .before .before .before .before .banks .inv) (omega arith) (sym (c .before .past .ensures) ∙ c .if1 .left) _ _

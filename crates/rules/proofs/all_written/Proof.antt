@@ -6,7 +6,8 @@ use lib.Dec.{leb, eqb}
 use borrow.Author.Needs.{needs}
 use borrow.Author.Tests.{eq-eqb, ne-eqb}
 use Rattle.deadlines.specs.Deadlines.{OPENED, WRITTEN, at}
-use Rattle.rules.proofs.Banks.{Passed, none, more, passed, left}
+use Rattle.reading.proofs.Laws.{Passed, none-yet, one-more}
+use Rattle.rules.proofs.Banks.{passed, left}
 use Rattle.rules.proofs.all_written.Statement.{statement}
 use Rattle.rules.proofs.all_written.Tie as tie
 
@@ -17,7 +18,7 @@ abbrev μ-banks : tie.MeasureT-banks
 μ-banks d t i₀ i = 4 - i
 
 banks-holds : tie.Need-banks-holds Inv-banks μ-banks
-banks-holds c = none
+banks-holds c = none-yet
 
 add-if1 : tie.Need-add-if1 Inv-banks μ-banks
 add-if1 c = omega arith
@@ -35,7 +36,7 @@ banks-less : tie.Need-banks-less Inv-banks μ-banks
 banks-less c = omega arith
 
 banks-again : tie.Need-banks-again Inv-banks μ-banks
-banks-again c = more (c .before .before .before .banks .inv) (rw (eq-eqb _ _ (c .if1 .taken), or-true _))
+banks-again c = one-more (c .before .before .before .banks .inv) (rw (eq-eqb _ _ (c .if1 .taken), or-true _))
 
 add-past : tie.Need-add-past Inv-banks μ-banks
 add-past c = omega arith
@@ -59,7 +60,7 @@ banks-again-2 : tie.Need-banks-again-2 Inv-banks μ-banks
 banks-again-2 c =
     let told = c .before in
     let asked = told .before .before in
-    more (asked .before .before .before .banks .inv) (rw (sym (told .past .ensures) ∙ c .if2 .taken))
+    one-more (asked .before .before .before .banks .inv) (rw (sym (told .past .ensures) ∙ c .if2 .taken))
 
 returns : tie.Need-returns Inv-banks μ-banks
 returns c =

@@ -7,7 +7,8 @@ use borrow.Author.Needs.{needs}
 use borrow.Author.Tests.{eq-eqb, ne-eqb}
 use Rattle.deadlines.specs.Deadlines.{otherBank}
 use Rattle.deadlines.proofs.Waits.{unasked}
-use Rattle.rules.proofs.Banks.{Passed, none, more, passed, left}
+use Rattle.reading.proofs.Laws.{Passed, none-yet, one-more}
+use Rattle.rules.proofs.Banks.{passed, left}
 use Rattle.rules.proofs.others_apart.Statement.{statement}
 use Rattle.rules.proofs.others_apart.Tie as tie
 
@@ -18,7 +19,7 @@ abbrev μ-banks : tie.MeasureT-banks
 μ-banks d t b i₀ i = 4 - i
 
 banks-holds : tie.Need-banks-holds Inv-banks μ-banks
-banks-holds c = none
+banks-holds c = none-yet
 
 add-past : tie.Need-add-past Inv-banks μ-banks
 add-past c = omega arith
@@ -39,7 +40,7 @@ banks-less : tie.Need-banks-less Inv-banks μ-banks
 banks-less c = omega arith
 
 banks-again : tie.Need-banks-again Inv-banks μ-banks
-banks-again c = more (c .before .before .before .before .banks .inv) (simp unasked (rw (sym (c .before .past .ensures) ∙ c .if1 .taken, or-true _)))
+banks-again c = one-more (c .before .before .before .before .banks .inv) (simp unasked (rw (sym (c .before .past .ensures) ∙ c .if1 .taken, or-true _)))
 
 add-i-2 : tie.Need-add-i-2 Inv-banks μ-banks
 add-i-2 c = omega arith
@@ -48,7 +49,7 @@ banks-less-2 : tie.Need-banks-less-2 Inv-banks μ-banks
 banks-less-2 c = omega arith
 
 banks-again-2 : tie.Need-banks-again-2 Inv-banks μ-banks
-banks-again-2 c = more (c .before .before .before .before .before .banks .inv) (simp unasked (rw (eq-eqb _ _ (c .if2 .taken))))
+banks-again-2 c = one-more (c .before .before .before .before .before .banks .inv) (simp unasked (rw (eq-eqb _ _ (c .if2 .taken))))
 
 returns : tie.Need-returns Inv-banks μ-banks
 returns c =

@@ -2,9 +2,9 @@ use Prim.Native.Nat.{ℕ, _+_}
 use mathlib.Core.List.{List, [], _∷_}
 use mathlib.Core.Path.{sym, _∙_}
 use lib.Dec.{leb}
-use borrow.Author.Tests.{le-leb, lt-leb}
+use borrow.Author.Tests.{le-leb, lt-leb, not-true, not-false}
 use Rattle.reading.specs.Rules.{everyBank}
-use Rattle.deadlines.specs.Deadlines.{REST, BUS, at, Wait, asks, unmet, lastBreaks, allIdle, refreshBreaks}
+use Rattle.deadlines.specs.Deadlines.{REST, BUS, at, Wait, asks, unmet, lastBreaks, refreshBreaks}
 use Rattle.deadlines.proofs.Waits.{each-over, each-waits}
 use Rattle.rules.proofs.Banks.{told-broken, told-kept}
 use borrow.Author.Needs.{needs}
@@ -24,8 +24,7 @@ all-idle-requires c κs = search needs
 returns : tie.Need-returns
 unfolding refreshBreaks
 returns c =
-    let told = told-broken (allIdle (c .before .before .args .d .now)) 3 (c .before .all-idle .ensures) (c .if1 .taken) in
-    rw (told .fails) (told .named)
+    rw (sym (c .before .all-idle .ensures) ∙ not-true _ (c .if1 .taken))
 
 element-copy-out-if2 : tie.Need-element-copy-out-if2
 element-copy-out-if2 c = search needs
@@ -35,7 +34,7 @@ unfolding refreshBreaks unmet
 returns-2 c =
     let asked₁ = c .before .before in
     let d = asked₁ .before .before .args .d .now in
-    rw (told-kept (allIdle d) 2 (asked₁ .before .all-idle .ensures) (asked₁ .if1 .left), lt-leb _ _ (c .if2 .taken))
+    rw (sym (asked₁ .before .all-idle .ensures) ∙ not-false _ (asked₁ .if1 .left), lt-leb _ _ (c .if2 .taken))
 
 all-rested-requires : tie.Need-all-rested-requires
 all-rested-requires c κs = search needs
@@ -48,7 +47,7 @@ returns-3 c =
     let a = asked₁ .before .before .args in
     let d = a .d .now in
     let told = told-broken (everyBank (λ i. leb (rests d i) (a .t))) 5 (c .before .all-rested .ensures) (c .if3 .taken) in
-    rw (told-kept (allIdle d) 2 (asked₁ .before .all-idle .ensures) (asked₁ .if1 .left), le-leb _ _ (asked₂ .if2 .left))
+    rw (sym (asked₁ .before .all-idle .ensures) ∙ not-false _ (asked₁ .if1 .left), le-leb _ _ (asked₂ .if2 .left))
     (told .named ∙ sym (each-waits 5 (rests d) (then d) (a .t) (lastBreaks d (a .t)) (told .fails)))
 
 element-copy-out-if4 : tie.Need-element-copy-out-if4
@@ -64,7 +63,7 @@ returns-4 c =
     let d = a .d .now in
     let rested = told-kept (everyBank (λ i. leb (rests d i) (a .t))) 4 (asked₃ .before .all-rested .ensures) (asked₃ .if3 .left) in
     rw (
-      told-kept (allIdle d) 2 (asked₁ .before .all-idle .ensures) (asked₁ .if1 .left),
+      sym (asked₁ .before .all-idle .ensures) ∙ not-false _ (asked₁ .if1 .left),
       le-leb _ _ (asked₂ .if2 .left),
       each-over 5 (rests d) (then d) (a .t) (lastBreaks d (a .t)) rested,
       lt-leb _ _ (c .if4 .taken),
@@ -84,7 +83,7 @@ returns-5 c =
     let d = a .d .now in
     let rested = told-kept (everyBank (λ i. leb (rests d i) (a .t))) 4 (asked₃ .before .all-rested .ensures) (asked₃ .if3 .left) in
     rw (
-      told-kept (allIdle d) 2 (asked₁ .before .all-idle .ensures) (asked₁ .if1 .left),
+      sym (asked₁ .before .all-idle .ensures) ∙ not-false _ (asked₁ .if1 .left),
       le-leb _ _ (asked₂ .if2 .left),
       each-over 5 (rests d) (then d) (a .t) (lastBreaks d (a .t)) rested,
       le-leb _ _ (asked₄ .if4 .left),

@@ -1,6 +1,6 @@
 use Prim.Native.Nat.{_%_}
 use native.Mathlib.Omega.{arith}
-use Rattle.deadlines.proofs.Shifts.{one-shifted}
+use Rattle.settings.proofs.Shifts.{one-shifted}
 use borrow.Author.Needs.{needs}
 use Rattle.deadlines.proofs.sums.rows.Statement.{statement}
 use Rattle.deadlines.proofs.sums.rows.Tie as tie

@@ -1,7 +1,7 @@
 use borrow.Author.Tests.{eq-eqb, ne-eqb}
 use borrow.Author.Needs.{needs}
-use Rattle.beats.proofs.gives_burst.Statement.{statement}
-use Rattle.beats.proofs.gives_burst.Tie as tie
+use Rattle.pins.proofs.gives_burst.Statement.{statement}
+use Rattle.pins.proofs.gives_burst.Tie as tie
 
 code-requires : tie.Need-code-requires
 code-requires c κs = search needs
