@@ -22,7 +22,7 @@ use Rattle.reading.proofs.Laws.{lesser-second}
 use Rattle.bridge.specs.Summary.{cleared, heldBy}
 use Rattle.bridge.proofs.Bursts.{calm, read-calm, find-map, Given, Ended, Running, first, all-spent, Late, nothing, behind, Over, held-over}
 use Rattle.bridge.proofs.Cut.{cut-until, interrupted-until, Latency}
-use Rattle.bridge.proofs.Standing.{Stays, auto, unshut, FirstStays, Standing}
+use Rattle.bridge.proofs.LastWrite.{Stays, auto, unshut, FirstStays, LastStays}
 use Rattle.bridge.proofs.Stays.{stays-later}
 use Rattle.bridge.proofs.Rules.{does}
 use Rattle.bridge.proofs.Next.{Before, Sound, open-by}
@@ -128,7 +128,7 @@ module _ (s : Settings) (p : Part) (from t : ℕ) (l : from ≤ t) (g : Sound fr
   still-running c e = all-map₂ (cutBy s p t c) (running-later s p from t l c e (p .bursts)) (g .bursts) (g .running)
 
   -- a write that is the last burst, after a command that gives none
-  still-standing : (c : Command) → among (READ ∷ WRITE ∷ []) c ≡ false → rule3 s p t c ≡ true → rule10 s p t c ≡ true → Standing (suc t) (partAfter s p t c)
+  still-standing : (c : Command) → among (READ ∷ WRITE ∷ []) c ≡ false → rule3 s p t c ≡ true → rule10 s p t c ≡ true → LastStays (suc t) (partAfter s p t c)
   still-standing c e k₃ k₁₀ =
       subst (FirstStays (suc t) (partAfter s p t c)) (sym none-given) (go (p .bursts) (g .bursts) (g .standing))
     where

@@ -4,7 +4,7 @@ pub mod Tests
 pub mod Clock
 pub mod Sleeping
 pub mod Bursts
-pub mod Standing
+pub mod LastWrite
 pub mod Rules
 pub mod Low
 pub mod Cut

@@ -16,11 +16,12 @@ use Rattle.reading.specs.Settings.{Settings, newer}
 use Rattle.reading.specs.RefreshClock.{clockAfterSleep}
 use Rattle.reading.specs.Sleep.{sleepAfter}
 use Rattle.reading.specs.Rules.{rule14}
-use Rattle.reading.specs.Commands.{ACTIVE, READ, WRITE, BURST-TERMINATE, PRECHARGE, AUTO-REFRESH, MODE-REGISTER-SET, NOP, DESELECT, Command, is}
+use Rattle.reading.specs.Commands.{Op, ACTIVE, READ, WRITE, BURST-TERMINATE, PRECHARGE, AUTO-REFRESH, MODE-REGISTER-SET, NOP, Command, is}
 use Rattle.reading.specs.Bursts.{Burst, reads, dataEnd, restsFrom}
 use Rattle.reading.specs.Part.{Part, Bank, openOn, idleFrom, cuts, cutBy, burstGiven, clockAfter, partAfter, bankWrite, lastBankWrite}
 use Rattle.reading.proofs.Laws.{both, either-way, lesser-low, lesser-add, later-low, later-high, later-add, later-first, later-second}
 use Rattle.reading.proofs.Cuts.{All, nil, cons, auto-uncut, spent-uncut}
+use Rattle.pins.proofs.Commands.{Quietly}
 use Rattle.deadlines.specs.Deadlines.{LAST, at, paceOf, overdueAfter, quietAfter, lowAfter, selfAfter, cutWrite, newWrite, plainWrite, autoWrite, restAfter, restAll}
 use Rattle.deadlines.specs.Deadlines.{activeAfter, readAfter, writeAfter, cutRead, closeAfter, closeAllAfter, refreshAfter, modeSetAfter}
 use Rattle.bridge.specs.Summary.{BankHeld, SleepHeld, Held, Timed, laid, summary, bankHeld, writeHeld, sleepHeld, from, ended, cleared, lastOf, writerOf}
@@ -29,8 +30,8 @@ use Rattle.bridge.proofs.Laid.{onBank, activated, shut, writtenTill, au
 use Rattle.bridge.proofs.Bursts.{uncut, calm, read-calm, rests-stay, find-same, find-map, held-cut, Given, Running, first, all-spent, Late, nothing, behind, Over, held-over}
 use Rattle.bridge.proofs.Bursts.{find-all, find-holds}
 use Rattle.bridge.proofs.Cut.{cut-until, Latency, same-latency, same-last}
-use Rattle.bridge.proofs.Standing.{Standing}
-use Rattle.bridge.proofs.Rules.{does, doesLow}
+use Rattle.bridge.proofs.LastWrite.{LastStays}
+use Rattle.bridge.proofs.Rules.{does, doesLow, as-nop}
 use Rattle.bridge.proofs.Sleeping.{slept, stays-laid, quiet-laid, low-laid, self-laid, refresh-laid}
 
 abbrev pub Before : ℕ → Option ℕ → Type 0
@@ -44,7 +45,7 @@ pub record Sound (from : ℕ) (p : Part) : Type 0 where
   pub late : Late from (p .bursts)
   pub latency : Latency from (p .mode) (find reads (p .bursts))
   pub running : All (Running from (p .banks) (p .bursts)) (p .bursts)
-  pub standing : Standing from p
+  pub standing : LastStays from p
 
 map-same : (f : Burst → Burst) → ((x : Burst) → f x ≡ x) → (xs : List Burst) → map f xs ≡ xs
 map-same f e [] = refl
@@ -96,25 +97,18 @@ module _ (s : Settings) (p : Part) (from₀ t : ℕ) (l : from₀ ≤ t) (g : So
   abbrev sleepy : Command → SleepHeld
   sleepy c = sleepHeld s (clockAfter s t c (p .sleep) (p .clock)) (sleepAfter t c (p .sleep))
 
-  pub quiet-next : (b a : ℕ) (ten : Bool) → Timed s t → rule14 s p t (does NOP b a ten) ≡ true → laid (after (does NOP b a ten)) ≡ quietAfter s (laid X) t
-  quiet-next b a ten early k =
-      ap (λ (y : Held). laid (slept (sleepy (does NOP b a ten)) y)) (unchanged (does NOP b a ten) (λ x. either-way (x .writes) false) refl refl)
+  pub quiet-next : {o : Op} → Quietly o → (b a : ℕ) (ten : Bool) → Timed s t → rule14 s p t (does o b a ten) ≡ true →
+      laid (after (does o b a ten)) ≡ quietAfter s (laid X) t
+  quiet-next q b a ten early k =
+      as-nop (λ o. laid (after (does o b a ten))) q refl
+      ∙ ap (λ (y : Held). laid (slept (sleepy (does NOP b a ten)) y)) (unchanged (does NOP b a ten) (λ x. either-way (x .writes) false) refl refl)
       ∙ quiet-laid s t (p .clock) early (p .sleep .asleep) (p .sleep .self) (p .sleep .left) X k
 
-  pub deselect-next : (b a : ℕ) (ten : Bool) → Timed s t → rule14 s p t (does DESELECT b a ten) ≡ true → laid (after (does DESELECT b a ten)) ≡ quietAfter s (laid X) t
-  deselect-next b a ten early k =
-      ap (λ (y : Held). laid (slept (sleepy (does DESELECT b a ten)) y)) (unchanged (does DESELECT b a ten) (λ x. either-way (x .writes) false) refl refl)
-      ∙ quiet-laid s t (p .clock) early (p .sleep .asleep) (p .sleep .self) (p .sleep .left) X k
-
-  pub low-next : (b a : ℕ) (ten : Bool) → Timed s t → rule14 s p t (doesLow NOP b a ten) ≡ true → laid (after (doesLow NOP b a ten)) ≡ lowAfter (laid X) t
-  low-next b a ten early k =
-      ap (λ (y : Held). laid (slept (sleepy (doesLow NOP b a ten)) y)) (unchanged (doesLow NOP b a ten) (λ x. either-way (x .writes) false) refl refl)
-      ∙ low-laid s t (p .clock) early (p .sleep .asleep) (p .sleep .self) (p .sleep .left) X k
-
-  pub low-deselect-next : (b a : ℕ) (ten : Bool) → Timed s t → rule14 s p t (doesLow DESELECT b a ten) ≡ true →
-      laid (after (doesLow DESELECT b a ten)) ≡ lowAfter (laid X) t
-  low-deselect-next b a ten early k =
-      ap (λ (y : Held). laid (slept (sleepy (doesLow DESELECT b a ten)) y)) (unchanged (doesLow DESELECT b a ten) (λ x. either-way (x .writes) false) refl refl)
+  pub low-next : {o : Op} → Quietly o → (b a : ℕ) (ten : Bool) → Timed s t → rule14 s p t (doesLow o b a ten) ≡ true →
+      laid (after (doesLow o b a ten)) ≡ lowAfter (laid X) t
+  low-next q b a ten early k =
+      as-nop (λ o. laid (after (doesLow o b a ten))) q refl
+      ∙ ap (λ (y : Held). laid (slept (sleepy (doesLow NOP b a ten)) y)) (unchanged (doesLow NOP b a ten) (λ x. either-way (x .writes) false) refl refl)
       ∙ low-laid s t (p .clock) early (p .sleep .asleep) (p .sleep .self) (p .sleep .left) X k
 
   pub self-next : (b a : ℕ) (ten : Bool) → p .sleep .asleep ≡ false → laid (after (doesLow AUTO-REFRESH b a ten)) ≡ selfAfter (laid X)

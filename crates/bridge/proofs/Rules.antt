@@ -1,7 +1,7 @@
 -- The lowest broken rule of a part is the one that its deadlines show.
 use Prim.Native.Nat.{ℕ, zero, suc, _+_, _≤_, _<_}
 use mathlib.Core.Bool.{Bool, true, false, cond, not, _&&_, _||_, or-false, and-false, and-true}
-use mathlib.Core.Path.{_≡_, refl}
+use mathlib.Core.Path.{_≡_, refl, _∙_}
 use native.Mathlib.Nat.{mod-eq-of-lt}
 use native.Mathlib.Omega.{arith}
 use lib.Dec.{leb, eqb}
@@ -15,11 +15,12 @@ use Rattle.reading.specs.Rules.{everyBank, rules, lowestBroken}
 use Rattle.reading.proofs.Cuts.{All}
 use Rattle.deadlines.specs.Deadlines.{unmet, quietBreaks, activeBreaks, readBreaks, writeBreaks, terminateBreaks, closeBreaks, closeAllBreaks, refreshBreaks, modeBreaks}
 use Rattle.deadlines.proofs.Waits.{both, unasked}
+use Rattle.pins.proofs.Commands.{Quietly, nop, deselect}
 use Rattle.bridge.specs.Summary.{Timed, heldBy, laid, summary}
 use Rattle.bridge.proofs.Laid.{stands}
 use Rattle.bridge.proofs.Tests.{num, num-cond, after-is, ended-is, cleared-is, leb-later, held-is, open-is, shut-is, closing-is}
 use Rattle.bridge.proofs.Bursts.{Given, Late, terminate-is}
-use Rattle.bridge.proofs.Standing.{Standing, taken-is}
+use Rattle.bridge.proofs.LastWrite.{LastStays, taken-is}
 use Rattle.bridge.proofs.Sleeping.{quiet-is, last-is}
 
 -- the banks that a PRECHARGE names
@@ -51,12 +52,14 @@ doesLow o b a ten = record { op = o; bank = b; address = a; A10 = ten; low = tru
 abbrev pub says : Settings → Part → ℕ → Op → ℕ → ℕ → Bool → ℕ
 says s p t o b a ten = num (lowestBroken rules s p t (does o b a ten))
 
-module _ (s : Settings) (p : Part) (t : ℕ) (timed : Timed s t) where
-  pub quiet : (b a : ℕ) (ten : Bool) → says s p t NOP b a ten ≡ quietBreaks (laid (summary s p)) t
-  quiet b a ten = simp num-cond (quiet-is s (p .clock) (p .sleep) t timed)
+-- what is worked out alike of DESELECT and of NOP needs a proof for NOP alone
+pub as-nop : {A : Type 0} (f : Op → A) {o : Op} → Quietly o → f DESELECT ≡ f NOP → f o ≡ f NOP
+as-nop f nop e = refl
+as-nop f deselect e = e
 
-  pub deselect : (b a : ℕ) (ten : Bool) → says s p t DESELECT b a ten ≡ quietBreaks (laid (summary s p)) t
-  deselect b a ten = simp num-cond (quiet-is s (p .clock) (p .sleep) t timed)
+module _ (s : Settings) (p : Part) (t : ℕ) (timed : Timed s t) where
+  pub quiet-agrees : {o : Op} → Quietly o → (b a : ℕ) (ten : Bool) → says s p t o b a ten ≡ quietBreaks (laid (summary s p)) t
+  quiet-agrees {o} q b a ten = as-nop (λ y. says s p t y b a ten) q refl ∙ simp num-cond (quiet-is s (p .clock) (p .sleep) t timed)
 
   pub read-agrees : (b a : ℕ) (ten : Bool) → b < 4 → says s p t READ b a ten ≡ readBreaks (laid (summary s p)) t b
   unfolding readBreaks unmet
@@ -78,7 +81,7 @@ module _ (s : Settings) (p : Part) (t : ℕ) (timed : Timed s t) where
       (rw (last-is s (p .clock) (p .sleep) t timed, at-bank .opened, at-bank .rest, open-is (p .banks b .opened), mod-eq-of-lt w)
       (simp (leb-later, after-is, unasked, both)))
 
-  pub terminate-agrees : (b a : ℕ) (ten : Bool) (from : ℕ) → from ≤ t → All (Given from) (p .bursts) → Late from (p .bursts) → Standing from p →
+  pub terminate-agrees : (b a : ℕ) (ten : Bool) (from : ℕ) → from ≤ t → All (Given from) (p .bursts) → Late from (p .bursts) → LastStays from p →
       says s p t BURST-TERMINATE b a ten ≡ terminateBreaks (laid (summary s p)) t
   unfolding terminateBreaks
   terminate-agrees b a ten from l g e y =

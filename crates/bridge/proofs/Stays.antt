@@ -18,7 +18,7 @@ use Rattle.reading.proofs.Laws.{both, every-bank}
 use Rattle.reading.proofs.Cuts.{All, cut-lowers, auto-uncut}
 use Rattle.bridge.proofs.Bursts.{Given, uncut, find-map}
 use Rattle.bridge.proofs.Cut.{interrupted-until}
-use Rattle.bridge.proofs.Standing.{Stays, auto, unshut, shut}
+use Rattle.bridge.proofs.LastWrite.{Stays, auto, unshut, shut}
 use Rattle.bridge.proofs.Next.{fresh}
 
 module _ (s : Settings) (p : Part) (from t : ℕ) (l : from ≤ t) (c : Command) (e : among (READ ∷ WRITE ∷ []) c ≡ false)

@@ -1,33 +1,36 @@
 -- One event: the step answers by the summary what the reading answers by the part, and leaves the next summary.
-use Prim.Native.Nat.{ℕ, zero, suc, _*_, _%_, _≤_, _<_}
+use Prim.Native.Nat.{ℕ, suc, _≤_, _<_}
 use mathlib.Core.Bool.{Bool, true, false, cond, not, _&&_}
-use mathlib.Core.List.{List, _∷_, List·Memᴰ}
-use mathlib.Core.Option.{none}
+use mathlib.Core.List.{List, [], _∷_}
+use mathlib.Core.Option.{none, some}
 use mathlib.Core.Path.{_≡_, refl, sym, ap, _∙_, subst}
 use native.Mathlib.Nat.{zero-add}
 use native.Mathlib.Omega.{arith}
 use lib.Dec.{leb, eqb}
-use borrow.Author.Tests.{leb-true, eqb-false, not-false}
+use borrow.Author.Tests.{leb-true, eqb-false}
 use Rattle.reading.specs.Search.{find, after}
 use Rattle.reading.specs.Settings.{Settings}
-use Rattle.reading.specs.Commands.{Op, is, quiet as quietly, ACTIVE, READ, WRITE, BURST-TERMINATE, PRECHARGE, AUTO-REFRESH, MODE-REGISTER-SET, NOP, DESELECT, Command, opOf, commandOf}
+use Rattle.reading.specs.Commands.{Op, is, among, quiet, ACTIVE, READ, WRITE, BURST-TERMINATE, PRECHARGE, AUTO-REFRESH, MODE-REGISTER-SET, Command, opOf, commandOf}
 use Rattle.reading.specs.Bursts.{reads}
 use Rattle.reading.specs.Part.{Part, start, partAfter}
 use Rattle.reading.specs.Rules.{keepsRule, rules, lowestBroken}
 use Rattle.reading.proofs.Laws.{both}
 use Rattle.reading.proofs.Cuts.{nil}
-use Rattle.reading.proofs.Found.{find-none}
+use Rattle.reading.proofs.Found.{listed}
+use Rattle.reading.proofs.Meaning.{each-kept}
 use Rattle.deadlines.specs.Deadlines.{paceOf, startOf, closeBreaks, closeAllBreaks}
 use Rattle.pins.specs.Pins.{codeOf, bankOf, addressOf, tenOf, lowOf, quietCode}
-use Rattle.steps.specs.Steps.{unlessLower, highBreaks, Quiet, stepBreaks, stepAfter, paceAfter}
+use Rattle.steps.specs.Steps.{unlessLower, highBreaks, stepBreaks, stepAfter, paceAfter}
 use Rattle.steps.proofs.Codes as codes
+use Rattle.steps.proofs.Codes.{Coded, is-active, is-read, is-write, is-close, is-terminate, is-refresh, is-mode-set, is-quiet, coded}
 use Rattle.pins.proofs.Pins.{turned, op-is}
+use Rattle.pins.proofs.Commands.{Quietly, asks-quietly}
 use Rattle.bridge.specs.Summary.{Held, Timed, laid, summary, from}
 use Rattle.bridge.proofs.Tests.{num, after-is, leb-later, held-is, cleared-is}
 use Rattle.bridge.proofs.Bursts.{terminate-is, nothing}
-use Rattle.bridge.proofs.Rules.{does, doesLow, says, quiet, deselect, read-agrees, write-agrees, active-agrees, terminate-agrees, close-agrees, close-all-agrees, refresh-agrees, mode-agrees}
-use Rattle.bridge.proofs.Next.{Sound, quiet-next, deselect-next, low-next, low-deselect-next, self-next, refresh-next, mode-next, active-next, read-next, write-next, terminate-next, close-next, close-all-next}
-use Rattle.bridge.proofs.Low.{command-agrees, low-agrees, low-deselect-agrees, self-agrees}
+use Rattle.bridge.proofs.Rules.{does, doesLow, says, as-nop, quiet-agrees, read-agrees, write-agrees, active-agrees, terminate-agrees, close-agrees, close-all-agrees, refresh-agrees, mode-agrees}
+use Rattle.bridge.proofs.Next.{Sound, quiet-next, low-next, self-next, refresh-next, mode-next, active-next, read-next, write-next, terminate-next, close-next, close-all-next}
+use Rattle.bridge.proofs.Low.{command-agrees, low-agrees, self-agrees}
 use Rattle.bridge.proofs.Kept.{kept-plain, kept-mode, kept-read, kept-write}
 
 carries : (w q : ℕ) (v : Bool) → lowOf w ≡ v → codeOf w ≡ q →
@@ -56,38 +59,13 @@ module _ (s : Settings) (wide : s .rowBits < 32) (p : Part) (from₀ t : ℕ) (l
     pub onward : lowestBroken rules s p t c ≡ none → Onward c
 
   -- a rule that an unbroken event keeps
-  kept : (c : Command) → lowestBroken rules s p t c ≡ none → (r : ℕ) → List·Memᴰ r rules → keepsRule r s p t c ≡ true
-  kept c e r m = not-false (keepsRule r s p t c) (find-none (λ q. not (keepsRule q s p t c)) rules e r m)
+  kept : (c : Command) → lowestBroken rules s p t c ≡ none → (r : ℕ) → find (eqb r) rules ≡ some r → keepsRule r s p t c ≡ true
+  kept c e r m = each-kept rules s p t c e r (listed r rules m)
 
-  abbrev here : {r : ℕ} {rs : List ℕ} → List·Memᴰ r (r ∷ rs)
-  here = List·Memᴰ.List·Memᴰ·head refl
-
-  abbrev there : {r q : ℕ} {rs : List ℕ} → List·Memᴰ r rs → List·Memᴰ r (q ∷ rs)
-  there m = List·Memᴰ.List·Memᴰ·tail m
-
-  third : List·Memᴰ 3 rules
-  third = there (there here)
-
-  fourth : List·Memᴰ 4 rules
-  fourth = there (there (there here))
-
-  tenth : List·Memᴰ 10 rules
-  tenth = there (there (there (there (there (there (there (there here)))))))
-
-  eleventh : List·Memᴰ 11 rules
-  eleventh = there (there (there (there (there (there (there (there (there here))))))))
-
-  twelfth : List·Memᴰ 12 rules
-  twelfth = there (there (there (there (there (there (there (there (there (there here)))))))))
-
-  thirteenth : List·Memᴰ 13 rules
-  thirteenth = there (there (there (there (there (there (there (there (there (there (there here))))))))))
-
-  fourteenth : List·Memᴰ 14 rules
-  fourteenth = there (there (there (there (there (there (there (there (there (there (there (there here)))))))))))
-
-  fifteenth : List·Memᴰ 15 rules
-  fifteenth = there (there (there (there (there (there (there (there (there (there (there (there (there here))))))))))))
+  -- what is left is sound, after a command that gives no burst and leaves the mode
+  plain : (c : Command) → among (READ ∷ WRITE ∷ []) c ≡ false → is MODE-REGISTER-SET c ≡ false → lowestBroken rules s p t c ≡ none →
+      Sound (suc t) (partAfter s p t c)
+  plain c e m z = kept-plain s p from₀ t l g c e m (kept c z 3 refl) (kept c z 10 refl)
 
   -- a command that waits comes awake
   awake : (v : Bool) → cond (p .sleep .asleep) false v ≡ true → p .sleep .asleep ≡ false
@@ -108,15 +86,18 @@ module _ (s : Settings) (wide : s .rowBits < 32) (p : Part) (from₀ t : ℕ) (l
   both-after e = busy-past (rw (after-is (s .tRFC) (p .lastRefresh) t, after-is (s .tMRD) (p .lastModeSet) t) at e)
 
   -- a command by its pins, once its laws are in hand
-  turn : (q : ℕ) (c : Command) → commandOf w ≡ c → {rule : ℕ} {left pace : List ℕ} → codes.Does s (laid X) (paceOf (p .mode)) t w rule left pace →
+  turn : (c : Command) → commandOf w ≡ c → {rule : ℕ} {left pace : List ℕ} → codes.Does s (laid X) (paceOf (p .mode)) t w rule left pace →
       num (lowestBroken rules s p t c) ≡ rule → (lowestBroken rules s p t c ≡ none → laid (summary s (partAfter s p t c)) ≡ left) →
       pace ≡ paceOf (partAfter s p t c .mode) → (lowestBroken rules s p t c ≡ none → Sound (suc t) (partAfter s p t c)) → Turned (commandOf w)
-  turn q c e d agrees next pace sound =
+  turn c e d agrees next pace sound =
       subst (λ (k : Command). Turned k) (sym e)
       (record {
         breaks = d .breaks ∙ sym agrees;
         onward = λ z. record { leaves = d .leaves ∙ sym (next z); sets = d .sets ∙ pace; sound = sound z };
       })
+
+  carried : {v : Bool} → lowOf w ≡ v → commandOf w ≡ record { op = commandOf w .op; bank = bankOf w; address = addressOf w; A10 = tenOf w; low = v }
+  carried n = λ i. record { op = commandOf w .op; bank = bankOf w; address = addressOf w; A10 = tenOf w; low = n i }
 
   b : ℕ
   b = bankOf w
@@ -134,16 +115,16 @@ module _ (s : Settings) (wide : s .rowBits < 32) (p : Part) (from₀ t : ℕ) (l
   turn-active : lowOf w ≡ false → codeOf w ≡ 12 → Turned (commandOf w)
   unfolding b a ten
   turn-active n e =
-      turn 12 (does ACTIVE b a ten) (carries w 12 false n e) (codes.active s (laid X) (paceOf (p .mode)) t w refl refl n e) (active-agrees s p t timed b a ten small wide)
-      (λ z. active-next s p from₀ t l g (awake _ (kept (does ACTIVE b a ten) z 15 fifteenth)) b a ten small) refl
-      (λ z. kept-plain s p from₀ t l g (does ACTIVE b a ten) refl refl (kept (does ACTIVE b a ten) z 3 third) (kept (does ACTIVE b a ten) z 10 tenth))
+      turn (does ACTIVE b a ten) (carries w 12 false n e) (codes.active s (laid X) (paceOf (p .mode)) t w refl refl n e) (active-agrees s p t timed b a ten small wide)
+      (λ z. active-next s p from₀ t l g (awake _ (kept (does ACTIVE b a ten) z 15 refl)) b a ten small) refl
+      (plain (does ACTIVE b a ten) refl refl)
 
   turn-read : lowOf w ≡ false → codeOf w ≡ 10 → Turned (commandOf w)
   unfolding b a ten
   turn-read n e =
-      turn 10 c (carries w 10 false n e) (codes.read s (laid X) (paceOf (p .mode)) t w refl refl n e) (read-agrees s p t timed b a ten small)
-      (λ z. read-next s p from₀ t l g (awake _ (kept c z 15 fifteenth)) b a ten small (leb-true (X .read .reads) t (sym (held-is reads t (p .bursts)) ∙ kept c z 13 thirteenth)))
-      refl (λ z. kept-read s p from₀ t l g b a ten small (kept c z 3 third) (kept c z 11 eleventh))
+      turn c (carries w 10 false n e) (codes.read s (laid X) (paceOf (p .mode)) t w refl refl n e) (read-agrees s p t timed b a ten small)
+      (λ z. read-next s p from₀ t l g (awake _ (kept c z 15 refl)) b a ten small (leb-true (X .read .reads) t (sym (held-is reads t (p .bursts)) ∙ kept c z 13 refl)))
+      refl (λ z. kept-read s p from₀ t l g b a ten small (kept c z 3 refl) (kept c z 11 refl))
     where
       c : Command
       c = does READ b a ten
@@ -151,17 +132,17 @@ module _ (s : Settings) (wide : s .rowBits < 32) (p : Part) (from₀ t : ℕ) (l
   turn-write : lowOf w ≡ false → codeOf w ≡ 2 → Turned (commandOf w)
   unfolding b a ten
   turn-write n e =
-      turn 2 c (carries w 2 false n e) (codes.write s (laid X) (paceOf (p .mode)) t w refl refl n e) (write-agrees s p t timed b a ten small)
-      (λ z. write-next s p from₀ t l g (awake _ (kept c z 15 fifteenth)) b a ten small (held z)) refl (λ z. kept-write s p from₀ t l g b a ten small (kept c z 3 third) (free z) (held z))
+      turn c (carries w 2 false n e) (codes.write s (laid X) (paceOf (p .mode)) t w refl refl n e) (write-agrees s p t timed b a ten small)
+      (λ z. write-next s p from₀ t l g (awake _ (kept c z 15 refl)) b a ten small (held z)) refl (λ z. kept-write s p from₀ t l g b a ten small (kept c z 3 refl) (free z) (held z))
     where
       c : Command
       c = does WRITE b a ten
 
       free : lowestBroken rules s p t c ≡ none → X .read .bus ≤ t
-      free z = leb-true (X .read .bus) t (sym (cleared-is (find reads (p .bursts)) t) ∙ kept c z 12 twelfth)
+      free z = leb-true (X .read .bus) t (sym (cleared-is (find reads (p .bursts)) t) ∙ kept c z 12 refl)
 
       held : lowestBroken rules s p t c ≡ none → X .write .writes ≤ t
-      held z = leb-true (X .write .writes) t (sym (held-is (λ x. x .writes) t (p .bursts)) ∙ kept c z 13 thirteenth)
+      held z = leb-true (X .write .writes) t (sym (held-is (λ x. x .writes) t (p .bursts)) ∙ kept c z 13 refl)
 
   turn-close : lowOf w ≡ false → codeOf w ≡ 4 → Turned (commandOf w)
   unfolding b a ten
@@ -169,19 +150,19 @@ module _ (s : Settings) (wide : s .rowBits < 32) (p : Part) (from₀ t : ℕ) (l
     where
       go : (v : Bool) → tenOf w ≡ v → Turned (commandOf w)
       go true f =
-          turn 4 (does PRECHARGE b a true) (carries w 4 false n e ∙ ap (does PRECHARGE b a) f) (codes.close-all s (laid X) (paceOf (p .mode)) t w n e f)
-          (close-all-agrees s p t timed b a) (λ z. close-all-next s p from₀ t l g (awake _ (kept (does PRECHARGE b a true) z 15 fifteenth)) b a) refl
-          (λ z. kept-plain s p from₀ t l g (does PRECHARGE b a true) refl refl (kept (does PRECHARGE b a true) z 3 third) (kept (does PRECHARGE b a true) z 10 tenth))
+          turn (does PRECHARGE b a true) (carries w 4 false n e ∙ ap (does PRECHARGE b a) f) (codes.close-all s (laid X) (paceOf (p .mode)) t w n e f)
+          (close-all-agrees s p t timed b a) (λ z. close-all-next s p from₀ t l g (awake _ (kept (does PRECHARGE b a true) z 15 refl)) b a) refl
+          (plain (does PRECHARGE b a true) refl refl)
       go false f =
-          turn 4 (does PRECHARGE b a false) (carries w 4 false n e ∙ ap (does PRECHARGE b a) f) (codes.close s (laid X) (paceOf (p .mode)) t w refl n e f)
-          (close-agrees s p t timed b a small) (λ z. close-next s p from₀ t l g (awake _ (kept (does PRECHARGE b a false) z 15 fifteenth)) b a small) refl
-          (λ z. kept-plain s p from₀ t l g (does PRECHARGE b a false) refl refl (kept (does PRECHARGE b a false) z 3 third) (kept (does PRECHARGE b a false) z 10 tenth))
+          turn (does PRECHARGE b a false) (carries w 4 false n e ∙ ap (does PRECHARGE b a) f) (codes.close s (laid X) (paceOf (p .mode)) t w refl n e f)
+          (close-agrees s p t timed b a small) (λ z. close-next s p from₀ t l g (awake _ (kept (does PRECHARGE b a false) z 15 refl)) b a small) refl
+          (plain (does PRECHARGE b a false) refl refl)
 
   turn-terminate : lowOf w ≡ false → codeOf w ≡ 6 → Turned (commandOf w)
   unfolding b a ten
   turn-terminate n e =
-      turn 6 c (carries w 6 false n e) (codes.terminate s (laid X) (paceOf (p .mode)) t w n e) (terminate-agrees s p t timed b a ten from₀ l (g .bursts) (g .late) (g .standing))
-      (λ z. terminate-next s p from₀ t l g (awake _ (kept c z 15 fifteenth)) b a ten (held z)) refl (λ z. kept-plain s p from₀ t l g c refl refl (kept c z 3 third) (kept c z 10 tenth))
+      turn c (carries w 6 false n e) (codes.terminate s (laid X) (paceOf (p .mode)) t w n e) (terminate-agrees s p t timed b a ten from₀ l (g .bursts) (g .late) (g .standing))
+      (λ z. terminate-next s p from₀ t l g (awake _ (kept c z 15 refl)) b a ten (held z)) refl (plain c refl refl)
     where
       c : Command
       c = does BURST-TERMINATE b a ten
@@ -189,14 +170,14 @@ module _ (s : Settings) (wide : s .rowBits < 32) (p : Part) (from₀ t : ℕ) (l
       held : lowestBroken rules s p t c ≡ none → X .read .reads ≤ t
       held z =
           leb-true (X .read .reads) t
-          (both (leb (X .read .reads) t) _ (sym (terminate-is from₀ t l (g .bursts) (g .late)) ∙ kept c z 13 thirteenth) .0)
+          (both (leb (X .read .reads) t) _ (sym (terminate-is from₀ t l (g .bursts) (g .late)) ∙ kept c z 13 refl) .0)
 
   turn-refresh : lowOf w ≡ false → codeOf w ≡ 8 → Turned (commandOf w)
   unfolding b a ten
   turn-refresh n e =
-      turn 8 c (carries w 8 false n e) (codes.refresh s (laid X) (paceOf (p .mode)) t w n e) (refresh-agrees s p t timed b a ten)
-      (λ z. refresh-next s p from₀ t l g (timed .ticks) (awake _ (kept c z 15 fifteenth)) b a ten (both-after (kept c z 4 fourth))) refl
-      (λ z. kept-plain s p from₀ t l g c refl refl (kept c z 3 third) (kept c z 10 tenth))
+      turn c (carries w 8 false n e) (codes.refresh s (laid X) (paceOf (p .mode)) t w n e) (refresh-agrees s p t timed b a ten)
+      (λ z. refresh-next s p from₀ t l g (timed .ticks) (awake _ (kept c z 15 refl)) b a ten (both-after (kept c z 4 refl))) refl
+      (plain c refl refl)
     where
       c : Command
       c = does AUTO-REFRESH b a ten
@@ -204,9 +185,9 @@ module _ (s : Settings) (wide : s .rowBits < 32) (p : Part) (from₀ t : ℕ) (l
   turn-mode : lowOf w ≡ false → codeOf w ≡ 0 → Turned (commandOf w)
   unfolding b a ten
   turn-mode n e =
-      turn 0 c (carries w 0 false n e) (codes.mode-set s (laid X) (paceOf (p .mode)) t w refl refl n e) (mode-agrees s p t timed b a ten)
-      (λ z. mode-next s p from₀ t l g (awake _ (kept c z 15 fifteenth)) b a ten (both-after (kept c z 4 fourth))) (which (eqb b 0))
-      (λ z. kept-mode s p from₀ t l g b a ten (leb-true (X .read .bus) t (sym (cleared-is (find reads (p .bursts)) t) ∙ kept c z 12 twelfth)) (kept c z 3 third))
+      turn c (carries w 0 false n e) (codes.mode-set s (laid X) (paceOf (p .mode)) t w refl refl n e) (mode-agrees s p t timed b a ten)
+      (λ z. mode-next s p from₀ t l g (awake _ (kept c z 15 refl)) b a ten (both-after (kept c z 4 refl))) (which (eqb b 0))
+      (λ z. kept-mode s p from₀ t l g b a ten (leb-true (X .read .bus) t (sym (cleared-is (find reads (p .bursts)) t) ∙ kept c z 12 refl)) (kept c z 3 refl))
     where
       c : Command
       c = does MODE-REGISTER-SET b a ten
@@ -215,72 +196,48 @@ module _ (s : Settings) (wide : s .rowBits < 32) (p : Part) (from₀ t : ℕ) (l
       which true = refl
       which false = refl
 
-  turn-quiet : lowOf w ≡ false → (q : ℕ) → codeOf w ≡ q → Quiet q → opOf (turned q) ≡ NOP → Turned (commandOf w)
+  -- NOP and DESELECT, which nothing tells apart
+  turn-quiet : lowOf w ≡ false → quietCode (codeOf w) ≡ true → Turned (commandOf w)
   unfolding b a ten
-  turn-quiet k q e n o =
-      turn q c (carries w q false k e ∙ ap (λ (y : Op). does y b a ten) o) (codes.quiet s (laid X) (paceOf (p .mode)) t w (sym e) k n) (quiet s p t timed b a ten)
-      (λ z. quiet-next s p from₀ t l g b a ten timed (kept c z 14 fourteenth)) refl (λ z. kept-plain s p from₀ t l g c refl refl (kept c z 3 third) (kept c z 10 tenth))
+  turn-quiet k n =
+      turn c (carried k) (codes.quiet s (laid X) (paceOf (p .mode)) t w refl k n) (quiet-agrees s p t timed q b a ten)
+      (λ z. quiet-next s p from₀ t l g q b a ten timed (kept c z 14 refl)) (sym (as-nop (λ y. paceOf (partAfter s p t (does y b a ten) .mode)) q refl))
+      (plain c (as-nop (λ y. among (READ ∷ WRITE ∷ []) (does y b a ten)) q refl) (as-nop (λ y. is MODE-REGISTER-SET (does y b a ten)) q refl))
     where
-      c : Command
-      c = does NOP b a ten
+      q : Quietly (commandOf w .op)
+      q = asks-quietly w n
 
-  turn-deselect : lowOf w ≡ false → (q : ℕ) → codeOf w ≡ q → Quiet q → opOf (turned q) ≡ DESELECT → Turned (commandOf w)
-  unfolding b a ten
-  turn-deselect k q e n o =
-      turn q c (carries w q false k e ∙ ap (λ (y : Op). does y b a ten) o) (codes.quiet s (laid X) (paceOf (p .mode)) t w (sym e) k n) (deselect s p t timed b a ten)
-      (λ z. deselect-next s p from₀ t l g b a ten timed (kept c z 14 fourteenth)) refl (λ z. kept-plain s p from₀ t l g c refl refl (kept c z 3 third) (kept c z 10 tenth))
-    where
       c : Command
-      c = does DESELECT b a ten
-
-  -- the seven commands have the even codes below 14
-  silent : (q : ℕ) → ((n : ℕ) → n < 7 → q ≡ 2 * n → ⊥) → Quiet q
-  silent q f =
-      record {
-        no-active = f 6 (omega arith);
-        no-read = f 5 (omega arith);
-        no-write = f 1 (omega arith);
-        no-close = f 2 (omega arith);
-        no-terminate = f 3 (omega arith);
-        no-refresh = f 4 (omega arith);
-        no-mode-set = f 0 (omega arith);
-      }
+      c = does (commandOf w .op) b a ten
 
   -- ---- with CKE low
 
-  turn-low-quiet : lowOf w ≡ true → (q : ℕ) → codeOf w ≡ q → Quiet q → opOf (turned q) ≡ NOP → Turned (commandOf w)
+  turn-low-quiet : lowOf w ≡ true → quietCode (codeOf w) ≡ true → Turned (commandOf w)
   unfolding b a ten
-  turn-low-quiet k q e n o =
-      turn q c (carries w q true k e ∙ ap (λ (y : Op). doesLow y b a ten) o) (codes.low-quiet s (laid X) (paceOf (p .mode)) t w (sym e) k n)
-      (low-agrees s p t timed from₀ l (g .bursts) (g .late) (g .standing) b a ten) (λ z. low-next s p from₀ t l g b a ten timed (kept c z 14 fourteenth)) refl
-      (λ z. kept-plain s p from₀ t l g c refl refl (kept c z 3 third) (kept c z 10 tenth))
+  turn-low-quiet k n =
+      turn c (carried k) (codes.low-quiet s (laid X) (paceOf (p .mode)) t w refl k n)
+      (low-agrees s p t timed from₀ l (g .bursts) (g .late) (g .standing) q b a ten)
+      (λ z. low-next s p from₀ t l g q b a ten timed (kept c z 14 refl)) (sym (as-nop (λ y. paceOf (partAfter s p t (doesLow y b a ten) .mode)) q refl))
+      (plain c (as-nop (λ y. among (READ ∷ WRITE ∷ []) (doesLow y b a ten)) q refl) (as-nop (λ y. is MODE-REGISTER-SET (doesLow y b a ten)) q refl))
     where
-      c : Command
-      c = doesLow NOP b a ten
+      q : Quietly (commandOf w .op)
+      q = asks-quietly w n
 
-  turn-low-deselect : lowOf w ≡ true → (q : ℕ) → codeOf w ≡ q → Quiet q → opOf (turned q) ≡ DESELECT →
-      Turned (commandOf w)
-  unfolding b a ten
-  turn-low-deselect k q e n o =
-      turn q c (carries w q true k e ∙ ap (λ (y : Op). doesLow y b a ten) o) (codes.low-quiet s (laid X) (paceOf (p .mode)) t w (sym e) k n)
-      (low-deselect-agrees s p t timed from₀ l (g .bursts) (g .late) (g .standing) b a ten) (λ z. low-deselect-next s p from₀ t l g b a ten timed (kept c z 14 fourteenth)) refl
-      (λ z. kept-plain s p from₀ t l g c refl refl (kept c z 3 third) (kept c z 10 tenth))
-    where
       c : Command
-      c = doesLow DESELECT b a ten
+      c = doesLow (commandOf w .op) b a ten
 
   turn-low-refresh : lowOf w ≡ true → codeOf w ≡ 8 → Turned (commandOf w)
   unfolding b a ten
   turn-low-refresh n e =
-      turn 8 c (carries w 8 true n e) (codes.low-refresh s (laid X) (paceOf (p .mode)) t w n e) (self-agrees s p t timed from₀ l (g .bursts) (g .late) (g .standing) b a ten)
-      (λ z. self-next s p from₀ t l g b a ten (awake _ (kept c z 15 fifteenth))) refl (λ z. kept-plain s p from₀ t l g c refl refl (kept c z 3 third) (kept c z 10 tenth))
+      turn c (carries w 8 true n e) (codes.low-refresh s (laid X) (paceOf (p .mode)) t w n e) (self-agrees s p t timed from₀ l (g .bursts) (g .late) (g .standing) b a ten)
+      (λ z. self-next s p from₀ t l g b a ten (awake _ (kept c z 15 refl))) refl (plain c refl refl)
     where
       c : Command
       c = doesLow AUTO-REFRESH b a ten
 
   -- any other command breaks a rule
   turn-low-command : (q : ℕ) (o : Op) → lowOf w ≡ true → codeOf w ≡ q → opOf (turned q) ≡ o → eqb q 8 ≡ false → quietCode q ≡ false →
-      quietly (does o b a ten) ≡ false → is AUTO-REFRESH (does o b a ten) ≡ false → highBreaks s (laid X) t w ≡ says s p t o b a ten → Turned (commandOf w)
+      quiet (does o b a ten) ≡ false → is AUTO-REFRESH (does o b a ten) ≡ false → highBreaks s (laid X) t w ≡ says s p t o b a ten → Turned (commandOf w)
   unfolding b a ten
   turn-low-command q o n e f g₁ g₂ h₁ h₂ agrees =
       subst (λ (k : Command). Turned k) (sym (carries w q true n e ∙ ap (λ (y : Op). doesLow y b a ten) f))
@@ -327,70 +284,34 @@ module _ (s : Settings) (wide : s .rowBits < 32) (p : Part) (from₀ t : ℕ) (l
       go true = sym (close-all-agrees s p t timed b a)
       go false = sym (close-agrees s p t timed b a small)
 
-  -- ---- every event: an odd code has CS# high
+  -- ---- every event
 
-  awake-event : lowOf w ≡ false → Turned (commandOf w)
-  awake-event n = go (codeOf w) refl (omega arith)
-    where
-      high : (q : ℕ) → codeOf w ≡ q → (q % 2 ≡ 1) → opOf (turned q) ≡ DESELECT → Turned (commandOf w)
-      high q e k o = turn-deselect n q e (silent q (λ m j f. omega arith)) o
+  awake-event : lowOf w ≡ false → Coded (codeOf w) → Turned (commandOf w)
+  awake-event n (is-active e) = turn-active n e
+  awake-event n (is-read e) = turn-read n e
+  awake-event n (is-write e) = turn-write n e
+  awake-event n (is-close e) = turn-close n e
+  awake-event n (is-terminate e) = turn-terminate n e
+  awake-event n (is-refresh e) = turn-refresh n e
+  awake-event n (is-mode-set e) = turn-mode n e
+  awake-event n (is-quiet e) = turn-quiet n e
 
-      quiet-14 : codeOf w ≡ 14 → Turned (commandOf w)
-      quiet-14 e = turn-quiet n 14 e (silent 14 (λ m j f. omega arith)) refl
-
-      go : (q : ℕ) → codeOf w ≡ q → q < 16 → Turned (commandOf w)
-      go zero e m = turn-mode n e
-      go (suc zero) e m = high 1 e refl refl
-      go (suc (suc zero)) e m = turn-write n e
-      go (suc (suc (suc zero))) e m = high 3 e refl refl
-      go (suc (suc (suc (suc zero)))) e m = turn-close n e
-      go (suc (suc (suc (suc (suc zero))))) e m = high 5 e refl refl
-      go (suc (suc (suc (suc (suc (suc zero)))))) e m = turn-terminate n e
-      go (suc (suc (suc (suc (suc (suc (suc zero))))))) e m = high 7 e refl refl
-      go (suc (suc (suc (suc (suc (suc (suc (suc zero)))))))) e m = turn-refresh n e
-      go (suc (suc (suc (suc (suc (suc (suc (suc (suc zero))))))))) e m = high 9 e refl refl
-      go (suc (suc (suc (suc (suc (suc (suc (suc (suc (suc zero)))))))))) e m = turn-read n e
-      go (suc (suc (suc (suc (suc (suc (suc (suc (suc (suc (suc zero))))))))))) e m = high 11 e refl refl
-      go (suc (suc (suc (suc (suc (suc (suc (suc (suc (suc (suc (suc zero)))))))))))) e m = turn-active n e
-      go (suc (suc (suc (suc (suc (suc (suc (suc (suc (suc (suc (suc (suc zero))))))))))))) e m = high 13 e refl refl
-      go (suc (suc (suc (suc (suc (suc (suc (suc (suc (suc (suc (suc (suc (suc zero)))))))))))))) e m = quiet-14 e
-      go (suc (suc (suc (suc (suc (suc (suc (suc (suc (suc (suc (suc (suc (suc (suc zero))))))))))))))) e m = high 15 e refl refl
-      go (suc (suc (suc (suc (suc (suc (suc (suc (suc (suc (suc (suc (suc (suc (suc (suc q)))))))))))))))) e m = absurd (omega arith)
-
-  low-event : lowOf w ≡ true → Turned (commandOf w)
-  low-event n = go (codeOf w) refl (omega arith)
-    where
-      low-high : (q : ℕ) → codeOf w ≡ q → (q % 2 ≡ 1) → opOf (turned q) ≡ DESELECT → Turned (commandOf w)
-      low-high q e k o = turn-low-deselect n q e (silent q (λ m j f. omega arith)) o
-
-      low-14 : codeOf w ≡ 14 → Turned (commandOf w)
-      low-14 e = turn-low-quiet n 14 e (silent 14 (λ m j f. omega arith)) refl
-
-      go : (q : ℕ) → codeOf w ≡ q → q < 16 → Turned (commandOf w)
-      go zero e m = turn-low-mode n e
-      go (suc zero) e m = low-high 1 e refl refl
-      go (suc (suc zero)) e m = turn-low-write n e
-      go (suc (suc (suc zero))) e m = low-high 3 e refl refl
-      go (suc (suc (suc (suc zero)))) e m = turn-low-close n e
-      go (suc (suc (suc (suc (suc zero))))) e m = low-high 5 e refl refl
-      go (suc (suc (suc (suc (suc (suc zero)))))) e m = turn-low-terminate n e
-      go (suc (suc (suc (suc (suc (suc (suc zero))))))) e m = low-high 7 e refl refl
-      go (suc (suc (suc (suc (suc (suc (suc (suc zero)))))))) e m = turn-low-refresh n e
-      go (suc (suc (suc (suc (suc (suc (suc (suc (suc zero))))))))) e m = low-high 9 e refl refl
-      go (suc (suc (suc (suc (suc (suc (suc (suc (suc (suc zero)))))))))) e m = turn-low-read n e
-      go (suc (suc (suc (suc (suc (suc (suc (suc (suc (suc (suc zero))))))))))) e m = low-high 11 e refl refl
-      go (suc (suc (suc (suc (suc (suc (suc (suc (suc (suc (suc (suc zero)))))))))))) e m = turn-low-active n e
-      go (suc (suc (suc (suc (suc (suc (suc (suc (suc (suc (suc (suc (suc zero))))))))))))) e m = low-high 13 e refl refl
-      go (suc (suc (suc (suc (suc (suc (suc (suc (suc (suc (suc (suc (suc (suc zero)))))))))))))) e m = low-14 e
-      go (suc (suc (suc (suc (suc (suc (suc (suc (suc (suc (suc (suc (suc (suc (suc zero))))))))))))))) e m = low-high 15 e refl refl
-      go (suc (suc (suc (suc (suc (suc (suc (suc (suc (suc (suc (suc (suc (suc (suc (suc q)))))))))))))))) e m = absurd (omega arith)
+  low-event : lowOf w ≡ true → Coded (codeOf w) → Turned (commandOf w)
+  low-event n (is-active e) = turn-low-active n e
+  low-event n (is-read e) = turn-low-read n e
+  low-event n (is-write e) = turn-low-write n e
+  low-event n (is-close e) = turn-low-close n e
+  low-event n (is-terminate e) = turn-low-terminate n e
+  low-event n (is-refresh e) = turn-low-refresh n e
+  low-event n (is-mode-set e) = turn-low-mode n e
+  low-event n (is-quiet e) = turn-low-quiet n e
 
   pub turned-event : Turned (commandOf w)
   turned-event = go (lowOf w) refl
     where
       go : (v : Bool) → lowOf w ≡ v → Turned (commandOf w)
-      go true n = low-event n
-      go false n = awake-event n
+      go true n = low-event n (coded (codeOf w))
+      go false n = awake-event n (coded (codeOf w))
 
 -- at the start
 pub start-laid : (s : Settings) → startOf s ≡ laid (summary s (start s))

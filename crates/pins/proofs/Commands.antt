@@ -1,6 +1,6 @@
 -- Which command a pin word carries, by the number of its command pins.
 use Prim.Native.Nat.{ℕ}
-use mathlib.Core.Bool.{Bool, true, false, not, _||_, or-false}
+use mathlib.Core.Bool.{Bool, true, false, not, _||_, or-false, false≢true}
 use mathlib.Core.List.{[], _∷_}
 use mathlib.Core.Option.{none}
 use mathlib.Core.Path.{_≡_, refl, sym, ap, _∙_}
@@ -8,9 +8,9 @@ use native.Mathlib.Omega.{arith}
 use borrow.Author.Tests.{not-false}
 use lib.Dec.{eqb}
 use Rattle.reading.specs.Search.{lowest}
-use Rattle.reading.specs.Commands.{Op, ACTIVE, READ, WRITE, BURST-TERMINATE, PRECHARGE, MODE-REGISTER-SET, code, opOf, commandOf, is, among}
+use Rattle.reading.specs.Commands.{Op, ACTIVE, READ, WRITE, BURST-TERMINATE, PRECHARGE, AUTO-REFRESH, MODE-REGISTER-SET, NOP, DESELECT, code, opOf, commandOf, is, among}
 use Rattle.words.proofs.Search.{none-below}
-use Rattle.pins.specs.Pins.{codeOf, gives}
+use Rattle.pins.specs.Pins.{codeOf, quietCode, gives}
 use Rattle.pins.proofs.Pins.{turned, op-is}
 
 same : Bool → Bool → Bool
@@ -60,3 +60,33 @@ module _ (w : ℕ) where
 
   pub gives-is : among (READ ∷ WRITE ∷ []) (commandOf w) ≡ gives w
   gives-is = λ i. read-is i || (or-false (is WRITE (commandOf w)) ∙ write-is) i
+
+-- ---- NOP and DESELECT
+
+quietOp : Op → Bool
+quietOp o = eqb (code NOP) (code o) || (eqb (code DESELECT) (code o) || false)
+
+pub data Quietly : Op → Type 0 where
+  nop : Quietly NOP
+  deselect : Quietly DESELECT
+
+quietly : (o : Op) → quietOp o ≡ true → Quietly o
+unfolding quietOp
+quietly NOP e = nop
+quietly DESELECT e = deselect
+quietly ACTIVE e = absurd (false≢true e)
+quietly READ e = absurd (false≢true e)
+quietly WRITE e = absurd (false≢true e)
+quietly BURST-TERMINATE e = absurd (false≢true e)
+quietly PRECHARGE e = absurd (false≢true e)
+quietly AUTO-REFRESH e = absurd (false≢true e)
+quietly MODE-REGISTER-SET e = absurd (false≢true e)
+
+-- the command pins of none of the seven ask for one of the two
+pub asks-quietly : (w : ℕ) → quietCode (codeOf w) ≡ true → Quietly (commandOf w .op)
+unfolding same quietOp
+asks-quietly w e =
+    quietly (commandOf w .op)
+    (ap quietOp (op-is w)
+    ∙ same-is _ _ (not-false _ (none-below (λ q. not (same (quietOp (opOf (turned q))) (quietCode q))) 16 refl (codeOf w) (omega arith)))
+    ∙ e)

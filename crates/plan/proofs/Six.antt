@@ -14,6 +14,7 @@ use Rattle.reading.specs.Commands.{commandOf}
 use Rattle.reading.specs.Rules.{everyBank, aboveSix, placing, placingWithSix}
 use Rattle.reading.specs.Schedule.{firstCell, cellBank, cellRow, requestFits, activePins, burstPins, closePins, closeAllPins, refreshPins, rowCommands}
 use Rattle.reading.specs.Schedule.{cutsNothing, goes, earliest, freeFrom, lastFrom, placed, send, sendAll, sendRequest, sendRefresh, refreshInTime, served, whenServed, scheduleFrom, scheduleBy}
+use Rattle.reading.proofs.Found.{listed}
 use Rattle.reading.proofs.Six.{same-passes}
 use Rattle.memory.specs.Serving.{EachFits}
 use Rattle.plan.specs.Behind.{partOf}
@@ -23,7 +24,7 @@ use Rattle.plan.proofs.Placed.{close-sent, close-all-sent}
 use Rattle.plan.proofs.Leading.{all-sent, rowed, request-is, requested, refreshed}
 
 pub ninth : List·Memᴰ 9 aboveSix
-ninth = List·Memᴰ.List·Memᴰ·tail (List·Memᴰ.List·Memᴰ·tail (List·Memᴰ.List·Memᴰ·head refl))
+ninth = listed 9 aboveSix refl
 
 module _ {s : Settings} (g : Ranged s) (short : Consistent s) where
   abbrev six : List ℕ

@@ -1,14 +1,16 @@
 -- What it means that a search finds something, or nothing.
 use Prim.Native.Nat.{ℕ, zero, suc, _+_, _≤_, _<_}
 use mathlib.Core.Bool.{Bool, true, false, cond}
-use mathlib.Core.List.{List, [], _∷_, List·Memᴰ, List·Memᴰ·not-nil, List·Memᴰ·cases-cons}
+use mathlib.Core.List.{List, [], _∷_, _++_, List·Memᴰ, List·Memᴰ·not-nil, List·Memᴰ·cases-cons}
 use mathlib.Core.Logic.{_⊎_, inl, inr}
 use mathlib.Core.Option.{none, some}
 use mathlib.Core.Path.{_≡_, refl, ap, _∙_}
 use native.Mathlib.Decide.{decLt}
 use native.Mathlib.Omega.{arith}
-use Rattle.reading.specs.Search.{find}
+use lib.Dec.{eqb}
+use Rattle.reading.specs.Search.{every, find, orElse}
 use Rattle.reading.specs.Schedule.{earliest}
+use Rattle.reading.proofs.Laws.{both}
 
 module _ {A : Type 0} (f : A → Bool) where
   -- nothing: the property fails throughout
@@ -38,6 +40,35 @@ module _ {A : Type 0} (f : A → Bool) where
       go : (b : Bool) → f y ≡ b → cond b (some y) (find f ys) ≡ some x → (find f ys ≡ some x → Has ys x) → Has (y ∷ ys) x
       go true e v ih = let p : x ≡ y = cc in record { member = List·Memᴰ.List·Memᴰ·head p; holds = ap f p ∙ e }
       go false e v ih = record { member = List·Memᴰ.List·Memᴰ·tail (ih v .member); holds = ih v .holds }
+
+  -- and it has whatever all have
+  pub found-as-all : (g : A → Bool) (xs : List A) → every g xs ≡ true → (x : A) → find f xs ≡ some x → g x ≡ true
+  found-as-all g [] a x h = let z : _≡_ {A = ℕ} 0 1 = cc in absurd (omega arith)
+  found-as-all g (y ∷ ys) a x h = go (f y) h (found-as-all g ys (both (g y) _ a .1) x)
+    where
+      go : (b : Bool) → cond b (some y) (find f ys) ≡ some x → (find f ys ≡ some x → g x ≡ true) → g x ≡ true
+      go true v ih = let p : x ≡ y = cc in ap g p ∙ both (g y) _ a .0
+      go false v ih = ih v
+
+  -- in two lists, one behind the other
+  pub find-append : (xs ys : List A) → find f (xs ++ ys) ≡ orElse (find f xs) (find f ys)
+  find-append [] ys = refl
+  find-append (x ∷ xs) ys = go (f x) (find-append xs ys)
+    where
+      go : (b : Bool) → find f (xs ++ ys) ≡ orElse (find f xs) (find f ys) →
+          cond b (some x) (find f (xs ++ ys)) ≡ orElse (cond b (some x) (find f xs)) (find f ys)
+      go true e = refl
+      go false e = e
+
+-- properties that agree on all of a list find the same
+pub same-found : {A : Type 0} (f g ok : A → Bool) → ((x : A) → ok x ≡ true → f x ≡ g x) → (xs : List A) → every ok xs ≡ true → find f xs ≡ find g xs
+same-found f g ok e [] a = refl
+same-found f g ok e (x ∷ xs) a =
+    λ i. cond (e x (both (ok x) _ a .0) i) (some x) (same-found f g ok e xs (both (ok x) _ a .1) i)
+
+-- a number that is found where it is looked for is in the list
+pub listed : (n : ℕ) (ns : List ℕ) → find (eqb n) ns ≡ some n → List·Memᴰ n ns
+listed n ns e = find-some (eqb n) ns n e .member
 
 -- ---- lists of numbers that rise
 

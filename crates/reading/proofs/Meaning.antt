@@ -11,13 +11,18 @@ use native.Mathlib.Nat.{zero-add, add-zero, add-suc, suc-add}
 use native.Mathlib.Omega.{arith}
 use Rattle.reading.specs.Settings.{Settings}
 use Rattle.reading.specs.Capture.{Event}
-use Rattle.reading.specs.Commands.{commandOf}
+use Rattle.reading.specs.Commands.{Command, commandOf}
 use Rattle.reading.specs.Part.{Part, start, step, run}
-use Rattle.reading.specs.Rules.{keepsRule, rules, brokenBy}
+use Rattle.reading.specs.Rules.{keepsRule, rules, lowestBroken, brokenBy}
 use Rattle.reading.specs.Verdict.{clean, broken, brokenOr, judgeFrom, verdictOf, judgedOf, judgeBy, verdictBy}
 use Rattle.reading.proofs.Found.{Rising, find-none, none-find, find-some, find-lowest, lowest-find}
 
 -- ---- one event: the rules by their numbers
+
+-- of some rules, none of which a command breaks, it keeps each
+pub each-kept : (rs : List ℕ) (s : Settings) (p : Part) (t : ℕ) (c : Command) → lowestBroken rs s p t c ≡ none →
+    (r : ℕ) → List·Memᴰ r rs → keepsRule r s p t c ≡ true
+each-kept rs s p t c e r m = not-false (keepsRule r s p t c) (find-none (λ q. not (keepsRule q s p t c)) rs e r m)
 
 -- an event breaks no rule
 abbrev pub Keeps : Settings → Part → Event → Type 0
@@ -39,7 +44,7 @@ module _ (s : Settings) (p : Part) (e : Event) where
   pub none-broken : brokenBy s p e ≡ none ↔ Keeps s p e
   unfolding bad
   none-broken = (
-    λ h r m. not-false (keepsRule r s p (e .cycle) (commandOf (e .pins))) (find-none bad rules h r m),
+    each-kept rules s p (e .cycle) (commandOf (e .pins)),
     λ k. none-find bad rules (λ r m. ap not (k r m)),
   )
 

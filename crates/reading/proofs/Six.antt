@@ -7,7 +7,7 @@ use mathlib.Core.Option.{Option, none, some}
 use mathlib.Core.Path.{_≡_, refl, ap, _∙_}
 use native.Mathlib.Omega.{arith}
 use lib.Dec.{eqb}
-use borrow.Author.Tests.{leb-true, le-leb, not-true, not-false}
+use borrow.Author.Tests.{leb-true, le-leb, not-true}
 use Rattle.reading.specs.Search.{implies, every, find, after, orZero, later}
 use Rattle.reading.specs.Mode.{h}
 use Rattle.reading.specs.Settings.{Settings, Consistent}
@@ -16,7 +16,8 @@ use Rattle.reading.specs.Commands.{Command, ACTIVE, READ, WRITE, is, amo
 use Rattle.reading.specs.Part.{Bank, Part, start, step, openOn, idleFrom, autoPrecharge, closes, bankAfter, partAfter}
 use Rattle.reading.specs.Rules.{belowSix, keepsRule, rule3, rule5, rule6, rule9, lowestBroken}
 use Rattle.reading.proofs.Laws.{both, every-bank, later-first}
-use Rattle.reading.proofs.Found.{find-none}
+use Rattle.reading.proofs.Found.{listed}
+use Rattle.reading.proofs.Meaning.{each-kept}
 use Rattle.reading.specs.Schedule.{passes}
 use Rattle.reading.specs.Verdict.{judgeBy, brokenOr}
 
@@ -45,12 +46,6 @@ left-unasked f (y ∷ before) x behind h = go (f y) h (left-unasked f before x b
         b && every f (before ++ x ∷ behind) ≡ b && every f (before ++ behind)
     go false g rest = refl
     go true g rest = rest g
-
-third : List·Memᴰ 3 belowSix
-third = List·Memᴰ.List·Memᴰ·tail (List·Memᴰ.List·Memᴰ·tail (List·Memᴰ.List·Memᴰ·head refl))
-
-fifth : List·Memᴰ 5 belowSix
-fifth = List·Memᴰ.List·Memᴰ·tail (List·Memᴰ.List·Memᴰ·tail (List·Memᴰ.List·Memᴰ·tail (List·Memᴰ.List·Memᴰ·tail (List·Memᴰ.List·Memᴰ·head refl))))
 
 module _ (s : Settings) where
   -- ---- a bank
@@ -130,14 +125,12 @@ module _ (s : Settings) where
         abbrev breaks : ℕ → Bool
         breaks r = not (keepsRule r s p t (commandOf w))
 
-        kept : (rs : List ℕ) → find breaks rs ≡ none → (r : ℕ) → List·Memᴰ r rs → keepsRule r s p t (commandOf w) ≡ true
-        kept rs e r m = not-false (keepsRule r s p t (commandOf w)) (find-none breaks rs e r m)
-
         same-lowest : lowestBroken asked-with-six s p t (commandOf w) ≡ lowestBroken asked s p t (commandOf w)
         same-lowest =
             left-out breaks belowSix 6 behind
             (λ e.
-            ap not (six-kept p t (commandOf w) (omega arith) rest (kept belowSix e 3 third) (kept belowSix e 5 fifth)))
+            let kept = each-kept belowSix s p t (commandOf w) e in
+            ap not (six-kept p t (commandOf w) (omega arith) rest (kept 3 (listed 3 belowSix refl)) (kept 5 (listed 5 belowSix refl))))
 
         -- so do those that pass a command of a schedule
         pub same-passes : passes asked-with-six s p w t ≡ passes asked s p w t
@@ -152,7 +145,7 @@ module _ (s : Settings) where
             (both (keeps 5) _ (both (keeps 4) _ behind-three .1) .0))
 
         rest-on : lowestBroken asked s p t (commandOf w) ≡ none → Rest (partAfter s p t (commandOf w))
-        rest-on e = next-rest p t (commandOf w) (kept asked e 9 (Memᴰ·append-right belowSix nine)) rest
+        rest-on e = next-rest p t (commandOf w) (each-kept asked s p t (commandOf w) e 9 (Memᴰ·append-right belowSix nine)) rest
 
       pub same-judged : (p : Part) → Rest p → (i : ℕ) (es : List Event) → judgeBy asked-with-six s p i es ≡ judgeBy asked s p i es
       unfolding judgeBy

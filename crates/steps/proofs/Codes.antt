@@ -1,15 +1,49 @@
 -- A step does what its command does: one law for each way that the four command pins, and CKE, can stand.
 use Prim.Native.Nat.{ℕ}
-use mathlib.Core.Bool.{Bool, true, false, cond}
+use mathlib.Core.Bool.{Bool, true, false, cond, false≢true}
 use mathlib.Core.List.{List}
-use mathlib.Core.Path.{_≡_, refl}
+use mathlib.Core.Path.{_≡_, refl, sym, ap, _∙_}
 use lib.Dec.{eqb}
-use borrow.Author.Tests.{ne-eqb}
+use borrow.Author.Tests.{eqb-true}
 use Rattle.reading.specs.Settings.{Settings}
+use Rattle.reading.proofs.Laws.{either-way}
 use Rattle.deadlines.specs.Deadlines.{quietBreaks, lowBreaks, selfBreaks, activeBreaks, readBreaks, writeBreaks, terminateBreaks, closeBreaks, closeAllBreaks, refreshBreaks, modeBreaks}
 use Rattle.deadlines.specs.Deadlines.{paceOf, quietAfter, lowAfter, selfAfter, activeAfter, readAfter, writeAfter, cutRead, closeAfter, closeAllAfter, refreshAfter, modeSetAfter}
 use Rattle.pins.specs.Pins.{codeOf, bankOf, addressOf, tenOf, lowOf, quietCode}
-use Rattle.steps.specs.Steps.{leftBy, unlessLower, highBreaks, Quiet, stepBreaks, stepAfter, paceAfter}
+use Rattle.steps.specs.Steps.{leftBy, unlessLower, highBreaks, stepBreaks, stepAfter, paceAfter}
+
+-- ---- the command pins by their number
+
+-- one of the seven commands, or NOP or DESELECT
+pub data Coded (q : ℕ) : Type 0 where
+  is-active : q ≡ 12 → Coded q
+  is-read : q ≡ 10 → Coded q
+  is-write : q ≡ 2 → Coded q
+  is-close : q ≡ 4 → Coded q
+  is-terminate : q ≡ 6 → Coded q
+  is-refresh : q ≡ 8 → Coded q
+  is-mode-set : q ≡ 0 → Coded q
+  is-quiet : quietCode q ≡ true → Coded q
+
+pub coded : (q : ℕ) → Coded q
+coded q =
+    either 12 is-active (λ a. either 10 is-read (λ b. either 2 is-write (λ c. either 4 is-close (λ d. either 6 is-terminate
+    (λ e. either 8 is-refresh (λ f. either 0 is-mode-set (λ g. is-quiet (rw (a, b, c, d, e, f, g)))))))))
+  where
+    either : (k : ℕ) → (q ≡ k → Coded q) → (eqb q k ≡ false → Coded q) → Coded q
+    either k this others = go (eqb q k) refl
+      where
+        go : (v : Bool) → eqb q k ≡ v → Coded q
+        go true e = this (eqb-true q k e)
+        go false e = others e
+
+-- NOP and DESELECT have none of the numbers of the seven
+pub quiet-not : (q k : ℕ) → quietCode k ≡ false → quietCode q ≡ true → eqb q k ≡ false
+quiet-not q k f n = go (eqb q k) refl
+  where
+    go : (v : Bool) → eqb q k ≡ v → v ≡ false
+    go true e = absurd (false≢true (sym (ap quietCode (eqb-true q k e) ∙ f) ∙ n))
+    go false e = refl
 
 module _ (s : Settings) (d m : List ℕ) (t w : ℕ) where
   -- which rule a step breaks, the deadlines after it, and h and CL
@@ -53,16 +87,16 @@ module _ (s : Settings) (d m : List ℕ) (t w : ℕ) where
   unfolding stepBreaks stepAfter paceAfter
   mode-set f g n e = record { breaks = rw (f, g, n, e); leaves = rw (n, e); sets = rw (f, g, e) }
 
-  pub quiet : {q : ℕ} → q ≡ codeOf w → lowOf w ≡ false → Quiet q → Does (quietBreaks d t) (quietAfter s d t) m
+  pub quiet : {q : ℕ} → q ≡ codeOf w → lowOf w ≡ false → quietCode q ≡ true → Does (quietBreaks d t) (quietAfter s d t) m
   unfolding stepBreaks stepAfter paceAfter
   quiet {q} e l n =
-      let e₁ = ne-eqb q 12 (n .no-active) in
-      let e₂ = ne-eqb q 10 (n .no-read) in
-      let e₃ = ne-eqb q 2 (n .no-write) in
-      let e₄ = ne-eqb q 4 (n .no-close) in
-      let e₅ = ne-eqb q 6 (n .no-terminate) in
-      let e₆ = ne-eqb q 8 (n .no-refresh) in
-      let e₇ = ne-eqb q 0 (n .no-mode-set) in
+      let e₁ = quiet-not q 12 refl n in
+      let e₂ = quiet-not q 10 refl n in
+      let e₃ = quiet-not q 2 refl n in
+      let e₄ = quiet-not q 4 refl n in
+      let e₅ = quiet-not q 6 refl n in
+      let e₆ = quiet-not q 8 refl n in
+      let e₇ = quiet-not q 0 refl n in
       record {
         breaks = rw (← e, l, e₁, e₂, e₃, e₄, e₅, e₆, e₇);
         leaves = rw (← e, l, e₁, e₂, e₃, e₄, e₅, e₆, e₇);
@@ -71,21 +105,11 @@ module _ (s : Settings) (d m : List ℕ) (t w : ℕ) where
 
   -- ---- with CKE low
 
-  pub low-quiet : {q : ℕ} → q ≡ codeOf w → lowOf w ≡ true → Quiet q → Does (lowBreaks d t) (lowAfter d t) m
+  pub low-quiet : {q : ℕ} → q ≡ codeOf w → lowOf w ≡ true → quietCode q ≡ true → Does (lowBreaks d t) (lowAfter d t) m
   unfolding stepBreaks stepAfter paceAfter
   low-quiet {q} e l n =
-      let e₁ = ne-eqb q 12 (n .no-active) in
-      let e₂ = ne-eqb q 10 (n .no-read) in
-      let e₃ = ne-eqb q 2 (n .no-write) in
-      let e₄ = ne-eqb q 4 (n .no-close) in
-      let e₅ = ne-eqb q 6 (n .no-terminate) in
-      let e₆ = ne-eqb q 8 (n .no-refresh) in
-      let e₇ = ne-eqb q 0 (n .no-mode-set) in
-      record {
-        breaks = rw (← e, l, e₁, e₂, e₃, e₄, e₅, e₆, e₇);
-        leaves = rw (← e, l, e₆);
-        sets = rw (← e, e₇);
-      }
+      let no-refresh = quiet-not q 8 refl n in
+      record { breaks = rw (← e, l, n, no-refresh); leaves = rw (← e, l, no-refresh); sets = rw (← e, quiet-not q 0 refl n) }
 
   pub low-refresh : lowOf w ≡ true → codeOf w ≡ 8 → Does (selfBreaks d t) (selfAfter d) m
   unfolding stepBreaks stepAfter paceAfter
@@ -104,11 +128,7 @@ module _ (s : Settings) (d m : List ℕ) (t w : ℕ) where
       × ((d′ ≡ leftBy (stepBreaks s d t w) (stepAfter s d m t w) d) × (m′ ≡ leftBy (stepBreaks s d t w) (paceAfter m w) m))
 
 pub untouched : (rule : ℕ) (x : List ℕ) → x ≡ leftBy rule x x
-untouched rule x = go (eqb rule 0)
-  where
-    go : (v : Bool) → x ≡ cond v x x
-    go true = refl
-    go false = refl
+untouched rule x = sym (either-way (eqb rule 0) x)
 
 module _ {s : Settings} {d m : List ℕ} {t w : ℕ} where
   pub met : {rule : ℕ} {after pace : List ℕ} → Does s d m t w rule after pace → {told : ℕ} {d′ m′ : List ℕ} →

@@ -4,13 +4,13 @@ use mathlib.Core.Bool.{Bool, true, false, cond, _&&_}
 use mathlib.Core.List.{List, []}
 use mathlib.Core.Path.{_≡_, refl, ap, _∙_}
 use lib.Dec.{eqb}
-use borrow.Author.Tests.{eqb-true, ne-eqb}
+use borrow.Author.Tests.{eqb-true}
 use Rattle.reading.specs.Settings.{Settings}
 use Rattle.deadlines.specs.Deadlines.{lowBreaks, selfBreaks, activeBreaks, readBreaks, writeBreaks, terminateBreaks, closeBreaks, closeAllBreaks, modeBreaks}
 use Rattle.deadlines.specs.Deadlines.{paceOf, lowAfter, selfAfter}
 use Rattle.pins.specs.Pins.{codeOf, bankOf, addressOf, tenOf, lowOf, quietCode}
-use Rattle.steps.specs.Steps.{leftBy, unlessLower, highBreaks, Quiet, lowStepAfter, stepBreaks, stepAfter, paceAfter}
-use Rattle.steps.proofs.Codes.{low-quiet, low-refresh, low-command, Meets, untouched}
+use Rattle.steps.specs.Steps.{leftBy, unlessLower, highBreaks, lowStepAfter, stepBreaks, stepAfter, paceAfter}
+use Rattle.steps.proofs.Codes.{quiet-not, low-quiet, low-refresh, low-command, Meets, untouched}
 
 -- a command that may not come leaves nothing
 never-left : (rule : ℕ) (after before : List ℕ) → before ≡ leftBy (unlessLower rule) after before
@@ -24,9 +24,9 @@ module _ (s : Settings) (d : List ℕ) (t w : ℕ) where
   abbrev pub MeetsLow : ℕ → List ℕ → Type 0
   MeetsLow told d′ = (told ≡ stepBreaks s d t w) × (d′ ≡ leftBy (stepBreaks s d t w) (lowStepAfter d t w) d)
 
-  pub met-quiet : lowOf w ≡ true → Quiet (codeOf w) → {told : ℕ} {d′ : List ℕ} →
+  pub met-quiet : lowOf w ≡ true → quietCode (codeOf w) ≡ true → {told : ℕ} {d′ : List ℕ} →
       told ≡ lowBreaks d t → d′ ≡ leftBy (lowBreaks d t) (lowAfter d t) d → MeetsLow told d′
-  met-quiet l n a b = rw (low-quiet s d [] t w refl l n .breaks, ne-eqb (codeOf w) 8 (n .no-refresh)) (a, b)
+  met-quiet l n a b = rw (low-quiet s d [] t w refl l n .breaks, quiet-not (codeOf w) 8 refl n) (a, b)
 
   pub met-refresh : lowOf w ≡ true → codeOf w ≡ 8 → {told : ℕ} {d′ : List ℕ} →
       told ≡ selfBreaks d t → d′ ≡ leftBy (selfBreaks d t) (selfAfter d) d → MeetsLow told d′

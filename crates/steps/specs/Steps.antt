@@ -3,7 +3,6 @@ use Prim.Native.Nat.{ℕ}
 use mathlib.Core.Bool.{true, cond, _&&_}
 use mathlib.Core.List.{List}
 use mathlib.Core.Option.{Option, none, some}
-use mathlib.Core.Path.{_≡_}
 use lib.Dec.{eqb}
 use Rattle.reading.specs.Settings.{Settings}
 use Rattle.pins.specs.Pins.{codeOf, bankOf, addressOf, tenOf, lowOf, byCode, quietCode}
@@ -60,16 +59,6 @@ lowStepAfter d t w = cond (eqb (codeOf w) 8) (selfAfter d) (lowAfter d t)
 
 unfoldable pub stepAfter : Settings → List ℕ → List ℕ → ℕ → ℕ → List ℕ
 stepAfter s d m t w = cond (lowOf w) (lowStepAfter d t w) (highAfter s d m t w)
-
--- the number of the command pins is that of none of the seven
-pub record Quiet (q : ℕ) : Type 0 where
-  pub no-active : q ≡ 12 → ⊥
-  pub no-read : q ≡ 10 → ⊥
-  pub no-write : q ≡ 2 → ⊥
-  pub no-close : q ≡ 4 → ⊥
-  pub no-terminate : q ≡ 6 → ⊥
-  pub no-refresh : q ≡ 8 → ⊥
-  pub no-mode-set : q ≡ 0 → ⊥
 
 unfoldable pub paceAfter : List ℕ → ℕ → List ℕ
 paceAfter m w = cond (eqb (codeOf w) 0 && eqb (bankOf w) 0) (paceOf (addressOf w)) m

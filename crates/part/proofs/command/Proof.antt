@@ -1,11 +1,12 @@
-use mathlib.Core.Path.{refl, sym, _∙_}
+use mathlib.Core.Path.{refl, sym, ap, _∙_}
 use native.Mathlib.Omega.{arith}
 use Rattle.reading.specs.Settings.{settingsOf}
 use Rattle.steps.proofs.Codes as codes
 use Rattle.steps.proofs.Codes.{met, met-paced}
 use Rattle.steps.proofs.Low.{met-low}
+use Rattle.pins.specs.Pins.{quietCode}
 use Rattle.pins.proofs.Pins.{high-at, low-is}
-use Rattle.part.proofs.Pins.{nop-quiet, deselects, beyond}
+use Rattle.part.proofs.Pins.{deselects, beyond}
 use borrow.Author.Needs.{needs}
 use Rattle.part.proofs.command.Statement.{statement}
 use Rattle.part.proofs.command.Tie as tie
@@ -162,8 +163,7 @@ returns-9 c =
     let coded = matched .before in
     let a = coded .before .args in
     let (n, e) = high-at (a .w) 14 (coded .wide-code .ensures) (matched .match .keys8) (omega arith) in
-    let silent = nop-quiet (a .w) e in
-    met-paced (codes.quiet (settingsOf (a .s .now)) (a .d .now) (a .pace .now) (a .t) (a .w) refl n silent)
+    met-paced (codes.quiet (settingsOf (a .s .now)) (a .d .now) (a .pace .now) (a .t) (a .w) refl n (ap quietCode e))
     (c .quiet .ensures .0) (c .quiet .ensures .1)
 
 returns-10 : tie.Need-returns-10

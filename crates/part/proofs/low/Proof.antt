@@ -2,9 +2,9 @@ use Prim.Native.Nat.{ℕ, _+_}
 use mathlib.Core.Path.{_≡_, refl, sym, ap, _∙_}
 use Rattle.reading.specs.Settings.{settingsOf}
 use Rattle.pins.proofs.Pins.{low-is, low-at}
-use Rattle.pins.specs.Pins.{codeOf}
+use Rattle.pins.specs.Pins.{codeOf, quietCode}
 use Rattle.steps.proofs.Low as steps
-use Rattle.part.proofs.Pins.{nop-quiet, deselects-low}
+use Rattle.part.proofs.Pins.{deselects-low}
 use borrow.Author.Needs.{needs}
 use Rattle.part.proofs.low.Statement.{statement}
 use Rattle.part.proofs.low.Tie as tie
@@ -103,7 +103,7 @@ returns-2 c =
     let matched = c .before .before in
     let a = matched .before .args in
     let (l, e) = low-at (a .w) 14 (matched .before .pre .0) (matched .match .keys1) in
-    steps.met-quiet (settingsOf (a .s .now)) (a .d .now) (a .t) (a .w) l (nop-quiet (a .w) e)
+    steps.met-quiet (settingsOf (a .s .now)) (a .d .now) (a .t) (a .w) l (ap quietCode e)
     (c .quiet-low .ensures .0) (c .quiet-low .ensures .1)
 
 returns-3 : tie.Need-returns-3

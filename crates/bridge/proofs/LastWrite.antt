@@ -30,8 +30,8 @@ abbrev pub FirstStays : ℕ → Part → List Burst → Type 0
 FirstStays from p [] = Unit {0}
 FirstStays from p (x ∷ xs) = x .writes ≡ true → Stays from p x
 
-abbrev pub Standing : ℕ → Part → Type 0
-Standing from p = FirstStays from p (p .bursts)
+abbrev pub LastStays : ℕ → Part → Type 0
+LastStays from p = FirstStays from p (p .bursts)
 
 module _ (s : Settings) (p : Part) where
   -- by the last write
@@ -68,7 +68,7 @@ module _ (s : Settings) (p : Part) where
     shut-gone a (inr l) = by-row a ∙ rw l (or-true (eqb (cond (p .banks (x .bank) .opened) 1 0) 0))
 
   -- the data of the last write are over
-  pub taken-is : (from t : ℕ) → from ≤ t → All (Given from) (p .bursts) → Standing from p → taken (laid (summary s p)) t ≡ firstOver t (p .bursts)
+  pub taken-is : (from t : ℕ) → from ≤ t → All (Given from) (p .bursts) → LastStays from p → taken (laid (summary s p)) t ≡ firstOver t (p .bursts)
   unfolding goneBy
   taken-is from t l g y = go (p .bursts) refl g y
     where
