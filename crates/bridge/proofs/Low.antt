@@ -8,10 +8,10 @@ use native.Mathlib.Nat.{suc-mul}
 use native.Mathlib.Omega.{arith}
 use lib.Dec.{leb, ltb, eqb}
 use borrow.Author.Tests.{lt-ltb, ne-eqb, not-true}
-use Rattle.reading.specs.Search.{implies, ever, every, find, after, orElse}
+use Rattle.reading.specs.Search.{implies, ever, find, after, orElse}
 use Rattle.reading.specs.Settings.{Settings}
 use Rattle.reading.specs.RefreshClock.{Clock, inTime}
-use Rattle.reading.specs.Commands.{Op, AUTO-REFRESH, NOP, Command, is, quiet}
+use Rattle.reading.specs.Commands.{Op, AUTO-REFRESH, Command, is, quiet}
 use Rattle.reading.specs.Bursts.{readEnd, dataEnd}
 use Rattle.reading.specs.Sleep.{rested}
 use Rattle.reading.specs.Part.{Part, lastRead, lastWrite}

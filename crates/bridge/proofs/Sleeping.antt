@@ -1,17 +1,17 @@
 -- Rules 14 and 15 of the part are comparisons with the places of sleep.
-use Prim.Native.Nat.{ℕ, _+_, _<_}
+use Prim.Native.Nat.{ℕ, _<_}
 use mathlib.Core.Bool.{Bool, true, false, cond, not, _&&_, _||_, or-false}
 use mathlib.Core.Option.{Option, none, some}
 use mathlib.Core.Path.{_≡_, refl, sym, ap, _∙_}
 use native.Mathlib.Omega.{arith}
 use lib.Dec.{leb, ltb}
-use borrow.Author.Tests.{leb-true, leb-false, lt-ltb, le-ltb}
-use Rattle.reading.specs.Search.{implies, after}
+use borrow.Author.Tests.{lt-ltb, le-ltb}
+use Rattle.reading.specs.Search.{implies}
 use Rattle.reading.specs.Settings.{Settings}
 use Rattle.reading.specs.RefreshClock.{Clock, clockAfterRefresh, clockAfterSleep, inTime}
 use Rattle.reading.specs.Sleep.{Sleep, rested}
 use Rattle.deadlines.specs.Deadlines.{FAR, ruleUnless, overdueAfter, quietAfter, leaveAfter, powerUpAfter, wakeAfter, lowAfter, enterAfter, selfAfter}
-use Rattle.bridge.specs.Summary.{SleepHeld, Held, Timed, laid, from, overdueBy, sleepHeld}
+use Rattle.bridge.specs.Summary.{SleepHeld, Held, Timed, laid, overdueBy, sleepHeld}
 use Rattle.bridge.proofs.Laid.{timed as at-times}
 use Rattle.bridge.proofs.Clock.{in-time-is, refreshed-is}
 use Rattle.bridge.proofs.Tests.{after-is}

@@ -1,6 +1,6 @@
 -- One event: the step answers by the summary what the reading answers by the part, and leaves the next summary.
 use Prim.Native.Nat.{ℕ, suc, _≤_, _<_}
-use mathlib.Core.Bool.{Bool, true, false, cond, not, _&&_}
+use mathlib.Core.Bool.{Bool, true, false, cond, _&&_}
 use mathlib.Core.List.{List, [], _∷_}
 use mathlib.Core.Option.{none, some}
 use mathlib.Core.Path.{_≡_, refl, sym, ap, _∙_, subst}
@@ -28,22 +28,19 @@ use Rattle.pins.proofs.Commands.{Quietly, asks-quietly}
 use Rattle.bridge.specs.Summary.{Held, Timed, laid, summary, from}
 use Rattle.bridge.proofs.Tests.{num, after-is, leb-later, held-is, cleared-is}
 use Rattle.bridge.proofs.Bursts.{terminate-is, nothing}
-use Rattle.bridge.proofs.Rules.{does, doesLow, says, as-nop, quiet-agrees, read-agrees, write-agrees, active-agrees, terminate-agrees, close-agrees, close-all-agrees, refresh-agrees, mode-agrees}
+use Rattle.bridge.proofs.Rules.{does, doesLow, says, as-nop}
+use Rattle.bridge.proofs.Rules.{quiet-agrees, read-agrees, write-agrees, active-agrees, terminate-agrees, close-agrees, close-all-agrees, refresh-agrees, mode-agrees}
 use Rattle.bridge.proofs.Next.{Sound, quiet-next, low-next, self-next, refresh-next, mode-next, active-next, read-next, write-next, terminate-next, close-next, close-all-next}
 use Rattle.bridge.proofs.Low.{command-agrees, low-agrees, self-agrees}
 use Rattle.bridge.proofs.Kept.{kept-plain, kept-mode, kept-read, kept-write}
 
+as-told : (w : ℕ) {v : Bool} {o : Op} → lowOf w ≡ v → commandOf w .op ≡ o →
+    commandOf w ≡ record { op = o; bank = bankOf w; address = addressOf w; A10 = tenOf w; low = v }
+as-told w n e = λ i. record { op = e i; bank = bankOf w; address = addressOf w; A10 = tenOf w; low = n i }
+
 carries : (w q : ℕ) (v : Bool) → lowOf w ≡ v → codeOf w ≡ q →
     commandOf w ≡ record { op = opOf (turned q); bank = bankOf w; address = addressOf w; A10 = tenOf w; low = v }
-carries w q v n e =
-    λ i.
-    record {
-      op = (op-is w ∙ ap (λ (k : ℕ). opOf (turned k)) e) i;
-      bank = bankOf w;
-      address = addressOf w;
-      A10 = tenOf w;
-      low = n i;
-    }
+carries w q v n e = as-told w n (op-is w ∙ ap (λ (k : ℕ). opOf (turned k)) e)
 
 -- ---- one event
 
@@ -95,9 +92,6 @@ module _ (s : Settings) (wide : s .rowBits < 32) (p : Part) (from₀ t : ℕ) (l
         breaks = d .breaks ∙ sym agrees;
         onward = λ z. record { leaves = d .leaves ∙ sym (next z); sets = d .sets ∙ pace; sound = sound z };
       })
-
-  carried : {v : Bool} → lowOf w ≡ v → commandOf w ≡ record { op = commandOf w .op; bank = bankOf w; address = addressOf w; A10 = tenOf w; low = v }
-  carried n = λ i. record { op = commandOf w .op; bank = bankOf w; address = addressOf w; A10 = tenOf w; low = n i }
 
   b : ℕ
   b = bankOf w
@@ -200,7 +194,7 @@ module _ (s : Settings) (wide : s .rowBits < 32) (p : Part) (from₀ t : ℕ) (l
   turn-quiet : lowOf w ≡ false → quietCode (codeOf w) ≡ true → Turned (commandOf w)
   unfolding b a ten
   turn-quiet k n =
-      turn c (carried k) (codes.quiet s (laid X) (paceOf (p .mode)) t w refl k n) (quiet-agrees s p t timed q b a ten)
+      turn c (as-told w k refl) (codes.quiet s (laid X) (paceOf (p .mode)) t w refl k n) (quiet-agrees s p t timed q b a ten)
       (λ z. quiet-next s p from₀ t l g q b a ten timed (kept c z 14 refl)) (sym (as-nop (λ y. paceOf (partAfter s p t (does y b a ten) .mode)) q refl))
       (plain c (as-nop (λ y. among (READ ∷ WRITE ∷ []) (does y b a ten)) q refl) (as-nop (λ y. is MODE-REGISTER-SET (does y b a ten)) q refl))
     where
@@ -215,7 +209,7 @@ module _ (s : Settings) (wide : s .rowBits < 32) (p : Part) (from₀ t : ℕ) (l
   turn-low-quiet : lowOf w ≡ true → quietCode (codeOf w) ≡ true → Turned (commandOf w)
   unfolding b a ten
   turn-low-quiet k n =
-      turn c (carried k) (codes.low-quiet s (laid X) (paceOf (p .mode)) t w refl k n)
+      turn c (as-told w k refl) (codes.low-quiet s (laid X) (paceOf (p .mode)) t w refl k n)
       (low-agrees s p t timed from₀ l (g .bursts) (g .late) (g .standing) q b a ten)
       (λ z. low-next s p from₀ t l g q b a ten timed (kept c z 14 refl)) (sym (as-nop (λ y. paceOf (partAfter s p t (doesLow y b a ten) .mode)) q refl))
       (plain c (as-nop (λ y. among (READ ∷ WRITE ∷ []) (doesLow y b a ten)) q refl) (as-nop (λ y. is MODE-REGISTER-SET (doesLow y b a ten)) q refl))

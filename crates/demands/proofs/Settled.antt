@@ -14,7 +14,12 @@ use Rattle.demands.proofs.Finding as finding
 use Rattle.demands.proofs.Judging as judging
 use Rattle.words.proofs.word_at.Reads as words-word-at
 use Rattle.words.proofs.put_word.Reads as words-put-word
+use Rattle.words.proofs.both.Reads as words-both
 use Rattle.settings.proofs.mode_word.Reads as settings-mode-word
+use Rattle.settings.proofs.mode.burst_length.Reads as settings-mode-burst-length
+use Rattle.settings.proofs.mode.half.Reads as settings-mode-half
+use Rattle.settings.proofs.mode.interleaved.Reads as settings-mode-interleaved
+use Rattle.settings.proofs.mode.latency.Reads as settings-mode-latency
 use Rattle.settings.proofs.setting_fits.Reads as settings-setting-fits
 use Rattle.settings.proofs.lowest_bad.Reads as settings-lowest-bad
 use Rattle.settings.proofs.check.Reads as settings-check
@@ -35,6 +40,7 @@ use Rattle.deadlines.proofs.sums.pace.Reads as deadlines-sums-pace
 use Rattle.deadlines.proofs.sums.rows.Reads as deadlines-sums-rows
 use Rattle.deadlines.proofs.clock.overdue_from.Reads as deadlines-clock-overdue-from
 use Rattle.deadlines.proofs.clock.overdue_after.Reads as deadlines-clock-overdue-after
+use Rattle.deadlines.proofs.banks.all_idle.Reads as deadlines-banks-all-idle
 use Rattle.rules.proofs.active_breaks.Reads as rules-active-breaks
 use Rattle.rules.proofs.read_breaks.Reads as rules-read-breaks
 use Rattle.rules.proofs.write_breaks.Reads as rules-write-breaks
@@ -82,7 +88,6 @@ use Rattle.drafts.proofs.refresh.Reads as drafts-refresh
 use Rattle.serving.proofs.margin.Reads as serving-margin
 use Rattle.serving.proofs.serve.Reads as serving-serve
 use Rattle.schedule.proofs.schedule.Reads as schedule-schedule
-use Rattle.beats.proofs.gives_burst.Reads as beats-gives-burst
 use Rattle.beats.proofs.mode_after.Reads as beats-mode-after
 use Rattle.beats.proofs.column.Reads as beats-column
 use Rattle.beats.proofs.first_cell.Reads as beats-first-cell
@@ -106,6 +111,7 @@ use Rattle.pins.proofs.address.Reads as pins-address
 use Rattle.pins.proofs.ten.Reads as pins-ten
 use Rattle.pins.proofs.wide_code.Reads as pins-wide-code
 use Rattle.pins.proofs.low.Reads as pins-low
+use Rattle.pins.proofs.gives_burst.Reads as pins-gives-burst
 
 -- ---- words
 
@@ -116,11 +122,26 @@ pub words-put-word-settles : (κs : _) (a : _) (z z′ : _) (e e′ : _) → wor
     now (e .0) ≡ now (e′ .0)
 words-put-word-settles κs a z z′ e e′ p q = p ∙ sym q
 
+pub words-both-settles : (κs : _) (a : _) (z z′ : _) (e e′ : _) → words-both.Post κs a z e → words-both.Post κs a z′ e′ → z ≡ z′
+words-both-settles κs a z z′ e e′ p q = p ∙ sym q
+
 -- ---- settings
 
 pub settings-mode-word-settles : (κs : _) (a : _) (z z′ : _) (e e′ : _) → settings-mode-word.Post κs a z e → settings-mode-word.Post κs a z′ e′ →
     z ≡ z′
 settings-mode-word-settles κs a z z′ e e′ p q = p ∙ sym q
+
+pub settings-mode-burst-length-settles : (κs : _) (a : _) (z z′ : _) (e e′ : _) → settings-mode-burst-length.Post κs a z e → settings-mode-burst-length.Post κs a z′ e′ → z ≡ z′
+settings-mode-burst-length-settles κs a z z′ e e′ p q = p ∙ sym q
+
+pub settings-mode-half-settles : (κs : _) (a : _) (z z′ : _) (e e′ : _) → settings-mode-half.Post κs a z e → settings-mode-half.Post κs a z′ e′ → z ≡ z′
+settings-mode-half-settles κs a z z′ e e′ p q = p ∙ sym q
+
+pub settings-mode-interleaved-settles : (κs : _) (a : _) (z z′ : _) (e e′ : _) → settings-mode-interleaved.Post κs a z e → settings-mode-interleaved.Post κs a z′ e′ → z ≡ z′
+settings-mode-interleaved-settles κs a z z′ e e′ p q = p ∙ sym q
+
+pub settings-mode-latency-settles : (κs : _) (a : _) (z z′ : _) (e e′ : _) → settings-mode-latency.Post κs a z e → settings-mode-latency.Post κs a z′ e′ → z ≡ z′
+settings-mode-latency-settles κs a z z′ e e′ p q = p ∙ sym q
 
 pub settings-setting-fits-settles : (κs : _) (a : _) (z z′ : _) (e e′ : _) → settings-setting-fits.Post κs a z e → settings-setting-fits.Post κs a z′ e′ →
     z ≡ z′
@@ -210,6 +231,9 @@ pub deadlines-clock-overdue-after-settles : (κs : _) (a : _) (z z′ : _) (e e�
     z ≡ z′
 deadlines-clock-overdue-after-settles κs a z z′ e e′ p q = p ∙ sym q
 
+pub deadlines-banks-all-idle-settles : (κs : _) (a : _) (z z′ : _) (e e′ : _) → deadlines-banks-all-idle.Post κs a z e → deadlines-banks-all-idle.Post κs a z′ e′ → z ≡ z′
+deadlines-banks-all-idle-settles κs a z z′ e e′ p q = p ∙ sym q
+
 -- ---- pins
 
 pub pins-code-settles : (κs : _) (a : _) (z z′ : _) (e e′ : _) → pins-code.Post κs a z e → pins-code.Post κs a z′ e′ → z ≡ z′
@@ -229,6 +253,9 @@ pins-wide-code-settles κs a z z′ e e′ p q = p ∙ sym q
 
 pub pins-low-settles : (κs : _) (a : _) (z z′ : _) (e e′ : _) → pins-low.Post κs a z e → pins-low.Post κs a z′ e′ → z ≡ z′
 pins-low-settles κs a z z′ e e′ p q = p ∙ sym q
+
+pub pins-gives-burst-settles : (κs : _) (a : _) (z z′ : _) (e e′ : _) → pins-gives-burst.Post κs a z e → pins-gives-burst.Post κs a z′ e′ → z ≡ z′
+pins-gives-burst-settles κs a z z′ e e′ p q = p ∙ sym q
 
 -- ---- rules
 
@@ -411,9 +438,6 @@ pub schedule-schedule-settles : (κs : _) (a : _) (z z′ : _) (e e′ : _) → 
 schedule-schedule-settles κs a z z′ e e′ p q = (schedule.one-answer z z′ (p .0 ∙ sym (q .0)), p .1 ∙ sym (q .1))
 
 -- ---- beats
-
-pub beats-gives-burst-settles : (κs : _) (a : _) (z z′ : _) (e e′ : _) → beats-gives-burst.Post κs a z e → beats-gives-burst.Post κs a z′ e′ → z ≡ z′
-beats-gives-burst-settles κs a z z′ e e′ p q = p ∙ sym q
 
 pub beats-mode-after-settles : (κs : _) (a : _) (z z′ : _) (e e′ : _) → beats-mode-after.Post κs a z e → beats-mode-after.Post κs a z′ e′ → z ≡ z′
 beats-mode-after-settles κs a z z′ e e′ p q = p ∙ sym q

@@ -1,7 +1,7 @@
 -- The walk over the events: what holds before event i, and what the verdict is where it stops.
 use Prim.Native.Nat.{ℕ, suc, _+_, _-_, _≤_, _<_, zero-le}
-use mathlib.Core.Bool.{Bool, true, false, cond, not, _&&_}
-use mathlib.Core.List.{List, [], _∷_}
+use mathlib.Core.Bool.{Bool, true, false, cond, not}
+use mathlib.Core.List.{List}
 use mathlib.Core.Option.{Option, none, some}
 use mathlib.Core.Path.{_≡_, refl, sym, ap, _∙_}
 use native.Mathlib.Numerals.{add-one}
@@ -9,7 +9,6 @@ use native.Mathlib.Omega.{arith}
 use lib.Dec.{eqb}
 use lib.ListN.{take, drop}
 use borrow.Author.Tests.{eqb-true, eqb-false, eq-eqb, ne-eqb, not-true}
-use Rattle.reading.specs.Search.{every, find}
 use Rattle.reading.specs.Settings.{Settings, settingsOf}
 use Rattle.reading.specs.Capture.{Event, eventAt}
 use Rattle.reading.specs.Commands.{commandOf}
@@ -17,9 +16,9 @@ use Rattle.reading.specs.Part.{Part, start, step, run}
 use Rattle.reading.specs.Rules.{keepsRule, rules, brokenBy}
 use Rattle.reading.specs.Verdict as is
 use Rattle.reading.specs.Verdict.{broken, brokenOr, judgeFrom, verdictOf, judgedOf, judgeBy, verdictBy}
-use Rattle.reading.proofs.Laws.{both}
+use Rattle.reading.proofs.Found.{found-as-all}
 use Rattle.capture.proofs.Accepted.{cycle-fits, cycle-rises}
-use Rattle.deadlines.specs.Deadlines.{FAR, paceOf}
+use Rattle.deadlines.specs.Deadlines.{paceOf}
 use Rattle.part.specs.declared.Answer.{Answer}
 use Rattle.part.specs.declared.Answer.the-variants.{Kept, Broke}
 use Rattle.part.specs.Means.{means}
@@ -34,16 +33,10 @@ use Rattle.judge.specs.Meaning.{Fit, Started, eventsIn, said, verdictOn,
 use Rattle.judge.proofs.Events.{next-of, none-of, run-next}
 
 -- no rule has the number 0
-found-positive : (f : ℕ → Bool) (xs : List ℕ) → every (λ r. not (eqb r 0)) xs ≡ true → (r : ℕ) → find f xs ≡ some r → r ≡ 0 → ⊥
-found-positive f [] p r e z = let k : _≡_ {A = ℕ} 0 1 = cc in omega arith
-found-positive f (x ∷ xs) p r e z = go (f x) e (found-positive f xs (both (not (eqb x 0)) _ p .1) r)
-  where
-    go : (v : Bool) → cond v (some x) (find f xs) ≡ some r → (find f xs ≡ some r → r ≡ 0 → ⊥) → ⊥
-    go true q ih = let k : x ≡ r = cc in eqb-false x 0 (not-true (eqb x 0) (both (not (eqb x 0)) _ p .0)) (k ∙ z)
-    go false q ih = ih q z
-
 pub positive : (s : Settings) (p : Part) (e : Event) (r : ℕ) → brokenBy s p e ≡ some r → r ≡ 0 → ⊥
-positive s p e r q z = found-positive (λ k. not (keepsRule k s p (e .cycle) (commandOf (e .pins)))) rules refl r q z
+positive s p e r q =
+    let breaks : ℕ → Bool = λ k. not (keepsRule k s p (e .cycle) (commandOf (e .pins))) in
+    eqb-false r 0 (not-true (eqb r 0) (found-as-all breaks (λ k. not (eqb k 0)) rules refl r q))
 
 -- the number that an answer stands for
 zero-of : (r : ℕ) → means Kept ≡ ruleOf r → r ≡ 0

@@ -1,6 +1,6 @@
 -- A schedule written as a whole capture is accepted, holds the settings and the events, and is judged clean.
 use Prim.Native.Nat.{ℕ, zero, suc, _+_, _-_, _*_, _^_, _≤_, _<_}
-use mathlib.Core.Bool.{Bool, true, false, cond, not}
+use mathlib.Core.Bool.{true, cond, not}
 use mathlib.Core.List.{List, [], _∷_, _++_, map, append-nil}
 use mathlib.Core.Option.{none}
 use mathlib.Core.Path.{_≡_, refl, sym, ap, _∙_}
@@ -10,7 +10,7 @@ use lib.Dec.{leb, eqb, eqb·suc-zero}
 use lib.ListN.{length, getD, drop, length-append, List·getD-append, List·getD-eq-default}
 use lib.Seq.{getD-append-add}
 use borrow.Author.Tests.{leb-true, le-leb, lt-ltb, eq-eqb}
-use Rattle.reading.specs.Search.{find, count}
+use Rattle.reading.specs.Search.{count}
 use Rattle.reading.specs.Words.{wordAt, bytesOf}
 use Rattle.reading.specs.Settings.{Limits, settingsCount, sleepingCount, limits, settingsOf, inEdition, settingFits, badSetting}
 use Rattle.reading.specs.Capture.{Event, settingsStart, eventsStart, captureSize, headerWord, countIn, eventCount, settingWords, eventBytes, eventAt, eventsOf}

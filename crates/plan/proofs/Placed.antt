@@ -1,6 +1,6 @@
 -- The commands of a schedule: each goes to the latest of its waits, and leaves the deadlines and the standing of a step.
 use Prim.Native.Nat.{ℕ, suc, _+_, _^_, _≤_, _<_}
-use mathlib.Core.Bool.{Bool, true, false, cond, not, _&&_, and-true}
+use mathlib.Core.Bool.{Bool, true, false, cond, _&&_, and-true}
 use mathlib.Core.List.{List, _∷_}
 use mathlib.Core.Path.{_≡_, refl, sym, ap, _∙_}
 use native.Mathlib.Nat.{le-trans}
@@ -14,7 +14,7 @@ use Rattle.reading.specs.Settings.{Settings}
 use Rattle.reading.specs.Capture.{Event}
 use Rattle.reading.specs.Commands.{PRECHARGE, AUTO-REFRESH, Command, commandOf}
 use Rattle.reading.specs.Bursts.{reads}
-use Rattle.reading.specs.Part.{Bank, Part, idleFrom, cuts, partAfter, lastRead, lastWrite}
+use Rattle.reading.specs.Part.{Bank, Part, idleFrom, partAfter, lastRead, lastWrite}
 use Rattle.reading.specs.Rules.{placing}
 use Rattle.reading.specs.Schedule.{asksWrite, firstCell, cellBank, cellRow, cellColumn, requestFits, activePins, columnPins, burstPins, closePins, closeAllPins, refreshPins}
 use Rattle.reading.specs.Schedule.{cutsNothing, goes, freeFrom, placed, send}

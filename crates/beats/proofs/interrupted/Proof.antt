@@ -1,4 +1,4 @@
-use Prim.Native.Nat.{ℕ, _+_, _/_}
+use Prim.Native.Nat.{ℕ, _+_}
 use mathlib.Core.Path.{ap, _∙_}
 use Rattle.reading.specs.Search.{lesser}
 use Rattle.reading.specs.Settings.{settingsOf}

@@ -1,7 +1,6 @@
 use borrow.Author.Tests.{not-true, not-false}
 use native.Mathlib.Omega.{arith}
-use Prim.Native.Nat.{ℕ, _+_, _/_}
-use mathlib.Core.Path.{ap}
+use Prim.Native.Nat.{_+_}
 use Rattle.reading.specs.Capture.{eventAt}
 use Rattle.beats.specs.Kept.{eventsFrom}
 use Rattle.beats.proofs.Looking.{kept-none, kept-all, kept-cut}

@@ -1,8 +1,8 @@
 -- The invariant: what the events from j on leave of the whole burst is what is kept in the end (Looking).
 use native.Mathlib.Omega.{arith}
 use borrow.Author.Needs.{needs}
-use Prim.Native.Nat.{ℕ, _-_, _/_}
-use mathlib.Core.Path.{ap, sym, _∙_}
+use Prim.Native.Nat.{_-_}
+use mathlib.Core.Path.{sym, _∙_}
 use Rattle.capture.proofs.Accepted.{cycle-fits, cycles-rise}
 use Rattle.beats.proofs.Columns.{half-le}
 use Rattle.beats.proofs.Looking.{Looking, begins, goes-on, cut-short, stops, ends}

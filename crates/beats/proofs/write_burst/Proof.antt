@@ -1,8 +1,7 @@
 use Prim.Native.Nat.{_*_}
 use mathlib.Core.Bool.{true, false}
-use mathlib.Core.Path.{ap, _∙_}
+use mathlib.Core.Path.{sym, ap, _∙_}
 use native.Mathlib.Omega.{arith}
-use borrow.Author.Tests.{eq-eqb, ne-eqb}
 use lib.Seq.{sets}
 use Rattle.beats.proofs.Columns.{length-pos, block-le, block-fits}
 use Rattle.beats.proofs.Storing.{in-block}
@@ -22,9 +21,12 @@ mul-block c = omega (arith, block-le (c .burst-length .result) (c .before .befor
 add-block : tie.Need-add-block
 add-block c = omega (arith, block-le (c .burst-length .result) (c .before .before .args .column), c .before .before .pre .0 .cell, c .before .before .pre .0 .low)
 
+interleaved-requires : tie.Need-interleaved-requires
+interleaved-requires c κs = search needs
+
 write-interleaved-requires : tie.Need-write-interleaved-requires
 write-interleaved-requires c κs =
-    let at-burst-length = c .before .before in
+    let at-burst-length = c .before .before .before in
     let start = at-burst-length .before .before in
     let a = start .args in
     (block-fits (a .first) (a .mode) (a .column) (a .pairs) (start .pre .0) (at-burst-length .burst-length .ensures), start .pre .1)
@@ -36,16 +38,17 @@ returns : tie.Need-returns
 returns c =
     let at-write-interleaved = c .before .before in
     let at-if1 = at-write-interleaved .before .before in
-    let at-burst-length = at-if1 .before in
+    let at-interleaved = at-if1 .before in
+    let at-burst-length = at-interleaved .before in
     let start = at-burst-length .before .before in
     let a = start .args in
     at-write-interleaved .write-interleaved .ensures
     ∙ ap (sets (a .out .now) (a .at))
-    (in-block (a .first) (a .mode) (a .column) true (2 * a .pairs) (eq-eqb _ 1 (at-if1 .if1 .taken)) (at-burst-length .burst-length .ensures))
+    (in-block (a .first) (a .mode) (a .column) true (2 * a .pairs) (sym (at-interleaved .interleaved .ensures) ∙ at-if1 .if1 .taken) (at-burst-length .burst-length .ensures))
 
 write-sequential-requires : tie.Need-write-sequential-requires
 write-sequential-requires c κs =
-    let at-burst-length = c .before .before in
+    let at-burst-length = c .before .before .before in
     let start = at-burst-length .before .before in
     let a = start .args in
     (block-fits (a .first) (a .mode) (a .column) (a .pairs) (start .pre .0) (at-burst-length .burst-length .ensures), start .pre .1)
@@ -57,12 +60,13 @@ returns-2 : tie.Need-returns-2
 returns-2 c =
     let at-write-sequential = c .before .before in
     let at-if1 = at-write-sequential .before .before in
-    let at-burst-length = at-if1 .before in
+    let at-interleaved = at-if1 .before in
+    let at-burst-length = at-interleaved .before in
     let start = at-burst-length .before .before in
     let a = start .args in
     at-write-sequential .write-sequential .ensures
     ∙ ap (sets (a .out .now) (a .at))
-    (in-block (a .first) (a .mode) (a .column) false (2 * a .pairs) (ne-eqb _ 1 (at-if1 .if1 .left)) (at-burst-length .burst-length .ensures))
+    (in-block (a .first) (a .mode) (a .column) false (2 * a .pairs) (sym (at-interleaved .interleaved .ensures) ∙ at-if1 .if1 .left) (at-burst-length .burst-length .ensures))
 
 pub write-burst-spec : {M : Type 1} → statement M
 write-burst-spec =
@@ -72,6 +76,7 @@ write-burst-spec =
     div-block
     mul-block
     add-block
+    interleaved-requires
     write-interleaved-requires
     same-length
     returns

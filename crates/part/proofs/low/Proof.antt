@@ -1,5 +1,6 @@
 use Prim.Native.Nat.{ℕ, _+_}
 use mathlib.Core.Path.{_≡_, refl, sym, ap, _∙_}
+use borrow.Author.Tests.{ne-eqb}
 use Rattle.reading.specs.Settings.{settingsOf}
 use Rattle.pins.proofs.Pins.{low-is, low-at}
 use Rattle.pins.specs.Pins.{codeOf, quietCode}
@@ -190,15 +191,15 @@ returns-11 c =
     let (l, above) = low-is (a .w) (matched .before .pre .0) (matched .before .pre .1) in
     let at : (k : ℕ) → codeOf (a .w) ≡ k → a .code ≡ k + 16 = λ k e. above ∙ ap (λ (q : ℕ). q + 16) e in
     steps.met-quiet (settingsOf (a .s .now)) (a .d .now) (a .t) (a .w) l
-    (record {
-      no-active = λ e. no .0 .0 .0 .0 .0 .1 (at 12 e);
-      no-read = λ e. no .0 .0 .0 .0 .1 (at 10 e);
-      no-write = λ e. no .0 .0 .0 .1 (at 2 e);
-      no-close = λ e. no .0 .0 .1 (at 4 e);
-      no-terminate = λ e. no .0 .1 (at 6 e);
-      no-refresh = λ e. no .0 .0 .0 .0 .0 .0 .1 (at 8 e);
-      no-mode-set = λ e. no .1 (at 0 e);
-    })
+    (rw (
+      ne-eqb (codeOf (a .w)) 12 (λ e. no .0 .0 .0 .0 .0 .1 (at 12 e)),
+      ne-eqb (codeOf (a .w)) 10 (λ e. no .0 .0 .0 .0 .1 (at 10 e)),
+      ne-eqb (codeOf (a .w)) 2 (λ e. no .0 .0 .0 .1 (at 2 e)),
+      ne-eqb (codeOf (a .w)) 4 (λ e. no .0 .0 .1 (at 4 e)),
+      ne-eqb (codeOf (a .w)) 6 (λ e. no .0 .1 (at 6 e)),
+      ne-eqb (codeOf (a .w)) 8 (λ e. no .0 .0 .0 .0 .0 .0 .1 (at 8 e)),
+      ne-eqb (codeOf (a .w)) 0 (λ e. no .1 (at 0 e)),
+    ))
     (c .quiet-low3 .ensures .0) (c .quiet-low3 .ensures .1)
 
 pub low-spec : {M : Type 1} → statement M
