@@ -12,7 +12,7 @@ use Rattle.reading.specs.Settings.{Settings}
 use Rattle.reading.specs.Blank.{namesColumn, namesRow, above, Alike, same, columns, rows, blankPins}
 use Rattle.reading.proofs.Laws.{both}
 use Rattle.pins.specs.Pins.{codeOf, bankOf, addressOf, lowOf}
-use Rattle.pins.proofs.Commands.{active-is, read-is, write-is}
+use Rattle.pins.proofs.Commands.{active-is, gives-is}
 
 -- ---- what stands above the address: bank, command pins and CKE
 
@@ -29,19 +29,16 @@ module _ (v w : ℕ) (a : above v ≡ above w) where
 -- ---- the commands by the number of their pins
 
 module _ (w : ℕ) where
-  pub column-is : namesColumn w ≡ (eqb (codeOf w) 10 || (eqb (codeOf w) 2 || false))
-  column-is = λ i. read-is w i || (write-is w i || false)
-
   pub column-code : namesColumn w ≡ true → (codeOf w ≡ 10) ⊎ (codeOf w ≡ 2)
-  column-code e = go (eqb (codeOf w) 10) (eqb (codeOf w) 2) refl refl (sym column-is ∙ e)
+  column-code e = go (eqb (codeOf w) 10) (eqb (codeOf w) 2) refl refl (sym (gives-is w) ∙ e)
     where
-      go : (x y : Bool) → eqb (codeOf w) 10 ≡ x → eqb (codeOf w) 2 ≡ y → (x || (y || false)) ≡ true → (codeOf w ≡ 10) ⊎ (codeOf w ≡ 2)
+      go : (x y : Bool) → eqb (codeOf w) 10 ≡ x → eqb (codeOf w) 2 ≡ y → (x || y) ≡ true → (codeOf w ≡ 10) ⊎ (codeOf w ≡ 2)
       go true y f g h = inl (eqb-true (codeOf w) 10 f)
       go false true f g h = inr (eqb-true (codeOf w) 2 g)
       go false false f g h = let z : _≡_ {A = ℕ} 0 1 = cc in absurd (omega arith)
 
   pub no-column : codeOf w ≡ 12 → namesColumn w ≡ false
-  no-column e = column-is ∙ ap (λ (q : ℕ). eqb q 10 || (eqb q 2 || false)) e
+  no-column e = gives-is w ∙ ap (λ (q : ℕ). eqb q 10 || eqb q 2) e
 
   module _ (s : Settings) where
     pub row-is : namesRow s w ≡ (eqb (codeOf w) 12 && ltb (addressOf w) (2 ^ s .rowBits))
@@ -86,7 +83,7 @@ module _ (s : Settings) (v w : ℕ) where
   Blanks = blankPins s v ≡ blankPins s w
 
   same-column : above v ≡ above w → namesColumn v ≡ namesColumn w
-  same-column a = column-is v ∙ ap (λ (q : ℕ). eqb q 10 || (eqb q 2 || false)) (same-code v w a) ∙ sym (column-is w)
+  same-column a = gives-is v ∙ ap (λ (q : ℕ). eqb q 10 || eqb q 2) (same-code v w a) ∙ sym (gives-is w)
 
   -- where one is blanked to a row of 0, the other's row is 0
   row-of-0 : above v ≡ above w → namesRow s v ≡ true → w ≡ 2 ^ 14 * above v → namesRow s w ≡ true
