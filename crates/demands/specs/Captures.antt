@@ -39,7 +39,7 @@ pub data BadHeader (capture : List ℕ) : Type 0 where
   total : (headerWord capture 0 ≡ leastBytes capture + 8 * headerWord capture 3 → ⊥) → BadHeader capture
 
 -- 3, of setting i by the table; the mode word also by rule 2
-abbrev limitsOf : ℕ → Limits
+abbrev pub limitsOf : ℕ → Limits
 limitsOf i = getD limits i (record { least = 0; most = 0 })
 
 pub data BadSetting (ws : List ℕ) (i : ℕ) : Type 0 where
@@ -48,7 +48,7 @@ pub data BadSetting (ws : List ℕ) (i : ℕ) : Type 0 where
   mode : i ≡ 3 → modeWord (getD ws i 0) ≡ false → BadSetting ws i
 
 -- 4, of event i
-abbrev eventIn : List ℕ → ℕ → Event
+abbrev pub eventIn : List ℕ → ℕ → Event
 eventIn capture i = eventAt (eventBytes capture) i
 
 pub data BadEvent (capture : List ℕ) (i : ℕ) : Type 0 where
@@ -56,24 +56,24 @@ pub data BadEvent (capture : List ℕ) (i : ℕ) : Type 0 where
   late : 2000000000 < eventIn capture i .cycle → BadEvent capture i
   not-above : 0 < i → eventIn capture i .cycle ≤ eventIn capture (i - 1) .cycle → BadEvent capture i
 
--- what comes before each is as it should be
+-- nothing is wrong with the length and the header; nor with a setting
 pub record Framed (capture : List ℕ) : Type 0 where
-  pub length : BadLength capture → ⊥
-  pub header : BadHeader capture → ⊥
+  pub length-fits : BadLength capture → ⊥
+  pub header-fits : BadHeader capture → ⊥
 
-pub record Set (capture : List ℕ) : Type 0 where
+pub record Limited (capture : List ℕ) : Type 0 where
   pub framed : Framed capture
-  pub settings : (i : ℕ) → i < countIn capture → BadSetting (settingWords capture) i → ⊥
+  pub settings-fit : (i : ℕ) → i < countIn capture → BadSetting (settingWords capture) i → ⊥
 
-abbrev contradicts : List ℕ → Type 0
-contradicts ws = settingsOf ws .tRAS + settingsOf ws .tRP < settingsOf ws .tRC
+abbrev pub Contradicts : List ℕ → Type 0
+Contradicts ws = settingsOf ws .tRAS + settingsOf ws .tRP < settingsOf ws .tRC
 
 pub data CaptureRefused (capture : List ℕ) (number place : ℕ) : Type 0 where
-  length : BadLength capture → number ≡ 1 → place ≡ 0 → CaptureRefused capture number place
-  header : (BadLength capture → ⊥) → BadHeader capture → number ≡ 2 → place ≡ 0 → CaptureRefused capture number place
+  bad-length : BadLength capture → number ≡ 1 → place ≡ 0 → CaptureRefused capture number place
+  bad-header : (BadLength capture → ⊥) → BadHeader capture → number ≡ 2 → place ≡ 0 → CaptureRefused capture number place
   -- the lowest such setting; if there is none, tRC where it contradicts tRAS and tRP
-  setting : Framed capture → number ≡ 3 → Lowest (BadSetting (settingWords capture)) (countIn capture) place → CaptureRefused capture number place
-  contradiction : Set capture → contradicts (settingWords capture) → number ≡ 3 → place ≡ 7 → CaptureRefused capture number place
+  bad-setting : Framed capture → number ≡ 3 → Lowest (BadSetting (settingWords capture)) (countIn capture) place → CaptureRefused capture number place
+  contradiction : Limited capture → Contradicts (settingWords capture) → number ≡ 3 → place ≡ 7 → CaptureRefused capture number place
   -- the lowest such event
-  event : Set capture → (contradicts (settingWords capture) → ⊥) → number ≡ 4 → Lowest (BadEvent capture) (eventCount capture) place →
+  bad-event : Limited capture → (Contradicts (settingWords capture) → ⊥) → number ≡ 4 → Lowest (BadEvent capture) (eventCount capture) place →
       CaptureRefused capture number place
