@@ -7,6 +7,7 @@ pub mod Scheduling
 pub mod WithoutSix
 pub mod EditionZero
 pub mod Blanking
+pub mod Unaccepted
 mod Finding
 mod Settled
 pub mod AsBefore

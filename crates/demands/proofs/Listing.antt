@@ -15,7 +15,6 @@ use Rattle.reading.specs.Capture.{eventsOf}
 use Rattle.reading.specs.Mode.{BL, interleaved}
 use Rattle.reading.specs.Bursts.{Burst, place, beatColumn, cellNumber, beatCell, burstCells}
 use Rattle.reading.specs.Cells.{burstsOf, cellsOf}
-use Rattle.reading.specs.Verdict as is
 use Rattle.reading.specs.Answers.{Answer, Outcome, answered, unless, settingsIn, verdictIn, notClean, cellsIn, fitting, leaves, cellsOutcome}
 use Rattle.reading.proofs.Meaning.{verdict-clean}
 use Rattle.reading.proofs.Tables.{tableRow, row-published}

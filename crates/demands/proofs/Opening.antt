@@ -1,26 +1,26 @@
 -- Demand 1: a capture is refused, by whatever call, exactly in the cases of specs/Captures.
 use Prim.Native.Nat.{ℕ, zero, suc, _+_, _-_, _*_, _≤_, _<_}
-use mathlib.Core.Bool.{Bool, true, false, cond, not, _&&_, _||_, and-eq-true-iff}
+use mathlib.Core.Bool.{Bool, true, false, cond, not, _&&_, _||_}
 use mathlib.Core.List.{List}
 use mathlib.Core.Logic.{_↔_}
 use mathlib.Core.Option.{Option, none, some}
 use mathlib.Core.Path.{_≡_, refl, sym, ap, _∙_}
 use native.Mathlib.Decide.{decLt}
 use native.Mathlib.Omega.{arith}
-use borrow.Author.Tests.{eqb-true, eqb-false, leb-true, leb-false, ltb-true, ltb-false, eq-eqb, ne-eqb, lt-ltb, le-ltb, not-true, not-false}
+use borrow.Author.Tests.{eqb-true, eqb-false, leb-true, leb-false, ltb-true, ltb-false, eq-eqb, ne-eqb, lt-ltb, not-true, not-false}
 use lib.Dec.{leb, ltb, eqb}
 use lib.ListN.{length, getD}
 use Rattle.reading.specs.Search as search
 use Rattle.reading.specs.Search.{given, find, lowest, implies, orElse}
 use Rattle.reading.specs.Mode.{modeWord}
-use Rattle.reading.specs.Settings.{settingsOf, settingFits, outOfRange, badSetting}
+use Rattle.reading.specs.Settings.{settingsOf, settingFits, badSetting}
 use Rattle.reading.specs.Capture.{headerWord, countIn, eventCount, editionIn, settingWords, eventBytes, eventAt, captureSize, eventsStart, mostEvents, newestEdition, lengthFits, headerFits, pinLimit, lastCycle, eventFits, badEvent}
 use Rattle.reading.specs.Answers.{Answer, refused, answered, unless, accepted}
 use Rattle.words.proofs.Search.{none-below, nothing-below}
 use Rattle.settings.proofs.Fitting.{rowAt}
 use Rattle.capture.proofs.Accepted.{both, words-count}
 use Rattle.demands.specs.Refused.{opened, Accepted}
-use Rattle.demands.specs.Captures.{Lowest, leastBytes, mostBytes, BadLength, BadHeader, BadSetting, BadEvent, Framed, Limited, Contradicts, CaptureRefused}
+use Rattle.demands.specs.Captures.{Lowest, leastBytes, mostBytes, BadLength, BadHeader, BadSetting, BadEvent, Limited, CaptureRefused}
 use Rattle.demands.specs.Captures as case
 
 never : (b : Bool) → (b ≡ true → ⊥) → b ≡ false

@@ -31,9 +31,15 @@ joined [] = []
 joined (ws ∷ more) = ws ++ joined more
 
 -- of the part that is run by some events: the kept beats of its bursts
+abbrev pub keptBeats : List Burst → List Played
+keptBeats = map (λ x. record { beats = 2 * x .n; burst = x })
+
 abbrev pub partReads : Settings → List Event → Run → List (List ℕ)
-partReads s es = readsOf s (map (λ x. record { beats = 2 * x .n; burst = x }) (burstsOf s es))
+partReads s es = readsOf s (keptBeats (burstsOf s es))
 
 -- of the plain memory: all BL beats of each request
+abbrev pub allBeats : Settings → List ℕ → List Played
+allBeats s = map (λ q. record { beats = BL (s .mode); burst = requested s q })
+
 abbrev pub plainReads : Settings → List ℕ → Run → List (List ℕ)
-plainReads s qs = readsOf s (map (λ q. record { beats = BL (s .mode); burst = requested s q }) qs)
+plainReads s qs = readsOf s (allBeats s qs)
