@@ -13,7 +13,8 @@ use Rattle.pins.specs.Pins.{bankOf, addressOf, gives}
 use Rattle.beats.specs.Kept.{eventsFrom, keptOf}
 use Rattle.cells.specs.declared.Given.{Given}
 use Rattle.cells.specs.declared.Given.the-variants.{Burst, Other}
-use Rattle.cells.specs.Meaning.{givenAs, givenBy}
+use Rattle.cells.specs.Meaning as meaning
+use Rattle.cells.specs.Meaning.{givenMeans, givenBy}
 
 module _ (s : Settings) (bytes : List ℕ) (n i : ℕ) (firsts : List ℕ) (mode : ℕ) where
   abbrev w : ℕ
@@ -22,6 +23,10 @@ module _ (s : Settings) (bytes : List ℕ) (n i : ℕ) (firsts : List ℕ) (mode
   abbrev later : List Event
   later = eventsFrom bytes n (i + 1)
 
+  -- the burst that event i gives, if it gives one
+  abbrev there : meaning.Burst
+  there = record { first = getD firsts (bankOf w) 0; column = columnOf s (addressOf w); pairs = keptOf s mode (eventAt bytes i) later }
+
   pub record Is (first column pairs : ℕ) : Type 0 where
     pub burst : gives w ≡ true
     pub row : first ≡ getD firsts (bankOf w) 0
@@ -29,38 +34,36 @@ module _ (s : Settings) (bytes : List ℕ) (n i : ℕ) (firsts : List ℕ) (mode
     pub kept : pairs ≡ keptOf s mode (eventAt bytes i) later
 
   module _ {pins : ℕ} {v : Bool} (e : pins ≡ w) (f : v ≡ gives pins) where
-    pub found-none : v ≡ false → Other ≡ givenAs (givenBy s bytes n i firsts mode)
+    pub found-none : v ≡ false → givenMeans Other ≡ givenBy s bytes n i firsts mode
     unfolding givenBy
     found-none g = let h : gives w ≡ false = sym (f ∙ ap gives e) ∙ g in rw h
 
     pub found : {bank first column pairs : ℕ} → v ≡ true → bank ≡ bankOf pins → first ≡ getD firsts bank 0 → column ≡ columnOf s (addressOf pins) →
-        pairs ≡ keptOf s mode (eventAt bytes i) later → Burst first column pairs ≡ givenAs (givenBy s bytes n i firsts mode)
+        pairs ≡ keptOf s mode (eventAt bytes i) later → givenMeans (Burst first column pairs) ≡ givenBy s bytes n i firsts mode
     unfolding givenBy
     found g b x y z =
         let h : gives w ≡ true = sym (f ∙ ap gives e) ∙ g in
         let row = x ∙ ap (λ (k : ℕ). getD firsts k 0) (b ∙ ap bankOf e) in
         let place = y ∙ ap (λ (k : ℕ). columnOf s (addressOf k)) e in
-        rw h (λ u. Burst (row u) (place u) (z u))
+        rw h (λ u. some (record { first = row u; column = place u; pairs = z u }))
 
-  module _ {r : Given} (step : r ≡ givenAs (givenBy s bytes n i firsts mode)) where
+  module _ {r : Given} (step : givenMeans r ≡ givenBy s bytes n i firsts mode) where
     pub told : {first column pairs : ℕ} → r ≡ Burst first column pairs → Is first column pairs
     unfolding givenBy
-    told {first} {column} {pairs} b = go (gives w) refl (sym b ∙ step)
+    told {first} {column} {pairs} b = go (gives w) refl (sym (ap givenMeans b) ∙ step)
       where
         go : (v : Bool) → gives w ≡ v →
-            Burst first column pairs
-            ≡ givenAs (cond v (some (record { first = getD firsts (bankOf w) 0; column = columnOf s (addressOf w); pairs = keptOf s mode (eventAt bytes i) later })) none) →
+            some (record { first = first; column = column; pairs = pairs }) ≡ cond v (some there) none →
             Is first column pairs
-        go true g q = record { burst = g; row = cc; place = cc; kept = cc }
+        go true g q =
+            let same : record { first = first; column = column; pairs = pairs } ≡ there = cc in
+            record { burst = g; row = ap (λ (x : meaning.Burst). x .first) same; place = ap (λ (x : meaning.Burst). x .column) same; kept = ap (λ (x : meaning.Burst). x .pairs) same }
         go false g q = let z : _≡_ {A = ℕ} 0 1 = cc in absurd (omega arith)
 
     pub told-other : r ≡ Other → gives w ≡ false
     unfolding givenBy
-    told-other b = go (gives w) (sym b ∙ step)
+    told-other b = go (gives w) (sym (ap givenMeans b) ∙ step)
       where
-        go : (v : Bool) →
-            Other
-            ≡ givenAs (cond v (some (record { first = getD firsts (bankOf w) 0; column = columnOf s (addressOf w); pairs = keptOf s mode (eventAt bytes i) later })) none) →
-            v ≡ false
+        go : (v : Bool) → none ≡ cond v (some there) none → v ≡ false
         go true q = let z : _≡_ {A = ℕ} 0 1 = cc in absurd (omega arith)
         go false q = refl

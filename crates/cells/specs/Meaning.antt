@@ -34,9 +34,9 @@ pub record Burst : Type 0 where
   pub column : ℕ
   pub pairs : ℕ
 
-abbrev pub givenAs : Option Burst → Given
-givenAs none = given.Other
-givenAs (some x) = given.Burst (x .first) (x .column) (x .pairs)
+abbrev pub givenMeans : Given → Option Burst
+givenMeans given.Other = none
+givenMeans (given.Burst first column pairs) = some (record { first = first; column = column; pairs = pairs })
 
 -- by the first cells of the rows that the banks were opened on and the mode word before event i
 unfoldable pub givenBy : Settings → List ℕ → ℕ → ℕ → List ℕ → ℕ → Option Burst

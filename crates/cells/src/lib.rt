@@ -21,7 +21,7 @@ ghost use Rattle.pins.specs.Pins.{modeAfter};
 ghost use Rattle.beats.specs.Kept.{eventsFrom, keptOf};
 ghost use Rattle.beats.specs.Rows.{Sized, cellsOpened};
 ghost use Rattle.judge.specs.Meaning.{eventsIn};
-ghost use Rattle.cells.specs.Meaning.{means, givenAs, givenBy, Listable, KeepsPair, cellsOn, lackingIn, listing};
+ghost use Rattle.cells.specs.Meaning.{means, givenMeans, givenBy, Listable, KeepsPair, cellsOn, lackingIn, listing};
 
 // What is said of a capture whose cells are asked for.
 pub enum Listed {
@@ -101,7 +101,7 @@ fn lacking(s: &Settings, bytes: &[u8], n: u32, room: usize) -> Found
 fn step(s: &Settings, bytes: &[u8], n: u32, i: u32, firsts: &[u32; 4], mode: u32) -> Given
     requires { ⌜ Listable (now s) (now bytes) n × (i < n) ⌝ }
     requires { ⌜ newer (settingsOf (now s)) ≡ false ⌝ }
-    ensures { λ r. ⌜ r ≡ givenAs (givenBy (settingsOf (now (s .entry))) (now (bytes .entry)) n i (now (firsts .entry)) mode) ⌝ }
+    ensures { λ r. ⌜ givenMeans r ≡ givenBy (settingsOf (now (s .entry))) (now (bytes .entry)) n i (now (firsts .entry)) mode ⌝ }
 {
     let w = capture::pins_at(bytes, i as usize);
     if !pins::gives_burst(w) {
@@ -122,7 +122,7 @@ fn step(s: &Settings, bytes: &[u8], n: u32, i: u32, firsts: &[u32; 4], mode: u32
 fn newer_step(s: &Settings, bytes: &[u8], n: u32, i: u32, firsts: &[u32; 4], mode: u32) -> Given
     requires { ⌜ Listable (now s) (now bytes) n × (i < n) ⌝ }
     requires { ⌜ KeepsPair (settingsOf (now s)) (now bytes) n i mode ⌝ }
-    ensures { λ r. ⌜ r ≡ givenAs (givenBy (settingsOf (now (s .entry))) (now (bytes .entry)) n i (now (firsts .entry)) mode) ⌝ }
+    ensures { λ r. ⌜ givenMeans r ≡ givenBy (settingsOf (now (s .entry))) (now (bytes .entry)) n i (now (firsts .entry)) mode ⌝ }
 {
     let w = capture::pins_at(bytes, i as usize);
     if !pins::gives_burst(w) {

@@ -25,22 +25,22 @@ use Rattle.blanks.proofs.Unique as one-blank
 use Rattle.demands.specs.Allowed.{Judges, Blanks}
 use Rattle.demands.specs.Refused.{opened, Accepted, BlankRefused, unopened, scant}
 use Rattle.demands.proofs.Judging.{one-answer}
+use Rattle.demands.proofs.Opening.{capture-refused-exactly}
 use Rattle.demands.proofs.Refusing.{other, leaves-refused, room, too-long}
 
 -- ---- two captures that differ only in addresses
 
-module _ (a b : List ℕ) (only : OnlyAddressesDiffer a b) where
-  -- Whatever the judge may say of the one it says of the other: verdict, rule, event, cycle and judged count, or the refusal.
-  pub judged-same : (r q : Verdict) → Judges a r → Judges b q → r ≡ q
-  judged-same r q x y = one-answer b r q (x ∙ judged-alike a b only) y
+-- Whatever the judge may say of the one it says of the other: verdict, rule, event, cycle and judged count, or the refusal.
+pub judged-same : (a b : List ℕ) → OnlyAddressesDiffer a b → (r q : Verdict) → Judges a r → Judges b q → r ≡ q
+judged-same a b only r q x y = one-answer b r q (x ∙ judged-alike a b only) y
 
-  -- If one is accepted, so is the other.
-  pub accepted-same : Accepted a → Accepted b
-  accepted-same open-to = sym (same-accepted a b only (answered tt)) ∙ open-to
+-- If one is accepted, so is the other.
+pub accepted-same : (a b : List ℕ) → OnlyAddressesDiffer a b → Accepted a → Accepted b
+accepted-same a b only open-to = sym (same-accepted a b only (answered tt)) ∙ open-to
 
-  -- They are blanked to the same bytes.
-  pub blanked-same : blanked a ≡ blanked b
-  blanked-same = same-blanked a b only
+-- They are blanked to the same bytes.
+pub blanked-same : (a b : List ℕ) → OnlyAddressesDiffer a b → blanked a ≡ blanked b
+blanked-same = same-blanked
 
 -- Two captures that are accepted differ only in addresses exactly when they are blanked to the same bytes.
 pub differ-exactly : (a b : List ℕ) → Accepted a → Accepted b → OnlyAddressesDiffer a b ↔ blanked a ≡ blanked b
@@ -48,41 +48,40 @@ differ-exactly a b x y = (same-blanked a b, differ-blanked a b x y)
 
 -- ---- a capture blanked
 
-module _ (capture : List ℕ) (open-to : Accepted capture) where
-  -- It is accepted, and differs only in addresses from what it was.
-  pub blanked-related : OnlyAddressesDiffer capture (blanked capture)
-  blanked-related = blanked-differs capture open-to
+-- It is accepted, and differs only in addresses from what it was.
+pub blanked-related : (capture : List ℕ) → Accepted capture → OnlyAddressesDiffer capture (blanked capture)
+blanked-related = blanked-differs
 
-  pub blanked-accepted : Accepted (blanked capture)
-  blanked-accepted = accepted-same capture (blanked capture) blanked-related open-to
+pub blanked-accepted : (capture : List ℕ) → Accepted capture → Accepted (blanked capture)
+blanked-accepted capture open-to = accepted-same capture (blanked capture) (blanked-related capture open-to) open-to
 
-  -- So it is judged alike.
-  pub blanked-judged : (r q : Verdict) → Judges capture r → Judges (blanked capture) q → r ≡ q
-  blanked-judged = judged-same capture (blanked capture) blanked-related
+-- So it is judged alike.
+pub blanked-judged : (capture : List ℕ) → Accepted capture → (r q : Verdict) → Judges capture r → Judges (blanked capture) q → r ≡ q
+blanked-judged capture open-to = judged-same capture (blanked capture) (blanked-related capture open-to)
 
-  -- To blank it once more changes nothing.
-  pub blanked-twice : blanked (blanked capture) ≡ blanked capture
-  blanked-twice = sym (blanked-same capture (blanked capture) blanked-related)
+-- To blank it once more changes nothing.
+pub blanked-twice : (capture : List ℕ) → Accepted capture → blanked (blanked capture) ≡ blanked capture
+blanked-twice capture open-to = sym (blanked-same capture (blanked capture) (blanked-related capture open-to))
 
 -- ---- of bytes, nothing else is touched
 
-module _ (capture : List ℕ) (open-to : Accepted capture) (bytes : Bytes capture) where
-  -- header and settings
-  pub front-kept : (j : ℕ) → j < eventsStart (countIn capture) → getD capture j 0 ≡ getD (blanked capture) j 0
-  front-kept = front-bytes capture (blanked capture) bytes (blanked-bytes capture bytes) (blanked-related capture open-to)
+-- header and settings
+pub front-kept : (capture : List ℕ) → Accepted capture → Bytes capture → (j : ℕ) → j < eventsStart (countIn capture) →
+    getD capture j 0 ≡ getD (blanked capture) j 0
+front-kept capture open-to bytes = front-bytes capture (blanked capture) bytes (blanked-bytes capture bytes) (blanked-related capture open-to)
 
-  module _ (i : ℕ) (l : i < eventCount capture) where
-    -- the four bytes of every cycle
-    pub cycle-kept : (j : ℕ) → j < 4 → getD (eventBytes capture) (8 * i + j) 0 ≡ getD (eventBytes (blanked capture)) (8 * i + j) 0
-    cycle-kept = cycle-bytes capture (blanked capture) bytes (blanked-bytes capture bytes) (blanked-related capture open-to) i l
+-- the four bytes of every cycle
+pub cycle-kept : (capture : List ℕ) → Accepted capture → Bytes capture → (i : ℕ) → i < eventCount capture → (j : ℕ) → j < 4 →
+    getD (eventBytes capture) (8 * i + j) 0 ≡ getD (eventBytes (blanked capture)) (8 * i + j) 0
+cycle-kept capture open-to bytes = cycle-bytes capture (blanked capture) bytes (blanked-bytes capture bytes) (blanked-related capture open-to)
 
-    -- the four bytes of the pins of an event that names neither a column nor a row of the part
-    pub pins-kept : namesColumn (eventAt (eventBytes capture) i .pins) ≡ false →
-        namesRow (settingsIn capture) (eventAt (eventBytes capture) i .pins) ≡ false → (j : ℕ) → j < 4 →
-        getD (eventBytes capture) (8 * i + 4 + j) 0 ≡ getD (eventBytes (blanked capture)) (8 * i + 4 + j) 0
-    pins-kept c r =
-        pin-bytes capture (blanked capture) bytes (blanked-bytes capture bytes) (blanked-related capture open-to) i l
-        (sym (blanked-pins capture open-to i l ∙ as-made (eventAt (eventBytes capture) i .pins) (settingsIn capture) c r))
+-- the four bytes of the pins of an event that names neither a column nor a row of the part
+pub pins-kept : (capture : List ℕ) → Accepted capture → Bytes capture → (i : ℕ) → i < eventCount capture →
+    namesColumn (eventAt (eventBytes capture) i .pins) ≡ false → namesRow (settingsIn capture) (eventAt (eventBytes capture) i .pins) ≡ false →
+    (j : ℕ) → j < 4 → getD (eventBytes capture) (8 * i + 4 + j) 0 ≡ getD (eventBytes (blanked capture)) (8 * i + 4 + j) 0
+pins-kept capture open-to bytes i l c r =
+    pin-bytes capture (blanked capture) bytes (blanked-bytes capture bytes) (blanked-related capture open-to) i l
+    (sym (blanked-pins capture open-to i l ∙ as-made (eventAt (eventBytes capture) i .pins) (settingsIn capture) c r))
 
 -- ---- what `blank` answers and leaves
 
@@ -100,13 +99,13 @@ module _ (capture out : List ℕ) where
           let so : _≡_ {A = Answer ℕ} (refused n p) (refused number place) = sym (ap (λ o. o .answer) (answers (refused-rest capture _ h))) ∙ k in
           let e : n ≡ number = cc in
           let f : p ≡ place = cc in
-          unopened (h ∙ (λ i. refused (e i) (f i)))
+          unopened (capture-refused-exactly capture number place .0 (h ∙ (λ i. refused (e i) (f i))))
       go (answered tt) h =
           let (n, p, l) = room out (blanked capture) number place (sym (ap (λ o. o .answer) (answers (accepted-rest capture _ h))) ∙ k) in
           scant h n (p ∙ sym (blanked-length capture h)) (rw p l)
 
   of-case : (number place : ℕ) → BlankRefused capture out number place → blankOutcome capture out .answer ≡ refused number place
-  of-case number place (unopened h) = ap (λ o. o .answer) (answers (refused-rest capture _ h))
+  of-case number place (unopened c) = ap (λ o. o .answer) (answers (refused-rest capture _ (capture-refused-exactly capture number place .1 c)))
   of-case number place (scant h n p l) =
       ap (λ o. o .answer) (answers (accepted-rest capture _ h)) ∙ too-long out (blanked capture) (omega (arith, p, l, blanked-length capture h))
       ∙ (λ i. refused (sym n i) ((sym (blanked-length capture h) ∙ sym p) i))
@@ -152,28 +151,33 @@ module _ (capture out left : List ℕ) (n : ℕ) (a : Blanks capture out (Writte
       go (answered tt) h =
           fitted h (ltb (length out) (length (blanked capture))) refl (answers capture out (accepted-rest capture _ h))
 
-  -- The capture was accepted, and its bytes, blanked, are what stands at the front of the buffer; bytes behind them stay.
-  pub written-opened : Accepted capture
-  written-opened = wrote .open-to
+-- The capture was accepted, and its bytes, blanked, are what stands at the front of the buffer; bytes behind them stay.
+pub written-opened : (capture out left : List ℕ) (n : ℕ) → Blanks capture out (Written n) left → Accepted capture
+written-opened capture out left n a = wrote capture out left n a .open-to
 
-  pub written-is : take n left ≡ blanked capture
-  written-is = ap (take n) (wrote .whole) ∙ take-at (blanked capture) (drop n out) n (sym (wrote .count))
+pub written-is : (capture out left : List ℕ) (n : ℕ) → Blanks capture out (Written n) left → take n left ≡ blanked capture
+written-is capture out left n a =
+    let w = wrote capture out left n a in ap (take n) (w .whole) ∙ take-at (blanked capture) (drop n out) n (sym (w .count))
 
-  pub written-long : n ≡ length capture
-  written-long = wrote .count ∙ sym (blanked-length capture (wrote .open-to))
+pub written-long : (capture out left : List ℕ) (n : ℕ) → Blanks capture out (Written n) left → n ≡ length capture
+written-long capture out left n a = let w = wrote capture out left n a in w .count ∙ sym (blanked-length capture (w .open-to))
 
-  pub behind-stays : drop n left ≡ drop n out
-  behind-stays = ap (drop n) (wrote .whole) ∙ drop-at (blanked capture) (drop n out) n (sym (wrote .count))
+pub behind-stays : (capture out left : List ℕ) (n : ℕ) → Blanks capture out (Written n) left → drop n left ≡ drop n out
+behind-stays capture out left n a =
+    let w = wrote capture out left n a in ap (drop n) (w .whole) ∙ drop-at (blanked capture) (drop n out) n (sym (w .count))
 
-  -- What was written is accepted, differs only in addresses from what was given, and so is judged alike.
-  pub written-accepted : Accepted (take n left)
-  written-accepted = subst Accepted (sym written-is) (blanked-accepted capture (wrote .open-to))
+-- What was written is accepted, differs only in addresses from what was given, and so is judged alike.
+pub written-accepted : (capture out left : List ℕ) (n : ℕ) → Blanks capture out (Written n) left → Accepted (take n left)
+written-accepted capture out left n a =
+    subst Accepted (sym (written-is capture out left n a)) (blanked-accepted capture (written-opened capture out left n a))
 
-  pub written-related : OnlyAddressesDiffer capture (take n left)
-  written-related = subst (OnlyAddressesDiffer capture) (sym written-is) (blanked-related capture (wrote .open-to))
+pub written-related : (capture out left : List ℕ) (n : ℕ) → Blanks capture out (Written n) left → OnlyAddressesDiffer capture (take n left)
+written-related capture out left n a =
+    subst (OnlyAddressesDiffer capture) (sym (written-is capture out left n a)) (blanked-related capture (written-opened capture out left n a))
 
-  pub written-judged : (r q : Verdict) → Judges capture r → Judges (take n left) q → r ≡ q
-  written-judged = judged-same capture (take n left) written-related
+pub written-judged : (capture out left : List ℕ) (n : ℕ) → Blanks capture out (Written n) left →
+    (r q : Verdict) → Judges capture r → Judges (take n left) q → r ≡ q
+written-judged capture out left n a = judged-same capture (take n left) (written-related capture out left n a)
 
 -- Of two captures that differ only in addresses the same bytes are written.
 pub written-same : (a b : List ℕ) → OnlyAddressesDiffer a b → (out other left rest : List ℕ) (n m : ℕ) →

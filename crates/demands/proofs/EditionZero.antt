@@ -113,17 +113,17 @@ module _ (capture : List ℕ) where
     unfolding accepted
     same-accepted rest = rw same-header
 
-    -- A capture of edition 0 is judged as it was.
-    pub judge-edition-0 : judgeAnswer capture ≡ oldJudgeAnswer capture
-    unfolding judgeAnswer
-    judge-edition-0 =
-        same-accepted _
-        ∙ ap (λ (v : Verdict). oldAccepted capture (answered (record { events = eventCount capture; judged = judgedOf (eventCount capture) v; verdict = v })))
-        same-verdict
+-- A capture of edition 0 is judged as it was.
+pub judge-edition-0 : (capture : List ℕ) → editionIn capture ≡ 0 → judgeAnswer capture ≡ oldJudgeAnswer capture
+unfolding judgeAnswer
+judge-edition-0 capture zero =
+    same-accepted capture zero _
+    ∙ ap (λ (v : Verdict). oldAccepted capture (answered (record { events = eventCount capture; judged = judgedOf (eventCount capture) v; verdict = v })))
+    (same-verdict capture zero)
 
-    -- And its burst list is what it was, in answer and buffer.
-    pub cells-edition-0 : (buffer : List ℕ) → cellsOutcome capture buffer ≡ oldCellsOutcome capture buffer
-    unfolding cellsOutcome
-    cells-edition-0 buffer =
-        ap (λ (a : Answer (List ℕ)). leaves a buffer) (same-accepted _)
-        ∙ (λ i. leaves (oldAccepted capture (unless 8 (notClean (same-verdict i)) (fitting buffer (same-cells i)))) buffer)
+-- And its burst list is what it was, in answer and buffer.
+pub cells-edition-0 : (capture : List ℕ) → editionIn capture ≡ 0 → (buffer : List ℕ) → cellsOutcome capture buffer ≡ oldCellsOutcome capture buffer
+unfolding cellsOutcome
+cells-edition-0 capture zero buffer =
+    ap (λ (a : Answer (List ℕ)). leaves a buffer) (same-accepted capture zero _)
+    ∙ (λ i. leaves (oldAccepted capture (unless 8 (notClean (same-verdict capture zero i)) (fitting buffer (same-cells capture zero i)))) buffer)

@@ -1,36 +1,46 @@
 -- Demands 1 and 2, for `judge::judge` on any bytes.
-use Prim.Native.Nat.{ℕ}
-use mathlib.Core.List.{List}
-use mathlib.Core.Logic.{_↔_}
+use Prim.Native.Nat.{ℕ, zero, suc, _^_, _<_}
+use mathlib.Core.Bool.{Bool, true, false, cond, not, and-eq-true-iff}
+use mathlib.Core.List.{List, [], _∷_, List·Memᴰ, List·Memᴰ·not-nil, List·Memᴰ·cases-cons}
+use mathlib.Core.Logic.{_↔_, _⊎_, inl, inr}
 use mathlib.Core.Path.{_≡_, refl, sym, ap, _∙_}
+use native.Mathlib.Nat.{zero-add}
 use native.Mathlib.Omega.{arith}
-use lib.ListN.{length}
+use lib.Dec.{eqb}
+use lib.ListN.{length, length-map}
+use Rattle.reading.specs.Search.{every, count}
 use Rattle.reading.specs.Settings.{Settings}
-use Rattle.reading.specs.Capture.{Event, eventCount, eventsOf}
-use Rattle.reading.specs.Part.{start}
+use Rattle.reading.specs.Capture.{Event, headerWord, eventCount, eventBytes, eventAt, eventsOf, pinLimit}
+use Rattle.reading.specs.Commands.{commandOf}
+use Rattle.reading.specs.Sleep.{sleepAtStart}
+use Rattle.reading.specs.Part.{Part, start, step}
+use Rattle.reading.specs.Rules.{rules, rule15}
 use Rattle.reading.specs.Verdict as is
 use Rattle.reading.specs.Answers.{Answer, refused, answered, accepted, settingsIn, verdictIn, judgeAnswer, Report}
-use Rattle.reading.proofs.Meaning.{Unbroken, BrokenAt, verdict-clean, verdict-broken}
-use Rattle.capture.proofs.Accepted.{accepted-rest, refused-rest}
+use Rattle.reading.proofs.Meaning.{eventOf, partBefore, verdict-clean, verdict-broken}
+use Rattle.words.proofs.Counting.{at-count}
+use Rattle.capture.proofs.Accepted.{accepted-rest, refused-rest, accepted-sound, length-count}
+use Rattle.plan.proofs.Awake.{cke-high, awake-allowed, awake-stays}
 use Rattle.judge.specs.declared.Verdict.{Verdict}
-use Rattle.judge.specs.declared.Verdict.the-variants.{Refused, Clean, Broken}
+use Rattle.judge.specs.declared.Verdict.the-variants as said
 use Rattle.judge.specs.Meaning.{means}
 use Rattle.demands.specs.Allowed.{Judges}
+use Rattle.demands.specs.Refused.{Accepted, Clean, Broken}
 
 -- the result that an answer of document 01 comes from
 reportOf : Answer Report → Verdict
-reportOf (refused number place) = Refused number place
+reportOf (refused number place) = said.Refused number place
 reportOf (answered r) = found (r .verdict)
   where
     found : is.Verdict → Verdict
-    found is.clean = Clean (r .events) (r .judged)
-    found (is.broken rule event cycle) = Broken (r .events) (r .judged) rule event cycle
+    found is.clean = said.Clean (r .events) (r .judged)
+    found (is.broken rule event cycle) = said.Broken (r .events) (r .judged) rule event cycle
 
 back : (r : Verdict) → reportOf (means r) ≡ r
 unfolding reportOf
-back (Refused number place) = refl
-back (Clean events judged) = refl
-back (Broken events judged rule event cycle) = refl
+back (said.Refused number place) = refl
+back (said.Clean events judged) = refl
+back (said.Broken events judged rule event cycle) = refl
 
 -- Demand 1: one answer for every byte string. Any two results that the contract allows are equal.
 pub one-answer : (capture : List ℕ) (r q : Verdict) → Judges capture r → Judges capture q → r ≡ q
@@ -39,10 +49,10 @@ one-answer capture r q a b = sym (back r) ∙ ap reportOf (a ∙ sym b) ∙ back
 -- a capture whose every event was judged and kept the rules, of however many events
 pub judged-clean : (capture : List ℕ) (n : ℕ) (r : Verdict) → Judges capture r →
     judgeAnswer capture ≡ answered (record { events = n; judged = n; verdict = is.clean }) →
-    r ≡ Clean (eventCount capture) (eventCount capture)
+    r ≡ said.Clean (eventCount capture) (eventCount capture)
 unfolding judgeAnswer
 judged-clean capture n r a h =
-    one-answer capture r (Clean n n) a (sym h) ∙ ap (λ (k : ℕ). Clean k k) (sym (counted (accepted capture (answered (tt {0}))) refl))
+    one-answer capture r (said.Clean n n) a (sym h) ∙ ap (λ (k : ℕ). said.Clean k k) (sym (counted (accepted capture (answered (tt {0}))) refl))
   where
     eventsOfAnswer : Answer Report → ℕ
     eventsOfAnswer (refused number place) = 0
@@ -58,7 +68,7 @@ verdictOfAnswer : Answer Report → is.Verdict
 verdictOfAnswer (refused number place) = is.clean
 verdictOfAnswer (answered r) = r .verdict
 
-module _ (capture : List ℕ) (open-to : accepted capture (answered (tt {0})) ≡ answered tt) (r : Verdict) (allowed : Judges capture r) where
+module _ (capture : List ℕ) (open-to : Accepted capture) (r : Verdict) (allowed : Judges capture r) where
   abbrev s : Settings
   s = settingsIn capture
 
@@ -83,14 +93,79 @@ module _ (capture : List ℕ) (open-to : accepted capture (answered (tt {0})) �
     λ e. one-answer capture r q allowed (h ∙ sym (verdict-is v .1 e) ∙ allowed),
   )
 
-  both : {A B C : Type 0} → A ↔ B → B ↔ C → A ↔ C
-  both p q = (λ a. q .0 (p .0 a), λ c. p .1 (q .1 c))
+both : {A B C : Type 0} → A ↔ B → B ↔ C → A ↔ C
+both p q = (λ a. q .0 (p .0 a), λ c. p .1 (q .1 c))
 
-  -- Demand 2: clean exactly when every event, after the events before it, breaks no rule; and then all were judged.
-  pub clean-means-clean : r ≡ Clean (eventCount capture) (eventCount capture) ↔ Unbroken s (start s) es (length es)
-  clean-means-clean = both (saying is.clean (Clean (eventCount capture) (eventCount capture)) refl) (verdict-clean s es)
+-- Demand 2: clean exactly when every event, after the events before it, breaks no rule; and then all were judged.
+pub clean-means-clean : (capture : List ℕ) → Accepted capture → (r : Verdict) → Judges capture r →
+    r ≡ said.Clean (eventCount capture) (eventCount capture) ↔ Clean capture
+clean-means-clean capture open-to r allowed =
+    both (saying capture open-to r allowed is.clean (said.Clean (eventCount capture) (eventCount capture)) refl)
+    (verdict-clean (settingsIn capture) (eventsOf capture))
 
-  -- Demand 2: else the first event that breaks a rule, the lowest rule that it breaks, its cycle, and as many judged as stand before it.
-  pub broken-means-broken : (rule event cycle : ℕ) → r ≡ Broken (eventCount capture) event rule event cycle ↔ BrokenAt s (start s) es event rule cycle
-  broken-means-broken rule event cycle =
-      both (saying (is.broken rule event cycle) (Broken (eventCount capture) event rule event cycle) refl) (verdict-broken s es rule event cycle)
+-- Demand 2: else the first event that breaks a rule, the lowest rule that it breaks, its cycle, and as many judged as stand before it.
+pub broken-means-broken : (capture : List ℕ) → Accepted capture → (r : Verdict) → Judges capture r → (rule event cycle : ℕ) →
+    r ≡ said.Broken (eventCount capture) event rule event cycle ↔ Broken capture rule event cycle
+broken-means-broken capture open-to r allowed rule event cycle =
+    both (saying capture open-to r allowed (is.broken rule event cycle) (said.Broken (eventCount capture) event rule event cycle) refl)
+    (verdict-broken (settingsIn capture) (eventsOf capture) rule event cycle)
+
+-- ---- rules that are never told
+
+-- what is told of an event is so, whatever is told of the counts
+told-broken : (capture : List ℕ) → Accepted capture → {events judged rule event cycle : ℕ} →
+    Judges capture (said.Broken events judged rule event cycle) → Broken capture rule event cycle
+unfolding verdictOfAnswer
+told-broken capture open-to {events} {judged} {rule} {event} {cycle} a =
+    verdict-broken (settingsIn capture) (eventsOf capture) rule event cycle .0
+    (sym (ap verdictOfAnswer (reported capture open-to (said.Broken events judged rule event cycle) a)))
+
+among : {r : ℕ} (f : ℕ → Bool) (rs : List ℕ) → every f rs ≡ true → List·Memᴰ r rs → f r ≡ true
+among f [] e m = absurd (List·Memᴰ·not-nil m)
+among {r} f (x ∷ xs) e m = let (first, rest) = and-eq-true-iff (f x) (every f xs) .0 e in go first (among f xs rest) (List·Memᴰ·cases-cons m)
+  where
+    go : f x ≡ true → (List·Memᴰ r xs → f r ≡ true) → (r ≡ x) ⊎ List·Memᴰ r xs → f r ≡ true
+    go first ih (inl p) = ap f p ∙ first
+    go first ih (inr n) = ih n
+
+-- No accepted capture is told to break rule 6.
+pub never-rule-6 : (capture : List ℕ) → Accepted capture → (events judged event cycle : ℕ) →
+    Judges capture (said.Broken events judged 6 event cycle) → ⊥
+never-rule-6 capture open-to events judged event cycle a =
+    let z : not (eqb 6 6) ≡ true = among (λ (x : ℕ). not (eqb x 6)) rules refl (told-broken capture open-to a .breaks .rule) in
+    let n : _≡_ {A = ℕ} 0 1 = cc in absurd (omega arith)
+
+-- a part that never slept stays awake through events with CKE high
+awake-run : (s : Settings) (p : Part) → p .sleep ≡ sleepAtStart → (es : List Event) → ((j : ℕ) → j < length es → eventOf es j .pins < 2 ^ 20) →
+    (i : ℕ) → partBefore s p es i .sleep ≡ sleepAtStart
+awake-run s p e es f zero = e
+awake-run s p e [] f (suc i) = e
+awake-run s p e (x ∷ es) f (suc i) =
+    awake-run s (step s p x) (awake-stays s p e (x .cycle) (commandOf (x .pins)) (cke-high (x .pins) (f 0 (omega arith)))) es (λ j l. f (suc j) (omega arith)) i
+
+-- the events of a capture with fourteen settings
+pins-below : (capture : List ℕ) → Accepted capture → headerWord capture 1 ≡ 14 → (j : ℕ) → j < length (eventsOf capture) →
+    eventOf (eventsOf capture) j .pins < 2 ^ 20
+unfolding eventsOf
+pins-below capture open-to e j l =
+    let n : length (eventsOf capture) ≡ eventCount capture = length-map (count 0 (eventCount capture)) (eventAt (eventBytes capture)) ∙ length-count 0 (eventCount capture) in
+    let within : j < eventCount capture = omega (arith, n, l) in
+    let there : eventOf (eventsOf capture) j ≡ eventAt (eventBytes capture) j =
+    at-count (eventAt (eventBytes capture)) (record { cycle = 0; pins = 0 }) 0 (eventCount capture) j within ∙ ap (eventAt (eventBytes capture)) (zero-add j) in
+    let limit : pinLimit capture ≡ 2 ^ 20 = ap (λ (k : ℕ). cond (eqb k 16) (2 ^ 21) (2 ^ 20)) e in
+    rw (there, ← limit) (accepted-sound capture open-to .pins j within)
+
+-- With fourteen settings no accepted capture is told to break rule 15.
+pub never-rule-15 : (capture : List ℕ) → Accepted capture → headerWord capture 1 ≡ 14 → (events judged event cycle : ℕ) →
+    Judges capture (said.Broken events judged 15 event cycle) → ⊥
+never-rule-15 capture open-to fourteen events judged event cycle a =
+    let b = told-broken capture open-to a in
+    let s = settingsIn capture in
+    let es = eventsOf capture in
+    let pins = pins-below capture open-to fourteen in
+    let x = eventOf es event in
+    let kept : rule15 s (partBefore s (start s) es event) (x .cycle) (commandOf (x .pins)) ≡ true =
+    awake-allowed s (partBefore s (start s) es event) (awake-run s (start s) refl es pins event) (x .cycle) (commandOf (x .pins))
+    (cke-high (x .pins) (pins event (b .there))) in
+    let z : true ≡ false = sym kept ∙ b .breaks .breaks in
+    let n : _≡_ {A = ℕ} 0 1 = cc in absurd (omega arith)

@@ -15,7 +15,6 @@ use Rattle.reading.specs.Capture.{eventsOf}
 use Rattle.reading.specs.Mode.{BL, interleaved}
 use Rattle.reading.specs.Bursts.{Burst, place, beatColumn, cellNumber, beatCell, burstCells}
 use Rattle.reading.specs.Cells.{burstsOf, cellsOf}
-use Rattle.reading.specs.Verdict as is
 use Rattle.reading.specs.Answers.{Answer, Outcome, answered, unless, settingsIn, verdictIn, notClean, cellsIn, fitting, leaves, cellsOutcome}
 use Rattle.reading.proofs.Meaning.{verdict-clean}
 use Rattle.reading.proofs.Tables.{tableRow, row-published}
@@ -54,50 +53,49 @@ module _ (s : Settings) where
       ∙ List·getD-append (burstCells s x) (cellsOf s ys ++ tail) 0 j (omega (arith, burst-length x, l))
       ∙ at-count (beatCell s x) 0 0 (2 * x .n) j l ∙ ap (beatCell s x) (zero-add j)
 
-  -- The cell of beat j is that of the published burst tables: of the row for the burst's length, order and starting column.
-  pub beat-published : (x : Burst) (j : ℕ) → j < BL (x .mode) → beatCell s x j ≡ cellNumber s (x .bank) (x .row)
-      (x .column / BL (x .mode) * BL (x .mode) + getD (tableRow (interleaved (x .mode)) (x .mode % 8) (x .column % BL (x .mode))) j 0)
-  unfolding beatCell beatColumn
-  beat-published x j l =
-      let m = x .mode in
-      let c = x .column in
-      let there : place m c j ≡ getD (tableRow (interleaved m) (m % 8) (c % BL m)) j 0 =
-      sym (at-count (place m c) 0 0 (BL m) j l ∙ ap (place m c) (zero-add j)) ∙ ap (λ (row : List ℕ). getD row j 0) (row-published m c) in
-      ap (λ (p : ℕ). cellNumber s (x .bank) (x .row) (c / BL m * BL m + p)) there
+-- The cell of beat j is that of the published burst tables: of the row for the burst's length, order and starting column.
+pub beat-published : (s : Settings) (x : Burst) (j : ℕ) → j < BL (x .mode) → beatCell s x j ≡ cellNumber s (x .bank) (x .row)
+    (x .column / BL (x .mode) * BL (x .mode) + getD (tableRow (interleaved (x .mode)) (x .mode % 8) (x .column % BL (x .mode))) j 0)
+unfolding beatCell beatColumn
+beat-published s x j l =
+    let m = x .mode in
+    let c = x .column in
+    let there : place m c j ≡ getD (tableRow (interleaved m) (m % 8) (c % BL m)) j 0 =
+    sym (at-count (place m c) 0 0 (BL m) j l ∙ ap (place m c) (zero-add j)) ∙ ap (λ (row : List ℕ). getD row j 0) (row-published m c) in
+    ap (λ (p : ℕ). cellNumber s (x .bank) (x .row) (c / BL m * BL m + p)) there
 
 -- ---- the demand
 
-module _ (capture out : List ℕ) (r : Listed) (left : List ℕ) (allowed : Lists capture out r left) (accepted : Accepted capture) (clean : Clean capture)
-    (room : length (cellsIn capture) ≤ length out) where
-  abbrev s : Settings
-  s = settingsIn capture
-
-  abbrev bursts : List Burst
-  bursts = burstsOf s (eventsOf capture)
-
+module _ (capture out : List ℕ) (accepted : Accepted capture) (clean : Clean capture) (room : length (cellsIn capture) ≤ length out) where
   outcome : cellsOutcome capture out ≡ leaves (answered (cellsIn capture)) out
   unfolding cellsOutcome verdictIn
   outcome =
-      let no-break : notClean (verdictIn capture) ≡ _ = ap notClean (verdict-clean s (eventsOf capture) .1 clean) in
+      let no-break : notClean (verdictIn capture) ≡ _ = ap notClean (verdict-clean (settingsIn capture) (eventsOf capture) .1 clean) in
       let fits : ltb (length out) (length (cellsIn capture)) ≡ false = le-ltb (length out) (length (cellsIn capture)) room in
       let answer : unless 8 (notClean (verdictIn capture)) (fitting out (cellsIn capture)) ≡ answered (cellsIn capture) = rw (no-break, fits) in
       ap (λ (a : Answer (List ℕ)). leaves a out) (accepted-rest capture _ accepted ∙ answer)
 
-  -- As many cells as there are kept beats.
-  pub cells-counted : r ≡ listed.Written (beatsOf bursts)
-  unfolding cellsIn
-  cells-counted =
-      one-answer r (listed.Written (length (cellsIn capture))) (allowed .0 ∙ ap (λ (o : Outcome). o .answer) outcome)
-      ∙ ap listed.Written (cells-length s bursts)
+-- A clean capture, with room for its cells: as many are written as there are kept beats.
+pub cells-counted : (capture out : List ℕ) → Accepted capture → Clean capture → length (cellsIn capture) ≤ length out →
+    (r : Listed) (left : List ℕ) → Lists capture out r left → r ≡ listed.Written (beatsOf (burstsOf (settingsIn capture) (eventsOf capture)))
+unfolding cellsIn
+cells-counted capture out accepted clean room r left allowed =
+    one-answer r (listed.Written (length (cellsIn capture))) (allowed .0 ∙ ap (λ (o : Outcome). o .answer) (outcome capture out accepted clean room))
+    ∙ ap listed.Written (cells-length (settingsIn capture) (burstsOf (settingsIn capture) (eventsOf capture)))
 
-  -- They stand from the front of the buffer on; what lies behind them stays.
-  pub cells-there : left ≡ cellsIn capture ++ drop (length (cellsIn capture)) out
-  cells-there = allowed .1 ∙ ap (λ (o : Outcome). o .buffer) outcome
+-- They stand from the front of the buffer on; what lies behind them stays.
+pub cells-there : (capture out : List ℕ) → Accepted capture → Clean capture → length (cellsIn capture) ≤ length out →
+    (r : Listed) (left : List ℕ) → Lists capture out r left → left ≡ cellsIn capture ++ drop (length (cellsIn capture)) out
+cells-there capture out accepted clean room r left allowed = allowed .1 ∙ ap (λ (o : Outcome). o .buffer) (outcome capture out accepted clean room)
 
-  -- Beat j of a burst stands behind the kept beats of the bursts given before it, and is the cell of that beat.
-  pub beat-listed : (xs : List Burst) (x : Burst) (ys : List Burst) → bursts ≡ xs ++ x ∷ ys → (j : ℕ) → j < 2 * x .n →
-      getD left (beatsOf xs + j) 0 ≡ beatCell s x j
-  unfolding cellsIn
-  beat-listed xs x ys e j l =
-      ap (λ (cs : List ℕ). getD cs (beatsOf xs + j) 0) (cells-there ∙ ap (λ (b : List Burst). cellsOf s b ++ drop (length (cellsIn capture)) out) e)
-      ∙ beat-there s xs x ys (drop (length (cellsIn capture)) out) j l
+-- Beat j of a burst stands behind the kept beats of the bursts given before it, and is the cell of that beat.
+pub beat-listed : (capture out : List ℕ) → Accepted capture → Clean capture → length (cellsIn capture) ≤ length out →
+    (r : Listed) (left : List ℕ) → Lists capture out r left →
+    (xs : List Burst) (x : Burst) (ys : List Burst) → burstsOf (settingsIn capture) (eventsOf capture) ≡ xs ++ x ∷ ys → (j : ℕ) → j < 2 * x .n →
+    getD left (beatsOf xs + j) 0 ≡ beatCell (settingsIn capture) x j
+unfolding cellsIn
+beat-listed capture out accepted clean room r left allowed xs x ys e j l =
+    let s = settingsIn capture in
+    ap (λ (cs : List ℕ). getD cs (beatsOf xs + j) 0)
+    (cells-there capture out accepted clean room r left allowed ∙ ap (λ (b : List Burst). cellsOf s b ++ drop (length (cellsIn capture)) out) e)
+    ∙ beat-there s xs x ys (drop (length (cellsIn capture)) out) j l

@@ -29,9 +29,11 @@ use Rattle.schedule.specs.declared.Scheduled.the-variants as scheduled
 use Rattle.schedule.specs.Meaning as schedule
 use Rattle.schedule.proofs.Unique as one-schedule
 use Rattle.demands.specs.Allowed.{Judges, Lists, Schedules}
+use Rattle.demands.specs.Captures.{CaptureRefused}
 use Rattle.demands.specs.Refused.{opened, Accepted, ListRefused, unaccepted, unclean, ScheduleRefused}
 use Rattle.demands.specs.Refused as case
 use Rattle.demands.proofs.Judging.{one-answer}
+use Rattle.demands.proofs.Opening.{capture-refused-exactly}
 
 pub other : {B : Type 0} {A : Type 0} {x : A} {number place : ℕ} → _≡_ {A = Answer A} (answered x) (refused number place) → B
 other e = let z : _≡_ {A = ℕ} 0 1 = cc in absurd (omega arith)
@@ -39,11 +41,11 @@ other e = let z : _≡_ {A = ℕ} 0 1 = cc in absurd (omega arith)
 -- ---- the judge
 
 pub judge-refused : (capture : List ℕ) (r : Verdict) → Judges capture r → (number place : ℕ) →
-    r ≡ judged.Refused number place ↔ opened capture ≡ refused number place
+    r ≡ judged.Refused number place ↔ CaptureRefused capture number place
 unfolding judgeAnswer
 judge-refused capture r a number place = (
-  λ e. go (opened capture) refl (sym a ∙ ap judge.means e),
-  λ h. one-answer capture r (judged.Refused number place) a (sym (refused-rest capture _ h)),
+  λ e. capture-refused-exactly capture number place .0 (go (opened capture) refl (sym a ∙ ap judge.means e)),
+  λ c. one-answer capture r (judged.Refused number place) a (sym (refused-rest capture _ (capture-refused-exactly capture number place .1 c))),
 )
   where
     go : (x : Answer (Unit {0})) → opened capture ≡ x → judgeAnswer capture ≡ refused number place → opened capture ≡ refused number place
@@ -106,12 +108,12 @@ module _ (capture out : List ℕ) where
           let so : _≡_ {A = Answer ℕ} (refused n p) (refused number place) = sym (answers (refused-rest capture rest h)) ∙ k in
           let e : n ≡ number = cc in
           let f : p ≡ place = cc in
-          unaccepted (h ∙ (λ i. refused (e i) (f i)))
+          unaccepted (capture-refused-exactly capture number place .0 (h ∙ (λ i. refused (e i) (f i))))
       go (answered tt) h = decided h (verdictIn capture) refl
 
   case-list : (number place : ℕ) → ListRefused capture out number place → cellsOutcome capture out .answer ≡ refused number place
   unfolding verdictIn
-  case-list number place (unaccepted h) = answers (refused-rest capture rest h)
+  case-list number place (unaccepted c) = answers (refused-rest capture rest (capture-refused-exactly capture number place .1 c))
   case-list number place (unclean h n rule cycle b) =
       judged-as (is.broken rule place cycle) (verdict-broken (settingsIn capture) (eventsOf capture) rule place cycle .1 b) h
       ∙ ap (λ (k : ℕ). refused k place) (sym n)

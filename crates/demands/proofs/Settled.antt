@@ -430,7 +430,7 @@ pub serving-margin-settles : (κs : _) (a : _) (z z′ : _) (e e′ : _) → ser
 serving-margin-settles κs a z z′ e e′ p q = p ∙ sym q
 
 pub serving-serve-settles : (κs : _) (a : _) (z z′ : _) (e e′ : _) → serving-serve.Post κs a z e → serving-serve.Post κs a z′ e′ → (z ≡ z′) × ((now (e .1 .0) ≡ now (e′ .1 .0)) × ((now (e .1 .1 .0) ≡ now (e′ .1 .1 .0)) × ((now (e .1 .1 .1 .0) ≡ now (e′ .1 .1 .1 .0)) × ((now (e .1 .1 .1 .1 .0) ≡ now (e′ .1 .1 .1 .1 .0)) × (now (e .1 .1 .1 .1 .1 .0) ≡ now (e′ .1 .1 .1 .1 .1 .0))))))
-serving-serve-settles κs a z z′ e e′ p q = (p .0 ∙ sym (q .0), serving.one-turn (p .1 .0 ∙ sym (q .1 .0)) (p .1 .1 .0 ∙ sym (q .1 .1 .0), p .1 .1 .1 ∙ sym (q .1 .1 .1)))
+serving-serve-settles κs a z z′ e e′ p q = (serving.one-answer z z′ (p .0 ∙ sym (q .0)), serving.one-turn (p .1 .0 ∙ sym (q .1 .0)) (p .1 .1 .0 ∙ sym (q .1 .1 .0), p .1 .1 .1 ∙ sym (q .1 .1 .1)))
 
 -- ---- schedule
 

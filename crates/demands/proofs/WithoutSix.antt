@@ -59,25 +59,24 @@ accepted-alike capture x y same =
     go none none none (some p) f = refl
     go none none none none f = f refl
 
-module _ (capture : List ℕ) where
-  agree : badSetting (settingWords capture) ≡ none → verdictInBy rulesWithSix capture ≡ verdictInBy rules capture
-  agree fine = verdicts-agree (settingsIn capture) (short (settingWords capture) fine) (eventsOf capture)
+agree : (capture : List ℕ) → badSetting (settingWords capture) ≡ none → verdictInBy rulesWithSix capture ≡ verdictInBy rules capture
+agree capture fine = verdicts-agree (settingsIn capture) (short (settingWords capture) fine) (eventsOf capture)
 
-  -- Every byte string gets from the judge the answer that it would get with rule 6.
-  pub judge-without-six : judgeAnswerBy rulesWithSix capture ≡ judgeAnswer capture
-  unfolding judgeAnswer verdictIn
-  judge-without-six =
-      accepted-alike capture _ _
-      (λ fine.
-      ap (λ (v : Verdict). answered (record { events = eventCount capture; judged = judgedOf (eventCount capture) v; verdict = v })) (agree fine))
+-- Every byte string gets from the judge the answer that it would get with rule 6.
+pub judge-without-six : (capture : List ℕ) → judgeAnswerBy rulesWithSix capture ≡ judgeAnswer capture
+unfolding judgeAnswer verdictIn
+judge-without-six capture =
+    accepted-alike capture _ _
+    (λ fine.
+    ap (λ (v : Verdict). answered (record { events = eventCount capture; judged = judgedOf (eventCount capture) v; verdict = v })) (agree capture fine))
 
-  -- So does every burst list, in answer and buffer.
-  pub cells-without-six : (out : List ℕ) → cellsOutcomeBy rulesWithSix capture out ≡ cellsOutcome capture out
-  unfolding cellsOutcome verdictIn
-  cells-without-six out =
-      ap (λ (a : Answer (List ℕ)). leaves a out)
-      (accepted-alike capture _ _
-      (λ fine. ap (λ (v : Verdict). unless 8 (notClean v) (fitting out (cellsIn capture))) (agree fine)))
+-- So does every burst list, in answer and buffer.
+pub cells-without-six : (capture out : List ℕ) → cellsOutcomeBy rulesWithSix capture out ≡ cellsOutcome capture out
+unfolding cellsOutcome verdictIn
+cells-without-six capture out =
+    ap (λ (a : Answer (List ℕ)). leaves a out)
+    (accepted-alike capture _ _
+    (λ fine. ap (λ (v : Verdict). unless 8 (notClean v) (fitting out (cellsIn capture))) (agree capture fine)))
 
 -- ---- schedules
 

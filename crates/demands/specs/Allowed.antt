@@ -5,12 +5,15 @@ use mathlib.Core.Path.{_≡_}
 use Rattle.reading.specs.Answers.{judgeAnswer, cellsOutcome, scheduleOutcome}
 use Rattle.reading.specs.Blank.{blankOutcome}
 use Rattle.judge.specs.declared.Verdict.{Verdict}
+use Rattle.judge.specs.declared.Verdict.the-variants as verdict
 use Rattle.judge.specs.Meaning.{means}
 use Rattle.cells.specs.declared.Listed.{Listed}
+use Rattle.cells.specs.declared.Listed.the-variants as listed
 use Rattle.cells.specs.Meaning as cells
 use Rattle.schedule.specs.declared.Scheduled.{Scheduled}
 use Rattle.schedule.specs.Meaning as schedule
 use Rattle.blanks.specs.declared.Blanked.{Blanked}
+use Rattle.blanks.specs.declared.Blanked.the-variants as blanked
 use Rattle.blanks.specs.Meaning as blanks
 
 -- by `judge::judge`
@@ -29,3 +32,9 @@ Schedules ws qs policy out r left =
 -- by `blanks::blank`, lent `out`, which holds `left` afterwards
 abbrev pub Blanks : List ℕ → List ℕ → Blanked → List ℕ → Type 0
 Blanks capture out r left = (blanks.means r ≡ blankOutcome capture out .answer) × (left ≡ blankOutcome capture out .buffer)
+
+-- by every call that is asked about a capture: it is refused so, and what was lent is left as it was
+pub record Refused (capture : List ℕ) (number place : ℕ) : Type 0 where
+  pub judge : (r : Verdict) → Judges capture r → r ≡ verdict.Refused number place
+  pub list : (out : List ℕ) (r : Listed) (left : List ℕ) → Lists capture out r left → (r ≡ listed.Refused number place) × (left ≡ out)
+  pub blank : (out : List ℕ) (r : Blanked) (left : List ℕ) → Blanks capture out r left → (r ≡ blanked.Refused number place) × (left ≡ out)

@@ -1,4 +1,5 @@
--- When a call is refused, and with which number and place: every case of document 01's table, said out in full.
+-- When a call is refused, and with which number and place: every case of document 01's table, said out in full. Refusals 1 to 4
+-- of a capture stand in Captures.
 use Prim.Native.Nat.{ℕ, _≤_, _<_}
 use mathlib.Core.List.{List}
 use mathlib.Core.Option.{none, some}
@@ -8,8 +9,9 @@ use Rattle.reading.specs.Settings.{settingsOf, badSetting}
 use Rattle.reading.specs.Capture.{Event, eventsOf}
 use Rattle.reading.specs.Part.{start}
 use Rattle.reading.specs.Schedule.{planned, late, badRequest, scheduleOf, captureOf}
-use Rattle.reading.specs.Answers.{Answer, refused, answered, accepted, settingsIn, cellsIn}
+use Rattle.reading.specs.Answers.{Answer, answered, accepted, settingsIn, cellsIn}
 use Rattle.reading.proofs.Meaning.{Unbroken, BrokenAt}
+use Rattle.demands.specs.Captures.{CaptureRefused}
 
 -- what refusals 1 to 4 say of a capture, and none of them
 abbrev pub opened : List ℕ → Answer (Unit {0})
@@ -22,20 +24,23 @@ Accepted capture = opened capture ≡ answered tt
 abbrev pub Clean : List ℕ → Type 0
 Clean capture = Unbroken (settingsIn capture) (start (settingsIn capture)) (eventsOf capture) (length (eventsOf capture))
 
+-- the first event that breaks a rule, the lowest rule that it breaks, its cycle
+abbrev pub Broken : List ℕ → ℕ → ℕ → ℕ → Type 0
+Broken capture rule event cycle = BrokenAt (settingsIn capture) (start (settingsIn capture)) (eventsOf capture) event rule cycle
+
 -- a burst list that is asked for
 pub data ListRefused (capture out : List ℕ) (number place : ℕ) : Type 0 where
   -- 1 to 4
-  unaccepted : opened capture ≡ refused number place → ListRefused capture out number place
+  unaccepted : CaptureRefused capture number place → ListRefused capture out number place
   -- 8: the first event that breaks a rule
-  unclean : Accepted capture → number ≡ 8 → (rule cycle : ℕ) →
-      BrokenAt (settingsIn capture) (start (settingsIn capture)) (eventsOf capture) place rule cycle → ListRefused capture out number place
+  unclean : Accepted capture → number ≡ 8 → (rule cycle : ℕ) → Broken capture rule place cycle → ListRefused capture out number place
   -- 7: the cells that there are
   short : Accepted capture → Clean capture → number ≡ 7 → place ≡ length (cellsIn capture) → length out < place → ListRefused capture out number place
 
 -- a capture that is to be blanked
 pub data BlankRefused (capture out : List ℕ) (number place : ℕ) : Type 0 where
   -- 1 to 4
-  unopened : opened capture ≡ refused number place → BlankRefused capture out number place
+  unopened : CaptureRefused capture number place → BlankRefused capture out number place
   -- 7: the bytes of the capture
   scant : Accepted capture → number ≡ 7 → place ≡ length capture → length out < place → BlankRefused capture out number place
 

@@ -35,7 +35,7 @@ use Rattle.schedule.specs.declared.Scheduled.{Scheduled}
 use Rattle.schedule.specs.declared.Scheduled.the-variants.{Refused, Written}
 use Rattle.schedule.specs.declared.Planned.{Planned}
 use Rattle.schedule.specs.declared.Planned.the-variants.{Late, Events}
-use Rattle.schedule.specs.Meaning.{means, plannedAs, Noted, Plannable, Writable, size, head, written, writing}
+use Rattle.schedule.specs.Meaning.{means, planMeans, planAnswer, Noted, Plannable, Writable, size, head, written, writing}
 
 -- what a call ends with is document 01's outcome
 abbrev pub Ends : Outcome → Scheduled → List ℕ → Type 0
@@ -143,14 +143,14 @@ module _ {ws : List ℕ} (fit : Right ws) {s : List ℕ} (loaded : s ≡ padded 
 
         -- ---- refusal 6
 
-        module _ {w : List ℕ} {t : Planned} (plans : t ≡ plannedAs (scheduleOf (settingsOf s) policy qs)) (fills : Noted (scheduleOf (settingsOf s) policy qs) w) where
-          planned-as : t ≡ plannedAs (scheduleOf (settingsOf ws) policy qs)
-          planned-as = plans ∙ ap (λ (x : Settings). plannedAs (scheduleOf x policy qs)) same
+        module _ {w : List ℕ} (t : Planned) (plans : planMeans t ≡ planAnswer (scheduleOf (settingsOf s) policy qs)) (fills : Noted (scheduleOf (settingsOf s) policy qs) w) where
+          planned-as : planMeans t ≡ planAnswer (scheduleOf (settingsOf ws) policy qs)
+          planned-as = plans ∙ ap (λ (x : Settings). planAnswer (scheduleOf x policy qs)) same
 
           pub too-late : {i : ℕ} → t ≡ Late i → Ends (scheduleOutcome ws qs policy out) (Refused 6 i) out
-          too-late {i} m = rw (onward, asked-fine) (go (scheduleOf (settingsOf ws) policy qs) (sym m ∙ planned-as))
+          too-late {i} m = rw (onward, asked-fine) (go (scheduleOf (settingsOf ws) policy qs) (sym (ap planMeans m) ∙ planned-as))
             where
-              go : (x : Schedule) → Late i ≡ plannedAs x → Ends (leaves (whenPlanned x (λ es. fitting out (captureOf ws es))) out) (Refused 6 i) out
+              go : (x : Schedule) → planMeans (Late i) ≡ planAnswer x → Ends (leaves (whenPlanned x (λ es. fitting out (captureOf ws es))) out) (Refused 6 i) out
               go (planned es) p = let z : _≡_ {A = ℕ} 0 1 = cc in absurd (omega arith)
               go (late j) p = let z : i ≡ j = cc in rw z (refl, refl)
 
@@ -165,9 +165,9 @@ module _ {ws : List ℕ} (fit : Right ws) {s : List ℕ} (loaded : s ≡ padded 
           pub made : {n : ℕ} → t ≡ Events n → Made n
           made {n} m =
               let f : Noted (scheduleOf (settingsOf ws) policy qs) w = subst (λ (x : Settings). Noted (scheduleOf x policy qs) w) same fills in
-              go (scheduleOf (settingsOf ws) policy qs) refl (sym m ∙ planned-as) f
+              go (scheduleOf (settingsOf ws) policy qs) refl (sym (ap planMeans m) ∙ planned-as) f
             where
-              go : (x : Schedule) → scheduleOf (settingsOf ws) policy qs ≡ x → Events n ≡ plannedAs x → Noted x w → Made n
+              go : (x : Schedule) → scheduleOf (settingsOf ws) policy qs ≡ x → planMeans (Events n) ≡ planAnswer x → Noted x w → Made n
               go (planned es) e p f = record { es = es; is = e; counted = (let z : n ≡ length es = cc in z); noted = f .front es refl }
               go (late j) e p f = let z : _≡_ {A = ℕ} 0 1 = cc in absurd (omega arith)
 

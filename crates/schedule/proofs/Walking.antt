@@ -1,6 +1,6 @@
 -- The walk over the requests: what holds before request i, and what is planned where it stops.
 use Prim.Native.Nat.{ℕ, suc, _+_, _*_, _≤_, _<_}
-use mathlib.Core.Bool.{Bool, true, false, cond}
+use mathlib.Core.Bool.{Bool, true, false, not}
 use mathlib.Core.List.{List, [], _∷_}
 use mathlib.Core.Option.{Option}
 use mathlib.Core.Path.{_≡_, refl, sym, ap, _∙_}
@@ -9,6 +9,8 @@ use native.Mathlib.Omega.{arith}
 use lib.ListN.{length, getD, take, drop, replicate}
 use lib.Seq.{drop-cons}
 use borrow.Author.Tests.{ltb-true}
+use Rattle.reading.specs.Search.{given}
+use Rattle.reading.specs.Answers.{answered}
 use Rattle.reading.specs.Settings.{Settings, settingsCount, settingsOf}
 use Rattle.reading.specs.Capture.{Event}
 use Rattle.reading.specs.Rules.{placing}
@@ -29,9 +31,9 @@ use Rattle.drafts.specs.Room.{Room, draft}
 use Rattle.serving.specs.declared.Turn.{Turn}
 use Rattle.serving.specs.declared.Turn.the-variants as turn
 use Rattle.serving.specs.Sure.{Sure}
-use Rattle.serving.specs.Told.{told}
+use Rattle.serving.specs.Means.{means}
 use Rattle.schedule.specs.declared.Planned.the-variants.{Late, Events}
-use Rattle.schedule.specs.Meaning.{plannedAs, Noted, Plannable}
+use Rattle.schedule.specs.Meaning.{planMeans, planAnswer, Noted, Plannable}
 
 module _ (ws qs : List ℕ) (closed : Bool) (w₀ : List ℕ) where
   abbrev s : Settings
@@ -81,12 +83,12 @@ module _ (ws qs : List ℕ) (closed : Bool) (w₀ : List ℕ) where
       few-events = omega (arith, counted, x .few, x .within, most)
 
       -- no request is left
-      pub walk-ends : length qs ≤ i → (Events (at k EVENTS) ≡ plannedAs (scheduleBy placing (settingsOf ws) closed qs)) × Noted (scheduleBy placing (settingsOf ws) closed qs) words
+      pub walk-ends : length qs ≤ i → (planMeans (Events (at k EVENTS)) ≡ planAnswer (scheduleBy placing (settingsOf ws) closed qs)) × Noted (scheduleBy placing (settingsOf ws) closed qs) words
       unfolding scheduleFrom
       walk-ends l =
           let e : all ≡ planned (x .es) = x .decides ∙ ap (scheduleFrom placing s closed (x .es) i) (none-behind qs i l) in
           rw e (
-            ap Events counted,
+            ap answered counted,
             record { front = λ es m. let z : x .es ≡ es = cc in ap (λ (l : List Event). take (2 * length l) words) (sym z) ∙ x .drafted .words ∙ ap eventWords z },
           )
 
@@ -126,24 +128,24 @@ module _ (ws qs : List ℕ) (closed : Bool) (w₀ : List ℕ) where
         unfolding scheduleFrom
         unfolds = x .decides ∙ ap (scheduleFrom placing s closed (x .es) i) (drop-cons qs i 0 l)
 
-        module _ {placed : Turn} (said : placed ≡ told (kept (settingsOf ws) closed (getD qs i 0) (draft d k words))) where
+        module _ {placed : Turn} (said : means placed ≡ given 6 (not (kept (settingsOf ws) closed (getD qs i 0) (draft d k words)))) where
           told-kept : placed ≡ turn.Kept → kept s closed q draft-now ≡ true
-          told-kept e = go (kept s closed q draft-now) (sym e ∙ said)
+          told-kept e = go (kept s closed q draft-now) (sym (ap means e) ∙ said)
             where
-              go : (v : Bool) → turn.Kept ≡ cond v turn.Kept turn.Late → v ≡ true
+              go : (v : Bool) → means turn.Kept ≡ given 6 (not v) → v ≡ true
               go true h = refl
               go false h = let z : _≡_ {A = ℕ} 0 1 = cc in absurd (omega arith)
 
           told-late : placed ≡ turn.Late → kept s closed q draft-now ≡ false
-          told-late e = go (kept s closed q draft-now) (sym e ∙ said)
+          told-late e = go (kept s closed q draft-now) (sym (ap means e) ∙ said)
             where
-              go : (v : Bool) → turn.Late ≡ cond v turn.Kept turn.Late → v ≡ false
+              go : (v : Bool) → means turn.Late ≡ given 6 (not v) → v ≡ false
               go true h = let z : _≡_ {A = ℕ} 0 1 = cc in absurd (omega arith)
               go false h = refl
 
           -- refresh cannot be kept
           pub walk-stops : placed ≡ turn.Late → {words′ : List ℕ} →
-              (Late i ≡ plannedAs (scheduleBy placing (settingsOf ws) closed qs)) × Noted (scheduleBy placing (settingsOf ws) closed qs) words′
+              (planMeans (Late i) ≡ planAnswer (scheduleBy placing (settingsOf ws) closed qs)) × Noted (scheduleBy placing (settingsOf ws) closed qs) words′
           walk-stops e =
               let none-is = turn-late g closed q fits (x .ready .reached) (x .drafted) short enough (told-late e) in
               let so : all ≡ late i =

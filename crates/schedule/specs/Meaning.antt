@@ -24,9 +24,15 @@ means (Written bytes) = answered bytes
 
 -- ---- the walk over the requests
 
-abbrev pub plannedAs : Schedule → Planned
-plannedAs (planned es) = Events (length es)
-plannedAs (late i) = Late i
+-- document 01's number and place, or how many events there are
+abbrev pub planMeans : Planned → Answer ℕ
+planMeans (Late request) = refused 6 request
+planMeans (Events count) = answered count
+
+-- so many events, or the request at which refresh cannot be kept
+abbrev pub planAnswer : Schedule → Answer ℕ
+planAnswer (planned es) = answered (length es)
+planAnswer (late i) = refused 6 i
 
 -- the words of the schedule's events stand in front; where there is no schedule nothing is said of them
 pub record Noted (x : Schedule) (words : List ℕ) : Type 0 where

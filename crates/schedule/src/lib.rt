@@ -17,7 +17,7 @@ ghost use Rattle.reading.specs.Rules.{placing};
 ghost use Rattle.reading.specs.Schedule.{scheduleBy};
 ghost use Rattle.reading.specs.Answers.{scheduleOutcome};
 ghost use Rattle.settings.specs.Meaning.{padded};
-ghost use Rattle.schedule.specs.Meaning.{means, plannedAs, Noted, Plannable, Writable, written, writing};
+ghost use Rattle.schedule.specs.Meaning.{means, planMeans, planAnswer, Noted, Plannable, Writable, written, writing};
 
 // What is said of settings, requests and a buffer.
 pub enum Scheduled {
@@ -62,7 +62,7 @@ fn fourteen(settings: &[u32]) -> Settings
 // Request after request, until refresh cannot be kept. The words of the events stand from the front on.
 fn plan(s: &Settings, requests: &[u32], closed: bool, words: &mut [u32]) -> Planned
     requires { ⌜ Plannable (now s) (now requests) (now words) ⌝ }
-    ensures { λ r. ⌜ r ≡ plannedAs (scheduleBy placing (settingsOf (now (s .entry))) closed (now (requests .entry))) ⌝ }
+    ensures { λ r. ⌜ planMeans r ≡ planAnswer (scheduleBy placing (settingsOf (now (s .entry))) closed (now (requests .entry))) ⌝ }
     ensures { λ r. ⌜ Noted (scheduleBy placing (settingsOf (now (s .entry))) closed (now (requests .entry))) (now (words .exit)) ⌝ }
 {
     let mut d = effects::start(s);

@@ -1,17 +1,18 @@
 -- The two tries of a request's turn: alone, and behind a refresh.
 use Prim.Native.Nat.{ℕ, zero, suc, _+_, _≤_}
-use mathlib.Core.Bool.{Bool, true, false, _||_}
+use mathlib.Core.Bool.{Bool, true, false, not, _||_}
 use mathlib.Core.List.{List, []}
 use mathlib.Core.Path.{_≡_, refl, sym, ap, _∙_, subst}
 use native.Mathlib.Omega.{arith}
 use lib.ListN.{length}
+use Rattle.reading.specs.Search.{given}
 use Rattle.reading.specs.Settings.{Settings}
 use Rattle.plan.specs.Draft.{Draft, requesting, refreshing, timely, from, alone, behind, turned, kept}
 use Rattle.plan.proofs.Drafted.{wordless}
 use Rattle.drafts.specs.Room.{Room, draft}
 use Rattle.serving.specs.declared.Turn.the-variants.{Kept, Late}
 use Rattle.serving.specs.Sure.{far, Sure, setAside}
-use Rattle.serving.specs.Told.{told}
+use Rattle.serving.specs.Means.{means}
 use Rattle.serving.proofs.Growing.{request-grows, refresh-grows, room-after, room-again, room-for}
 
 -- the test asks nothing of the words
@@ -66,7 +67,7 @@ module _ (s : Settings) (closed : Bool) (q margin : ℕ) (d₀ k₀ w₀ : List 
         let in-time : timely s (alone s closed q x) ≡ true = z .sure (sym (t .far-off) ∙ u) in
         let n : _≡_ {A = ℕ} 0 1 = cc in absurd (omega arith)
 
-    pub in-time-now : (n : ℕ) → Trying sure d k w n → in-time ≡ true → (Kept ≡ told (kept s closed q x)) × (draft d₁ k₁ w₁ ≡ turned s closed q x)
+    pub in-time-now : (n : ℕ) → Trying sure d k w n → in-time ≡ true → (means Kept ≡ given 6 (not (kept s closed q x))) × (draft d₁ k₁ w₁ ≡ turned s closed q x)
     unfolding kept turned
     in-time-now zero t e =
         let v : timely s (alone s closed q x) ≡ true =
@@ -77,7 +78,7 @@ module _ (s : Settings) (closed : Bool) (q margin : ℕ) (d₀ k₀ w₀ : List 
         rw (t .late refl, v) (refl, behind-is t)
     in-time-now (suc (suc n)) t e = absurd (omega (arith, t .within))
 
-    pub late-now : {n : ℕ} → Trying sure d k w n → n ≡ 1 → in-time ≡ false → (Late ≡ told (kept s closed q x)) × (draft d₁ k₁ w₁ ≡ turned s closed q x)
+    pub late-now : {n : ℕ} → Trying sure d k w n → n ≡ 1 → in-time ≡ false → (means Late ≡ given 6 (not (kept s closed q x))) × (draft d₁ k₁ w₁ ≡ turned s closed q x)
     unfolding kept turned
     late-now t o e =
         let last : draft d₁ k₁ w₁ ≡ behind s closed q x = behind-is (subst (Trying sure d k w) o t) in

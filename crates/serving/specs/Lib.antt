@@ -1,2 +1,2 @@
 pub mod Sure
-pub mod Told
+pub mod Means

@@ -20,8 +20,9 @@ use soonest::FREE;
 use soonest::ROW;
 use soonest::Standing;
 ghost use mathlib.Core.Path.{_≡_};
-ghost use mathlib.Core.Bool.{_||_};
+ghost use mathlib.Core.Bool.{not, _||_};
 ghost use Prim.Native.Nat.{_+_, _*_, _<_};
+ghost use Rattle.reading.specs.Search.{given};
 ghost use Rattle.reading.specs.Settings.{settingsOf};
 ghost use Rattle.deadlines.specs.Deadlines.{paceOf};
 ghost use Rattle.requests.specs.Asked.{Asked};
@@ -30,7 +31,7 @@ ghost use Rattle.drafts.specs.Room.{Room, draft};
 ghost use mathlib.Core.List.{[]};
 ghost use Rattle.plan.specs.Margin.{marginOf};
 ghost use Rattle.serving.specs.Sure.{far, Sure, setAside};
-ghost use Rattle.serving.specs.Told.{told};
+ghost use Rattle.serving.specs.Means.{means};
 
 // Refresh is kept by the request's turn, or it cannot be.
 pub enum Turn {
@@ -252,7 +253,7 @@ pub fn serve(
     requires { ⌜ Room (now k) (now words) 5 ⌝ }
     requires { ⌜ now pace ≡ paceOf (settingsOf (now s) .mode) ⌝ }
     requires { ⌜ Sure (settingsOf (now s)) closed q margin (now d) (now k) (now words) ⌝ }
-    ensures { λ r. ⌜ r ≡ told (kept (settingsOf (now (s .entry))) closed q (draft (now (d .entry)) (now (k .entry)) (now (words .entry)))) ⌝ }
+    ensures { λ r. ⌜ means r ≡ given 6 (not (kept (settingsOf (now (s .entry))) closed q (draft (now (d .entry)) (now (k .entry)) (now (words .entry))))) ⌝ }
     ensures { λ r. ⌜ draft (now (d .exit)) (now (k .exit)) (now (words .exit)) ≡ turned (settingsOf (now (s .entry))) closed q (draft (now (d .entry)) (now (k .entry)) (now (words .entry))) ⌝ }
     ensures { λ r. ⌜ now (earlier .exit) ≡ setAside (far margin (now (d .entry)) (now (k .entry))) (now (earlier .entry)) (now (d .entry)) ⌝ }
     ensures { λ r. ⌜ now (stood .exit) ≡ setAside (far margin (now (d .entry)) (now (k .entry))) (now (stood .entry)) (now (k .entry)) ⌝ }

@@ -354,15 +354,15 @@ rule14 =
     ∷ line (at 0 ACTIVE ∷ at 9000 WRITE ∷ []) (breaks 1 14 1 9000)
     -- a lower rule is told first
     ∷ line (at 9000 READ ∷ []) (breaks 0 3 0 9000)
-    -- no other command pays
-    ∷ line (at 500 NOP ∷ at 9000 NOP ∷ []) (breaks 1 14 1 9000)
-    ∷ line (at 500 DESELECT ∷ at 9000 NOP ∷ []) (breaks 1 14 1 9000)
-    ∷ line (at 500 ACTIVE ∷ at 9000 NOP ∷ []) (breaks 1 14 1 9000)
-    ∷ line (at 0 ACTIVE ∷ at 500 READ ∷ at 9000 NOP ∷ []) (breaks 2 14 2 9000)
-    ∷ line (at 0 ACTIVE ∷ at 500 WRITE ∷ at 9000 NOP ∷ []) (breaks 2 14 2 9000)
-    ∷ line (at 500 TERMINATE ∷ at 9000 NOP ∷ []) (breaks 1 14 1 9000)
-    ∷ line (at 500 PRECHARGE ∷ at 9000 NOP ∷ []) (breaks 1 14 1 9000)
-    ∷ line (at 500 (MODE + 0x32) ∷ at 9000 NOP ∷ []) (breaks 1 14 1 9000)
+    -- no other command pays what is owed at 1500
+    ∷ line (at 1500 NOP ∷ at 9000 NOP ∷ []) (breaks 1 14 1 9000)
+    ∷ line (at 1500 DESELECT ∷ at 9000 NOP ∷ []) (breaks 1 14 1 9000)
+    ∷ line (at 1500 ACTIVE ∷ at 9000 NOP ∷ []) (breaks 1 14 1 9000)
+    ∷ line (at 0 ACTIVE ∷ at 1500 READ ∷ at 9000 NOP ∷ []) (breaks 2 14 2 9000)
+    ∷ line (at 0 ACTIVE ∷ at 1500 WRITE ∷ at 9000 NOP ∷ []) (breaks 2 14 2 9000)
+    ∷ line (at 1500 TERMINATE ∷ at 9000 NOP ∷ []) (breaks 1 14 1 9000)
+    ∷ line (at 1500 PRECHARGE ∷ at 9000 NOP ∷ []) (breaks 1 14 1 9000)
+    ∷ line (at 1500 (MODE + 0x32) ∷ at 9000 NOP ∷ []) (breaks 1 14 1 9000)
     ∷ []
 
 rule-14 : HoldLines rule14

@@ -88,7 +88,7 @@ write-requires c κs =
     let start = known .before .before .before .before .before .before .before in
     let a = start .args in
     writable (fit (known .before)) (loaded .fourteen .ensures) (a .requests .now) (a .policy) (a .out .now) (omega arith) (searched .lowest-bad .ensures) (none .enum-told2 .given .1)
-    (planned .plan .ensures .0) (planned .plan .ensures .1) (events .planned2 .given .1)
+    (planned .plan .result) (planned .plan .ensures .0) (planned .plan .ensures .1) (events .planned2 .given .1)
 
 returns-4 : tie.Need-returns-4
 returns-4 c =
@@ -100,7 +100,7 @@ returns-4 c =
     let start = known .before .before .before .before .before .before .before in
     let a = start .args in
     too-late (fit (known .before)) (loaded .fourteen .ensures) (a .requests .now) (a .policy) (a .out .now) (omega arith) (searched .lowest-bad .ensures) (none .enum-told2 .given .1)
-    (planned .plan .ensures .0) (planned .plan .ensures .1) (c .before .planned .given .1)
+    (planned .plan .result) (planned .plan .ensures .0) (planned .plan .ensures .1) (c .before .planned .given .1)
 
 same-length : tie.Need-same-length
 same-length c = search needs
@@ -117,7 +117,7 @@ returns-5 c =
     let start = known .before .before .before .before .before .before .before in
     let a = start .args in
     ends (fit (known .before)) (loaded .fourteen .ensures) (a .requests .now) (a .policy) (a .out .now) (omega arith) (searched .lowest-bad .ensures) (none .enum-told2 .given .1)
-    (planned .plan .ensures .0) (planned .plan .ensures .1) (events .planned2 .given .1) (written .write .ensures .0) (written .write .ensures .1)
+    (planned .plan .result) (planned .plan .ensures .0) (planned .plan .ensures .1) (events .planned2 .given .1) (written .write .ensures .0) (written .write .ensures .1)
 
 pub schedule-spec : {M : Type 1} → statement M
 schedule-spec =

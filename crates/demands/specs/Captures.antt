@@ -1,0 +1,79 @@
+-- When a capture is refused, by whatever call: refusals 1 to 4 of document 01's table, case by case. Words of the header are
+-- told by their numbers: 0 the total, 1 how many settings, 2 and 4 where settings and events start, 3 how many events, 5 the edition.
+use Prim.Native.Nat.{ℕ, _+_, _-_, _*_, _≤_, _<_}
+use mathlib.Core.Bool.{false, cond}
+use mathlib.Core.List.{List}
+use mathlib.Core.Path.{_≡_}
+use lib.Dec.{eqb}
+use lib.ListN.{length, getD}
+use Rattle.reading.specs.Mode.{modeWord}
+use Rattle.reading.specs.Settings.{Limits, settingsOf, limits}
+use Rattle.reading.specs.Capture.{Event, headerWord, countIn, eventCount, settingWords, eventBytes, eventAt, pinLimit}
+
+-- the lowest number below n of which something is so
+pub record Lowest (So : ℕ → Type 0) (n i : ℕ) : Type 0 where
+  pub within : i < n
+  pub is-so : So i
+  pub none-lower : (j : ℕ) → j < i → So j → ⊥
+
+-- the least and the most bytes of a capture; with sixteen settings eight more
+abbrev pub leastBytes : List ℕ → ℕ
+leastBytes capture = cond (eqb (headerWord capture 1) 16) 88 80
+
+abbrev pub mostBytes : List ℕ → ℕ
+mostBytes capture = cond (eqb (headerWord capture 1) 16) 64088 64080
+
+-- 1
+pub data BadLength (capture : List ℕ) : Type 0 where
+  short : length capture < leastBytes capture → BadLength capture
+  long : mostBytes capture < length capture → BadLength capture
+  not-as-stated : (headerWord capture 0 ≡ length capture → ⊥) → BadLength capture
+
+-- 2
+pub data BadHeader (capture : List ℕ) : Type 0 where
+  count : (headerWord capture 1 ≡ 14 → ⊥) → (headerWord capture 1 ≡ 16 → ⊥) → BadHeader capture
+  settings-start : (headerWord capture 2 ≡ 24 → ⊥) → BadHeader capture
+  many : 8000 < headerWord capture 3 → BadHeader capture
+  events-start : (headerWord capture 4 ≡ leastBytes capture → ⊥) → BadHeader capture
+  edition : 1 < headerWord capture 5 → BadHeader capture
+  total : (headerWord capture 0 ≡ leastBytes capture + 8 * headerWord capture 3 → ⊥) → BadHeader capture
+
+-- 3, of setting i by the table; the mode word also by rule 2
+abbrev pub limitsOf : ℕ → Limits
+limitsOf i = getD limits i (record { least = 0; most = 0 })
+
+pub data BadSetting (ws : List ℕ) (i : ℕ) : Type 0 where
+  below : getD ws i 0 < limitsOf i .least → BadSetting ws i
+  above : limitsOf i .most < getD ws i 0 → BadSetting ws i
+  mode : i ≡ 3 → modeWord (getD ws i 0) ≡ false → BadSetting ws i
+
+-- 4, of event i
+abbrev pub eventIn : List ℕ → ℕ → Event
+eventIn capture i = eventAt (eventBytes capture) i
+
+pub data BadEvent (capture : List ℕ) (i : ℕ) : Type 0 where
+  pins : pinLimit capture ≤ eventIn capture i .pins → BadEvent capture i
+  late : 2000000000 < eventIn capture i .cycle → BadEvent capture i
+  not-above : 0 < i → eventIn capture i .cycle ≤ eventIn capture (i - 1) .cycle → BadEvent capture i
+
+-- nothing is wrong with the length and the header; nor with a setting
+pub record Framed (capture : List ℕ) : Type 0 where
+  pub length-fits : BadLength capture → ⊥
+  pub header-fits : BadHeader capture → ⊥
+
+pub record Limited (capture : List ℕ) : Type 0 where
+  pub framed : Framed capture
+  pub settings-fit : (i : ℕ) → i < countIn capture → BadSetting (settingWords capture) i → ⊥
+
+abbrev pub Contradicts : List ℕ → Type 0
+Contradicts ws = settingsOf ws .tRAS + settingsOf ws .tRP < settingsOf ws .tRC
+
+pub data CaptureRefused (capture : List ℕ) (number place : ℕ) : Type 0 where
+  bad-length : BadLength capture → number ≡ 1 → place ≡ 0 → CaptureRefused capture number place
+  bad-header : (BadLength capture → ⊥) → BadHeader capture → number ≡ 2 → place ≡ 0 → CaptureRefused capture number place
+  -- the lowest such setting; if there is none, tRC where it contradicts tRAS and tRP
+  bad-setting : Framed capture → number ≡ 3 → Lowest (BadSetting (settingWords capture)) (countIn capture) place → CaptureRefused capture number place
+  contradiction : Limited capture → Contradicts (settingWords capture) → number ≡ 3 → place ≡ 7 → CaptureRefused capture number place
+  -- the lowest such event
+  bad-event : Limited capture → (Contradicts (settingWords capture) → ⊥) → number ≡ 4 → Lowest (BadEvent capture) (eventCount capture) place →
+      CaptureRefused capture number place
