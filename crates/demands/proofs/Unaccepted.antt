@@ -11,7 +11,7 @@ use lib.ListN.{length}
 use Rattle.reading.specs.Capture.{headerWord}
 use Rattle.cells.specs.declared.Listed.{Listed}
 use Rattle.blanks.specs.declared.Blanked.{Blanked}
-use Rattle.demands.specs.Allowed.{Lists, Blanks, Refused}
+use Rattle.demands.specs.Allowed.{Lists, Blanks, RefusedByAll}
 use Rattle.demands.specs.Captures.{mostBytes, BadLength, CaptureRefused}
 use Rattle.demands.specs.Captures as case
 use Rattle.demands.specs.Refused.{Accepted, unaccepted, unopened}
@@ -20,7 +20,7 @@ use Rattle.demands.proofs.Refusing.{judge-refused, list-refused-exactly
 use Rattle.demands.proofs.Blanking.{blank-refused-exactly, blank-refused}
 
 -- Whatever is refused is refused so by every call.
-pub refused-by-all : (capture : List ℕ) (number place : ℕ) → CaptureRefused capture number place → Refused capture number place
+pub refused-by-all : (capture : List ℕ) (number place : ℕ) → CaptureRefused capture number place → RefusedByAll capture number place
 refused-by-all capture number place c =
     record {
       judge = λ r a. judge-refused capture r a number place .1 c;
@@ -48,12 +48,12 @@ most-awake : (capture : List ℕ) → (headerWord capture 1 ≡ 16 → ⊥) → 
 most-awake capture f = ap (λ (b : Bool). cond b 64088 64080) (ne-eqb (headerWord capture 1) 16 f)
 
 -- A byte string above 64,088 bytes is refused with 1, whatever it holds.
-pub too-long : (capture : List ℕ) → 64088 < length capture → Refused capture 1 0
-too-long capture l = refused-by-all capture 1 0 (case.bad-length (case.long (omega (arith, l, most-of-all capture))) refl refl)
+pub long-refused : (capture : List ℕ) → 64088 < length capture → RefusedByAll capture 1 0
+long-refused capture l = refused-by-all capture 1 0 (case.bad-length (case.long (omega (arith, l, most-of-all capture))) refl refl)
 
 -- So is one above 64,080 bytes whose count word is not 16.
-pub too-long-awake : (capture : List ℕ) → (headerWord capture 1 ≡ 16 → ⊥) → 64080 < length capture → Refused capture 1 0
-too-long-awake capture f l = refused-by-all capture 1 0 (case.bad-length (case.long (omega (arith, l, most-awake capture f))) refl refl)
+pub long-refused-awake : (capture : List ℕ) → (headerWord capture 1 ≡ 16 → ⊥) → 64080 < length capture → RefusedByAll capture 1 0
+long-refused-awake capture f l = refused-by-all capture 1 0 (case.bad-length (case.long (omega (arith, l, most-awake capture f))) refl refl)
 
 accepted-most : (capture : List ℕ) → Accepted capture → length capture ≤ mostBytes capture
 accepted-most capture e = go (decLt (mostBytes capture) (length capture))
@@ -72,5 +72,5 @@ accepted-length-awake capture e f = omega (arith, accepted-most capture e, most-
 -- ---- the edition
 
 -- A capture that names an edition above 1 is refused with 2, if nothing is wrong with its length.
-pub no-such-edition : (capture : List ℕ) → (BadLength capture → ⊥) → 1 < headerWord capture 5 → Refused capture 2 0
-no-such-edition capture fits l = refused-by-all capture 2 0 (case.bad-header fits (case.edition l) refl refl)
+pub edition-refused : (capture : List ℕ) → (BadLength capture → ⊥) → 1 < headerWord capture 5 → RefusedByAll capture 2 0
+edition-refused capture fits l = refused-by-all capture 2 0 (case.bad-header fits (case.edition l) refl refl)

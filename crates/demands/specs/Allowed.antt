@@ -34,7 +34,7 @@ abbrev pub Blanks : List ℕ → List ℕ → Blanked → List ℕ → Type 0
 Blanks capture out r left = (blanks.means r ≡ blankOutcome capture out .answer) × (left ≡ blankOutcome capture out .buffer)
 
 -- by every call that is asked about a capture: it is refused so, and what was lent is left as it was
-pub record Refused (capture : List ℕ) (number place : ℕ) : Type 0 where
+pub record RefusedByAll (capture : List ℕ) (number place : ℕ) : Type 0 where
   pub judge : (r : Verdict) → Judges capture r → r ≡ verdict.Refused number place
   pub list : (out : List ℕ) (r : Listed) (left : List ℕ) → Lists capture out r left → (r ≡ listed.Refused number place) × (left ≡ out)
   pub blank : (out : List ℕ) (r : Blanked) (left : List ℕ) → Blanks capture out r left → (r ≡ blanked.Refused number place) × (left ≡ out)

@@ -7,8 +7,9 @@ use mathlib.Core.Path.{_≡_}
 use lib.Dec.{eqb}
 use lib.ListN.{length, getD}
 use Rattle.reading.specs.Mode.{modeWord}
-use Rattle.reading.specs.Settings.{Limits, settingsOf, limits}
+use Rattle.reading.specs.Settings.{settingsOf}
 use Rattle.reading.specs.Capture.{Event, headerWord, countIn, eventCount, settingWords, eventBytes, eventAt, pinLimit}
+use Rattle.settings.proofs.Fitting.{rowAt}
 
 -- the lowest number below n of which something is so
 pub record Lowest (So : ℕ → Type 0) (n i : ℕ) : Type 0 where
@@ -38,13 +39,10 @@ pub data BadHeader (capture : List ℕ) : Type 0 where
   edition : 1 < headerWord capture 5 → BadHeader capture
   total : (headerWord capture 0 ≡ leastBytes capture + 8 * headerWord capture 3 → ⊥) → BadHeader capture
 
--- 3, of setting i by the table; the mode word also by rule 2
-abbrev pub limitsOf : ℕ → Limits
-limitsOf i = getD limits i (record { least = 0; most = 0 })
-
+-- 3, of setting i by its row of the table; the mode word also by rule 2
 pub data BadSetting (ws : List ℕ) (i : ℕ) : Type 0 where
-  below : getD ws i 0 < limitsOf i .least → BadSetting ws i
-  above : limitsOf i .most < getD ws i 0 → BadSetting ws i
+  below : getD ws i 0 < rowAt i .least → BadSetting ws i
+  above : rowAt i .most < getD ws i 0 → BadSetting ws i
   mode : i ≡ 3 → modeWord (getD ws i 0) ≡ false → BadSetting ws i
 
 -- 4, of event i
