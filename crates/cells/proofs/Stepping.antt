@@ -5,14 +5,16 @@ use mathlib.Core.List.{List}
 use mathlib.Core.Option.{none, some}
 use mathlib.Core.Path.{_≡_, refl, sym, ap, _∙_}
 use native.Mathlib.Omega.{arith}
+use lib.Dec.{eqb}
 use lib.ListN.{getD}
 use Rattle.reading.specs.Settings.{Settings}
 use Rattle.reading.specs.Capture.{Event, eventAt}
 use Rattle.reading.specs.Bursts.{columnOf}
-use Rattle.pins.specs.Pins.{bankOf, addressOf}
+use Rattle.pins.specs.Pins.{codeOf, bankOf, addressOf}
 use Rattle.beats.specs.Kept.{gives, eventsFrom, keptOf}
 use Rattle.cells.specs.declared.Given.{Given}
 use Rattle.cells.specs.declared.Given.the-variants.{Burst, Other}
+use Rattle.cells.specs.Meaning as meaning
 use Rattle.cells.specs.Meaning.{givenAs, givenBy}
 
 module _ (s : Settings) (bytes : List ℕ) (n i : ℕ) (firsts : List ℕ) (mode : ℕ) where
@@ -33,23 +35,33 @@ module _ (s : Settings) (bytes : List ℕ) (n i : ℕ) (firsts : List ℕ) (mode
     unfolding givenBy
     found-none g = let h : gives w ≡ false = sym (f ∙ ap gives e) ∙ g in rw h
 
-    pub found : {bank first column pairs : ℕ} → v ≡ true → bank ≡ bankOf pins → first ≡ getD firsts bank 0 → column ≡ columnOf s (addressOf pins) →
-        pairs ≡ keptOf s mode (eventAt bytes i) later → Burst first column pairs ≡ givenAs (givenBy s bytes n i firsts mode)
+    pub found : {code bank first column pairs : ℕ} → v ≡ true → code ≡ codeOf pins → bank ≡ bankOf pins → first ≡ getD firsts bank 0 → column ≡ columnOf s (addressOf pins) →
+        pairs ≡ keptOf s mode (eventAt bytes i) later → Burst (eqb code 2) first column pairs ≡ givenAs (givenBy s bytes n i firsts mode)
     unfolding givenBy
-    found g b x y z =
+    found g c b x y z =
         let h : gives w ≡ true = sym (f ∙ ap gives e) ∙ g in
+        let kind = ap (λ (k : ℕ). eqb k 2) (c ∙ ap codeOf e) in
         let row = x ∙ ap (λ (k : ℕ). getD firsts k 0) (b ∙ ap bankOf e) in
         let place = y ∙ ap (λ (k : ℕ). columnOf s (addressOf k)) e in
-        rw h (λ u. Burst (row u) (place u) (z u))
+        rw h (λ u. Burst (kind u) (row u) (place u) (z u))
+
+  -- what is told of the event, if it gives a burst
+  abbrev here : meaning.Burst
+  here =
+      record {
+        writes = eqb (codeOf w) 2;
+        first = getD firsts (bankOf w) 0;
+        column = columnOf s (addressOf w);
+        pairs = keptOf s mode (eventAt bytes i) later;
+      }
 
   module _ {r : Given} (step : r ≡ givenAs (givenBy s bytes n i firsts mode)) where
-    pub told : {first column pairs : ℕ} → r ≡ Burst first column pairs → Is first column pairs
+    pub told : {writes : Bool} {first column pairs : ℕ} → r ≡ Burst writes first column pairs → Is first column pairs
     unfolding givenBy
-    told {first} {column} {pairs} b = go (gives w) refl (sym b ∙ step)
+    told {writes} {first} {column} {pairs} b = go (gives w) refl (sym b ∙ step)
       where
         go : (v : Bool) → gives w ≡ v →
-            Burst first column pairs
-            ≡ givenAs (cond v (some (record { first = getD firsts (bankOf w) 0; column = columnOf s (addressOf w); pairs = keptOf s mode (eventAt bytes i) later })) none) →
+            Burst writes first column pairs ≡ givenAs (cond v (some here) none) →
             Is first column pairs
         go true g q = record { burst = g; row = cc; place = cc; kept = cc }
         go false g q = let z : _≡_ {A = ℕ} 0 1 = cc in absurd (omega arith)
@@ -59,8 +71,6 @@ module _ (s : Settings) (bytes : List ℕ) (n i : ℕ) (firsts : List ℕ) (mode
     told-other b = go (gives w) (sym b ∙ step)
       where
         go : (v : Bool) →
-            Other
-            ≡ givenAs (cond v (some (record { first = getD firsts (bankOf w) 0; column = columnOf s (addressOf w); pairs = keptOf s mode (eventAt bytes i) later })) none) →
-            v ≡ false
+            Other ≡ givenAs (cond v (some here) none) → v ≡ false
         go true q = let z : _≡_ {A = ℕ} 0 1 = cc in absurd (omega arith)
         go false q = refl

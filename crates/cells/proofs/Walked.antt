@@ -1,0 +1,179 @@
+-- A walk over the events of a clean capture: what is known before event i, and the bursts of the events from i on.
+use Prim.Native.Nat.{ℕ, zero, suc, _+_, _*_, _≤_, _<_}
+use mathlib.Core.Bool.{Bool, true, false, cond}
+use mathlib.Core.List.{List, [], _∷_, _++_, map}
+use mathlib.Core.Option.{Option, Option·map, none, some}
+use mathlib.Core.Path.{_≡_, refl, sym, ap, _∙_}
+use native.Mathlib.Nat.{sub-zero}
+use native.Mathlib.Numerals.{add-one}
+use native.Mathlib.Omega.{arith}
+use borrow.Author.Tests.{eq-eqb, ne-eqb}
+use lib.Dec.{eqb}
+use lib.ListN.{getD}
+use Rattle.reading.specs.Search.{find, count}
+use Rattle.reading.specs.Settings.{Settings, settingsOf}
+use Rattle.reading.specs.Capture.{Event, eventAt}
+use Rattle.reading.specs.Bursts.{Burst, columnOf}
+use Rattle.reading.specs.Part.{Part, step}
+use Rattle.reading.specs.Cells.{burstsOf, cellsOf}
+use Rattle.capture.proofs.Accepted.{cycles-rise}
+use Rattle.pins.specs.Pins.{codeOf, bankOf, addressOf, modeAfter}
+use Rattle.pins.proofs.Commands.{write-is}
+use Rattle.judge.specs.Meaning.{partAt}
+use Rattle.judge.proofs.Events.{part-next}
+use Rattle.beats.specs.Kept.{gives, eventsFrom, keptOf}
+use Rattle.beats.specs.Rows.{firstCell}
+use Rattle.beats.proofs.Events.{Rises, next-event, no-event, events-rise, rise-behind}
+use Rattle.beats.proofs.Looking.{kept-le}
+use Rattle.beats.proofs.Ahead.{burstLeft, eventBursts, burstsFrom, bursts-ahead, eventCells, cellsFrom, cells-ahead}
+use Rattle.cells.specs.Meaning as told
+use Rattle.cells.specs.Meaning.{toldOf, givenBy, Listable, Clean, burstsOn, burstAt, firstsOf, At, cellsOn}
+use Rattle.cells.proofs.Alone.{fitting, each-alone}
+use Rattle.cells.proofs.Rows.{first-at, mode-next}
+
+-- a burst, if there is one
+abbrev pub listed : Option Burst → List Burst
+listed none = []
+listed (some x) = x ∷ []
+
+module _ (settings bytes : List ℕ) (n : ℕ) where
+  abbrev s : Settings
+  s = settingsOf settings
+
+  abbrev p : ℕ → Part
+  p i = partAt s bytes i
+
+  abbrev e : ℕ → Event
+  e i = eventAt bytes i
+
+  -- the events behind event i
+  abbrev later : ℕ → List Event
+  later i = eventsFrom bytes n (i + 1)
+
+  -- the mode word, and how many cells were counted or written so far
+  pub record Walked (mode cells i : ℕ) : Type 0 where
+    pub moded : mode ≡ p i .mode
+    pub within : i ≤ n
+    pub small : cells ≤ 128 * i
+
+  pub begins : Walked (s .mode) 0 0
+  begins = record { moded = refl; within = omega arith; small = omega arith }
+
+  pub walks-on : {mode cells i pins pairs next more : ℕ} → Walked mode cells i → i < n → pins ≡ e i .pins → pairs ≡ keptOf s mode (e i) (later i) →
+      next ≡ modeAfter mode pins → more ≤ 2 * pairs → Walked next (cells + more) (i + 1)
+  walks-on {mode} {i = i} w l ew ep em m =
+      record {
+        moded = mode-next s bytes i ew (w .moded) em;
+        within = omega arith;
+        small = omega (arith, w .small, ep, kept-le s mode (e i) (later i));
+      }
+
+  -- ---- the bursts of the events from i on
+
+  abbrev pub rest : ℕ → List Burst
+  rest i = burstsFrom s (p i) (eventsFrom bytes n i)
+
+  pub rest-next : (i : ℕ) → i < n → rest i ≡ eventBursts s (p i) (e i) (later i) ++ rest (i + 1)
+  rest-next i l =
+      ap (burstsFrom s (p i)) (next-event bytes n i l)
+      ∙ ap (λ (q : Part). eventBursts s (p i) (e i) (later i) ++ burstsFrom s q (later i)) (sym (part-next s bytes i))
+
+  pub rest-ends : (i : ℕ) → n ≤ i → rest i ≡ []
+  rest-ends i l = ap (burstsFrom s (p i)) (no-event bytes n i l)
+
+  -- and their cells
+  pub next-cells : (i : ℕ) → i < n → cellsFrom s (p i) (eventsFrom bytes n i) ≡ eventCells s (p i) (e i) (later i) ++ cellsFrom s (p (i + 1)) (later i)
+  next-cells i l =
+      ap (cellsFrom s (p i)) (next-event bytes n i l)
+      ∙ ap (λ (q : Part). eventCells s (p i) (e i) (later i) ++ cellsFrom s q (later i)) (sym (part-next s bytes i))
+
+  module _ (z : Listable settings bytes n) (k : Clean s bytes n) where
+    rises : Rises 0 (eventsFrom bytes n 0)
+    rises = events-rise bytes n (fitting settings bytes n z)
+
+    pub rest-begins : burstsOn s bytes n ≡ rest 0
+    rest-begins =
+        ap (λ (m : ℕ). burstsOf s (map e (count 0 m))) (sym (sub-zero n))
+        ∙ bursts-ahead s (eventsFrom bytes n 0) rises (each-alone settings bytes n z k)
+
+    pub all-cells : cellsOn s bytes n ≡ cellsFrom s (p 0) (eventsFrom bytes n 0)
+    unfolding cellsOn
+    all-cells =
+        ap (λ (m : ℕ). cellsOf s (burstsOf s (map e (count 0 m)))) (sym (sub-zero n))
+        ∙ cells-ahead s (eventsFrom bytes n 0) rises (each-alone settings bytes n z k)
+
+    -- ---- the burst of event i, by its cycle
+
+    module _ (i : ℕ) (l : i < n) where
+      abbrev that : Burst → Bool
+      that x = eqb (x .k) (e i .cycle)
+
+      -- another event gives another one
+      other : (q : Part) (a : Event) (es : List Event) (xs : List Burst) → eqb (a .cycle) (e i .cycle) ≡ false →
+          find that (eventBursts s q a es ++ xs) ≡ find that xs
+      other q a es xs f = go (gives (a .pins))
+        where
+          go : (v : Bool) → find that (cond v (burstLeft s q a es ∷ []) [] ++ xs) ≡ find that xs
+          go true = rw f
+          go false = refl
+
+      none-behind : (q : Part) (from : ℕ) (es : List Event) → e i .cycle < from → Rises from es → find that (burstsFrom s q es) ≡ none
+      none-behind q from [] m r = refl
+      none-behind q from (a ∷ es) m r =
+          other q a es (burstsFrom s (step s q a) es) (ne-eqb (a .cycle) (e i .cycle) (λ f. omega (arith, r .0)))
+          ∙ none-behind (step s q a) (suc (a .cycle)) es (omega (arith, r .0)) (r .1)
+
+      from-there : (j : ℕ) → j ≤ i → burstAt s bytes n i ≡ find that (rest j)
+      unfolding burstAt
+      from-there zero m = ap (find that) rest-begins
+      from-there (suc j) m =
+          from-there j (omega arith) ∙ ap (find that) (rest-next j (omega arith))
+          ∙ other (p j) (e j) (later j) (rest (j + 1))
+          (ne-eqb (e j .cycle) (e i .cycle) (λ f. omega (arith, cycles-rise bytes n (z .fit .events) j i (omega arith) l)))
+          ∙ ap (λ (m : ℕ). find that (rest m)) (add-one j)
+
+      pub burst-found : burstAt s bytes n i ≡ cond (gives (e i .pins)) (some (burstLeft s (p i) (e i) (later i))) none
+      burst-found = from-there i (omega arith) ∙ ap (find that) (rest-next i l) ∙ go (gives (e i .pins))
+        where
+          go : (v : Bool) → find that (cond v (burstLeft s (p i) (e i) (later i) ∷ []) [] ++ rest (i + 1)) ≡ cond v (some (burstLeft s (p i) (e i) (later i))) none
+          go true = rw (eq-eqb (e i .cycle) (e i .cycle) refl)
+          go false = none-behind (p (i + 1)) (suc (e i .cycle)) (later i) (omega arith) (rise-behind bytes n (fitting settings bytes n z) i l)
+
+      -- what is told of it
+      pub given-is : {firsts : List ℕ} {mode : ℕ} → At s bytes i firsts mode → givenBy s bytes n i firsts mode ≡ Option·map (toldOf s) (burstAt s bytes n i)
+      unfolding givenBy
+      given-is {firsts} {mode} a = go (gives (e i .pins)) ∙ ap (Option·map (toldOf s)) (sym burst-found)
+        where
+          row : getD firsts (bankOf (e i .pins)) 0 ≡ firstCell s (bankOf (e i .pins)) (p i .banks (bankOf (e i .pins)) .row)
+          row = ap (λ (xs : List ℕ). getD xs (bankOf (e i .pins)) 0) (a .rowed) ∙ first-at s (p i) (bankOf (e i .pins)) (omega arith)
+
+          here : told.Burst
+          here =
+              record {
+                writes = eqb (codeOf (e i .pins)) 2;
+                first = getD firsts (bankOf (e i .pins)) 0;
+                column = columnOf s (addressOf (e i .pins));
+                pairs = keptOf s mode (e i) (later i);
+              }
+
+          same : here ≡ toldOf s (burstLeft s (p i) (e i) (later i))
+          same =
+              λ u.
+              record {
+                writes = sym (write-is (e i .pins)) u;
+                first = row u;
+                column = columnOf s (addressOf (e i .pins));
+                pairs = keptOf s (a .moded u) (e i) (later i);
+              }
+
+          go : (v : Bool) → cond v (some here) none ≡ Option·map (toldOf s) (cond v (some (burstLeft s (p i) (e i) (later i))) none)
+          go true = ap some same
+          go false = refl
+
+      -- the bursts from here on, by it
+      pub burst-next : rest i ≡ listed (burstAt s bytes n i) ++ rest (i + 1)
+      burst-next = rest-next i l ∙ go (gives (e i .pins)) ∙ ap (λ (o : Option Burst). listed o ++ rest (i + 1)) (sym burst-found)
+        where
+          go : (v : Bool) → cond v (burstLeft s (p i) (e i) (later i) ∷ []) [] ++ rest (i + 1) ≡ listed (cond v (some (burstLeft s (p i) (e i) (later i))) none) ++ rest (i + 1)
+          go true = refl
+          go false = refl
