@@ -99,7 +99,7 @@ module _ (settings bytes : List ℕ) (n : ℕ) where
     split kind = ap (beatsBy kind) (rest-next settings bytes n i l) ∙ beats-append kind (eventBursts s p e later) (rest settings bytes n (i + 1))
 
     -- there is room for some of them
-    pub room : (code : ℕ) {beats some : ℕ} → beats ≡ 2 * pairs → some ≡ cond (eqb (codeOf pins) code) beats 0 → read + written + some ≤ 128 * (i + 1)
+    pub room : (code : ℕ) {beats some : ℕ} → beats ≤ 2 * pairs → some ≡ cond (eqb (codeOf pins) code) beats 0 → read + written + some ≤ 128 * (i + 1)
     room code {beats} {some} eb es = omega (arith, b .on .small, ep, kept-le s mode e later, most (eqb (codeOf pins) code) es)
       where
         most : (v : Bool) → some ≡ cond v beats 0 → some ≤ beats

@@ -17,7 +17,7 @@ use Rattle.judge.proofs.Events.{part-next}
 use Rattle.beats.specs.Kept.{gives}
 use Rattle.beats.specs.Rows.{firstCell, firstCells, cellsOpened}
 use Rattle.beats.proofs.Commands.{mode-is, row-is}
-use Rattle.cells.specs.Meaning.{firstsOf}
+use Rattle.cells.specs.Meaning.{firstsOf, firstsAt, modeAt}
 
 pub first-at : (s : Settings) (p : Part) (b : ℕ) → b < 4 → getD (firstsOf s p) b 0 ≡ firstCell s b (p .banks b .row)
 first-at s p zero l = refl
@@ -86,12 +86,12 @@ module _ (s : Settings) (p : Part) (e : Event) where
 -- before event i, and behind it
 module _ (s : Settings) (bytes : List ℕ) where
   module _ (i : ℕ) {pins : ℕ} (ew : pins ≡ eventAt bytes i .pins) where
-    pub mode-next : {mode next : ℕ} → mode ≡ partAt s bytes i .mode → next ≡ modeAfter mode pins → next ≡ partAt s bytes (i + 1) .mode
+    pub mode-next : {mode next : ℕ} → mode ≡ modeAt s bytes i → next ≡ modeAfter mode pins → next ≡ modeAt s bytes (i + 1)
     mode-next em f =
         f ∙ rw (ew, em) (sym (mode-is s (partAt s bytes i) (eventAt bytes i))) ∙ ap (λ (q : Part). q .mode) (sym (part-next s bytes i))
 
-    pub rows-next : {firsts opened : List ℕ} → firsts ≡ firstsOf s (partAt s bytes i) → opened ≡ cellsOpened s firsts pins →
-        opened ≡ firstsOf s (partAt s bytes (i + 1))
+    pub rows-next : {firsts opened : List ℕ} → firsts ≡ firstsAt s bytes i → opened ≡ cellsOpened s firsts pins →
+        opened ≡ firstsAt s bytes (i + 1)
     rows-next er f =
         f ∙ rw (ew, er) (firsts-after s (partAt s bytes i) (eventAt bytes i)) ∙ ap (firstsOf s) (sym (part-next s bytes i))
 

@@ -4,7 +4,7 @@ use mathlib.Core.Bool.{Bool, true, false, cond}
 use mathlib.Core.List.{List, [], _∷_, _++_, map}
 use mathlib.Core.Option.{Option, Option·map, none, some}
 use mathlib.Core.Path.{_≡_, refl, sym, ap, _∙_}
-use native.Mathlib.Nat.{sub-zero}
+use native.Mathlib.Nat.{zero-add, sub-zero}
 use native.Mathlib.Numerals.{add-one}
 use native.Mathlib.Omega.{arith}
 use borrow.Author.Tests.{eq-eqb, ne-eqb}
@@ -27,7 +27,7 @@ use Rattle.beats.proofs.Events.{Rises, next-event, no-event, events-rise, rise-
 use Rattle.beats.proofs.Looking.{kept-le}
 use Rattle.beats.proofs.Ahead.{burstLeft, eventBursts, burstsFrom, bursts-ahead, eventCells, cellsFrom, cells-ahead}
 use Rattle.cells.specs.Meaning as told
-use Rattle.cells.specs.Meaning.{toldOf, givenBy, Listable, Clean, burstsOn, burstAt, firstsOf, At, cellsOn}
+use Rattle.cells.specs.Meaning.{toldOf, givenBy, Listable, Clean, burstsOn, burstAt, At, cellsOn}
 use Rattle.cells.proofs.Alone.{fitting, each-alone}
 use Rattle.cells.proofs.Rows.{first-at, mode-next}
 
@@ -177,3 +177,16 @@ module _ (settings bytes : List ℕ) (n : ℕ) where
           go : (v : Bool) → cond v (burstLeft s (p i) (e i) (later i) ∷ []) [] ++ rest (i + 1) ≡ listed (cond v (some (burstLeft s (p i) (e i) (later i))) none) ++ rest (i + 1)
           go true = refl
           go false = refl
+
+    -- asked of each event in turn, they are all
+    abbrev asked : ℕ → ℕ → List Burst
+    asked zero i = []
+    asked (suc left) i = listed (burstAt s bytes n i) ++ asked left (i + 1)
+
+    from-here : (left i : ℕ) → i + left ≡ n → rest i ≡ asked left i
+    from-here zero i f = rest-ends i (omega arith)
+    from-here (suc left) i f =
+        burst-next i (omega arith) ∙ ap (λ (xs : List Burst). listed (burstAt s bytes n i) ++ xs) (from-here left (i + 1) (omega arith))
+
+    pub all-asked : burstsOn s bytes n ≡ asked n 0
+    all-asked = rest-begins ∙ from-here n 0 (zero-add n)

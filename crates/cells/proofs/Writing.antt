@@ -21,7 +21,7 @@ use Rattle.beats.proofs.Events.{no-event}
 use Rattle.beats.proofs.Looking.{kept-le, kept-nothing}
 use Rattle.beats.proofs.Storing.{length-cells, no-cells}
 use Rattle.beats.proofs.Ahead.{eventCells, cellsFrom}
-use Rattle.cells.specs.Meaning.{Listable, Clean, firstsOf, cellsOn}
+use Rattle.cells.specs.Meaning.{Listable, Clean, firstsAt, cellsOn}
 use Rattle.cells.proofs.Walked as walked
 use Rattle.cells.proofs.Walked.{Walked, walks-on, all-cells, next-cells}
 use Rattle.cells.proofs.Rows.{first-at, none-opened, mode-stays, rows-next, low-at}
@@ -32,7 +32,7 @@ module _ (settings bytes : List ℕ) (n : ℕ) (old : List ℕ) where
 
   pub record Written (out firsts : List ℕ) (mode next i : ℕ) : Type 0 where
     pub on : Walked settings bytes n mode next i
-    pub rowed : firsts ≡ firstsOf s (partAt s bytes i)
+    pub rowed : firsts ≡ firstsAt s bytes i
     pub done : List ℕ
     pub place : next ≡ length done
     pub holds : out ≡ sets old 0 done

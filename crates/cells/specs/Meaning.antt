@@ -2,7 +2,7 @@
 use Prim.Native.Nat.{ℕ, _+_, _≤_}
 use mathlib.Core.Bool.{Bool, true, cond}
 use mathlib.Core.List.{List}
-use mathlib.Core.Option.{Option, none, some}
+use mathlib.Core.Option.{Option, none, some, Option·map}
 use mathlib.Core.Path.{_≡_}
 use lib.Dec.{ltb, eqb}
 use lib.ListN.{getD}
@@ -79,14 +79,23 @@ burstsOn s bytes n = burstsOf s (eventsIn bytes n)
 unfoldable pub burstAt : Settings → List ℕ → ℕ → ℕ → Option reading.Burst
 burstAt s bytes n i = search.find (λ x. eqb (x .k) (eventAt bytes i .cycle)) (burstsOn s bytes n)
 
--- the first cells of the rows that the banks of a part were opened on
+-- what event i gives by it
+abbrev pub givenAt : Settings → List ℕ → ℕ → ℕ → Given
+givenAt s bytes n i = givenAs (Option·map (toldOf s) (burstAt s bytes n i))
+
+-- the first cells of the rows that the banks of a part were opened on; these and the mode word before event i
 abbrev pub firstsOf : Settings → Part → List ℕ
 firstsOf s p = firstCells s (p .banks 0 .row) (p .banks 1 .row) (p .banks 2 .row) (p .banks 3 .row)
 
--- these and the mode word are those of the part before event i
+abbrev pub firstsAt : Settings → List ℕ → ℕ → List ℕ
+firstsAt s bytes i = firstsOf s (partAt s bytes i)
+
+abbrev pub modeAt : Settings → List ℕ → ℕ → ℕ
+modeAt s bytes i = partAt s bytes i .mode
+
 pub record At (s : Settings) (bytes : List ℕ) (i : ℕ) (firsts : List ℕ) (mode : ℕ) : Type 0 where
-  pub rowed : firsts ≡ firstsOf s (partAt s bytes i)
-  pub moded : mode ≡ partAt s bytes i .mode
+  pub rowed : firsts ≡ firstsAt s bytes i
+  pub moded : mode ≡ modeAt s bytes i
 
 -- the cells of the first n events' bursts
 unfoldable pub cellsOn : Settings → List ℕ → ℕ → List ℕ

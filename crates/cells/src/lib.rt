@@ -8,7 +8,6 @@ use settings::places::MODE;
 use words::Found;
 ghost use mathlib.Core.Path.{_≡_};
 ghost use mathlib.Core.Bool.{false, cond};
-ghost use mathlib.Core.Option.{Option·map};
 ghost use Prim.Native.Nat.{_+_, _*_, _≤_, _<_};
 ghost use lib.Dec.{eqb};
 ghost use lib.ListN.{length};
@@ -23,23 +22,9 @@ ghost use Rattle.reading.specs.Answers.{cellsOutcome, notClean};
 ghost use Rattle.pins.specs.Pins.{codeOf, modeAfter};
 ghost use Rattle.beats.specs.Kept.{eventsFrom, keptOf};
 ghost use Rattle.beats.specs.Rows.{Sized, cellsOpened};
-ghost use Rattle.judge.specs.Meaning.{eventsIn, partAt};
-ghost use Rattle.cells.specs.Meaning.{
-  means,
-  givenAs,
-  givenBy,
-  toldOf,
-  Listable,
-  KeepsPair,
-  Clean,
-  burstsOn,
-  burstAt,
-  firstsOf,
-  At,
-  cellsOn,
-  lackingIn,
-  listing,
-};
+ghost use Rattle.judge.specs.Meaning.{eventsIn};
+ghost use Rattle.cells.specs.Meaning.{means, Listable, Clean, KeepsPair, givenAs, givenBy, givenAt, At, firstsAt, modeAt};
+ghost use Rattle.cells.specs.Meaning.{burstsOn, cellsOn, lackingIn, listing};
 
 // What is said of a capture whose cells are asked for.
 pub enum Listed {
@@ -203,20 +188,19 @@ pub fn burst_at(s: &Settings, bytes: &[u8], n: u32, i: u32, firsts: &[u32; 4], m
     requires { ⌜ Listable (now s) (now bytes) n × (i < n) ⌝ }
     requires { ⌜ Clean (settingsOf (now s)) (now bytes) n ⌝ }
     requires { ⌜ At (settingsOf (now s)) (now bytes) i (now firsts) mode ⌝ }
-    ensures { λ r.
-        ⌜ r ≡ givenAs (Option·map (toldOf (settingsOf (now (s .entry)))) (burstAt (settingsOf (now (s .entry))) (now (bytes .entry)) n i)) ⌝ }
+    ensures { λ r. ⌜ r ≡ givenAt (settingsOf (now (s .entry))) (now (bytes .entry)) n i ⌝ }
 {
     let w = capture::pins_at(bytes, i as usize);
     if !beats::gives_burst(w) {
         return Given::Other;
     }
-    let writes = pins::code(w) == pins::WRITE;
+    let asked = pins::code(w);
     let bank = pins::bank(w);
     let first = firsts[bank];
     let column = beats::column(s, w);
     let pairs = pairs_of(s, bytes, n, i, mode);
     Given::Burst {
-        writes,
+        writes: asked == pins::WRITE,
         first,
         column,
         pairs,
@@ -227,12 +211,12 @@ pub fn burst_at(s: &Settings, bytes: &[u8], n: u32, i: u32, firsts: &[u32; 4], m
 pub fn passed(s: &Settings, bytes: &[u8], i: u32, firsts: &mut [u32; 4], mode: u32) -> u32
     requires { ⌜ Sized (settingsOf (now s)) × (8 * i + 8 ≤ length (now bytes)) ⌝ }
     requires { ⌜ At (settingsOf (now s)) (now bytes) i (now firsts) mode ⌝ }
-    ensures { λ r. ⌜ r ≡ partAt (settingsOf (now (s .entry))) (now (bytes .entry)) (i + 1) .mode ⌝ }
-    ensures { λ _. ⌜ now (firsts .exit) ≡ firstsOf (settingsOf (now (s .entry))) (partAt (settingsOf (now (s .entry))) (now (bytes .entry)) (i + 1)) ⌝ }
+    ensures { λ r. ⌜ r ≡ modeAt (settingsOf (now (s .entry))) (now (bytes .entry)) (i + 1) ⌝ }
+    ensures { λ _. ⌜ now (firsts .exit) ≡ firstsAt (settingsOf (now (s .entry))) (now (bytes .entry)) (i + 1) ⌝ }
 {
-    let w = capture::pins_at(bytes, i as usize);
-    beats::open_row(s, firsts, w);
-    beats::mode_after(mode, w)
+    let word = capture::pins_at(bytes, i as usize);
+    beats::open_row(s, firsts, word);
+    beats::mode_after(mode, word)
 }
 
 // An event that gives no burst: ACTIVE opens its row; MODE REGISTER SET changes the mode word, which is answered.

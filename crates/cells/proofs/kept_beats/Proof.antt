@@ -60,7 +60,7 @@ add-read c =
     let a = start .args in
     omega (
       arith,
-      room (a .s .now) (a .bytes .now) (a .n) (x .inv) (test .events-test .taken) (found .before .pins-at .ensures) (found .pairs-of .ensures) 10 refl
+      room (a .s .now) (a .bytes .now) (a .n) (x .inv) (test .events-test .taken) (found .before .pins-at .ensures) (found .pairs-of .ensures) 10 (omega arith)
           (c .beats-by .ensures),
       start .pre .0 .fit .few,
       test .events-test .taken,
@@ -78,7 +78,7 @@ add-written c =
     let a = start .args in
     omega (
       arith,
-      room (a .s .now) (a .bytes .now) (a .n) (x .inv) (test .events-test .taken) (found .before .pins-at .ensures) (found .pairs-of .ensures) 2 refl
+      room (a .s .now) (a .bytes .now) (a .n) (x .inv) (test .events-test .taken) (found .before .pins-at .ensures) (found .pairs-of .ensures) 2 (omega arith)
           (c .beats-by2 .ensures),
       start .pre .0 .fit .few,
       test .events-test .taken,
