@@ -1,5 +1,5 @@
 -- The first cells of the four banks' rows, kept in a list; and the mode word.
-use Prim.Native.Nat.{ℕ, zero, suc, _+_, _<_}
+use Prim.Native.Nat.{ℕ, zero, suc, _+_, _≤_, _<_}
 use mathlib.Core.Bool.{Bool, true, false, cond, _&&_, _||_}
 use mathlib.Core.List.{List}
 use mathlib.Core.Path.{_≡_, refl, sym, ap, _∙_, subst}
@@ -10,12 +10,14 @@ use lib.Dec.{eqb}
 use lib.ListN.{getD, set}
 use Rattle.reading.specs.Settings.{Settings}
 use Rattle.reading.specs.Capture.{Event, eventAt}
+use Rattle.reading.specs.Bursts.{columnOf}
 use Rattle.reading.specs.Part.{Part, step}
 use Rattle.pins.specs.Pins.{codeOf, bankOf, addressOf, modeAfter}
 use Rattle.judge.specs.Meaning.{partAt}
 use Rattle.judge.proofs.Events.{part-next}
 use Rattle.beats.specs.Kept.{gives}
-use Rattle.beats.specs.Rows.{firstCell, firstCells, cellsOpened}
+use Rattle.beats.specs.Rows.{Sized, InRow, firstCell, firstCells, cellsOpened}
+use Rattle.beats.proofs.Columns.{column-lt, first-lt}
 use Rattle.beats.proofs.Commands.{mode-is, row-is}
 use Rattle.cells.specs.Meaning.{firstsOf, firstsAt, modeAt}
 
@@ -95,8 +97,13 @@ module _ (s : Settings) (bytes : List ℕ) where
     rows-next er f =
         f ∙ rw (ew, er) (firsts-after s (partAt s bytes i) (eventAt bytes i)) ∙ ap (firstsOf s) (sym (part-next s bytes i))
 
-  pub low-at : (i b : ℕ) → partAt s bytes i .banks b .row < 16384
+  low-at : (i b : ℕ) → partAt s bytes i .banks b .row < 16384
   low-at zero b = omega arith
   low-at (suc i) b =
       subst (λ (q : Part). q .banks b .row < 16384) (sym (part-next s bytes i) ∙ ap (partAt s bytes) (add-one i))
       (low-after s (partAt s bytes i) (eventAt bytes i) (low-at i) b)
+
+  pub row-at : Sized s → (i bank address : ℕ) → bank < 4 → {pairs : ℕ} → pairs ≤ 64 →
+      InRow (firstCell s bank (partAt s bytes i .banks bank .row)) (columnOf s address) pairs
+  row-at z i bank address b l =
+      record { cell = first-lt s z bank (partAt s bytes i .banks bank .row) b (low-at i bank); low = column-lt s address; short = l }

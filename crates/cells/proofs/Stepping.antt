@@ -14,8 +14,7 @@ use Rattle.pins.specs.Pins.{codeOf, bankOf, addressOf}
 use Rattle.beats.specs.Kept.{gives, eventsFrom, keptOf}
 use Rattle.cells.specs.declared.Given.{Given}
 use Rattle.cells.specs.declared.Given.the-variants.{Burst, Other}
-use Rattle.cells.specs.Meaning as meaning
-use Rattle.cells.specs.Meaning.{givenAs, givenBy}
+use Rattle.cells.specs.Meaning.{givenAs, toldBy, givenBy}
 
 module _ (s : Settings) (bytes : List ℕ) (n i : ℕ) (firsts : List ℕ) (mode : ℕ) where
   abbrev w : ℕ
@@ -45,23 +44,13 @@ module _ (s : Settings) (bytes : List ℕ) (n i : ℕ) (firsts : List ℕ) (mode
         let place = y ∙ ap (λ (k : ℕ). columnOf s (addressOf k)) e in
         rw h (λ u. Burst (kind u) (row u) (place u) (z u))
 
-  -- what is told of the event, if it gives a burst
-  abbrev here : meaning.Burst
-  here =
-      record {
-        writes = eqb (codeOf w) 2;
-        first = getD firsts (bankOf w) 0;
-        column = columnOf s (addressOf w);
-        pairs = keptOf s mode (eventAt bytes i) later;
-      }
-
   module _ {r : Given} (step : r ≡ givenAs (givenBy s bytes n i firsts mode)) where
     pub told : {writes : Bool} {first column pairs : ℕ} → r ≡ Burst writes first column pairs → Is first column pairs
     unfolding givenBy
     told {writes} {first} {column} {pairs} b = go (gives w) refl (sym b ∙ step)
       where
         go : (v : Bool) → gives w ≡ v →
-            Burst writes first column pairs ≡ givenAs (cond v (some here) none) →
+            Burst writes first column pairs ≡ givenAs (cond v (some (toldBy s bytes n i firsts mode)) none) →
             Is first column pairs
         go true g q = record { burst = g; row = cc; place = cc; kept = cc }
         go false g q = let z : _≡_ {A = ℕ} 0 1 = cc in absurd (omega arith)
@@ -71,6 +60,6 @@ module _ (s : Settings) (bytes : List ℕ) (n i : ℕ) (firsts : List ℕ) (mode
     told-other b = go (gives w) (sym b ∙ step)
       where
         go : (v : Bool) →
-            Other ≡ givenAs (cond v (some here) none) → v ≡ false
+            Other ≡ givenAs (cond v (some (toldBy s bytes n i firsts mode)) none) → v ≡ false
         go true q = let z : _≡_ {A = ℕ} 0 1 = cc in absurd (omega arith)
         go false q = refl

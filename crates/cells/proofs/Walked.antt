@@ -3,7 +3,7 @@ use Prim.Native.Nat.{ℕ, zero, suc, _+_, _*_, _≤_, _<_}
 use mathlib.Core.Bool.{Bool, true, false, cond}
 use mathlib.Core.List.{List, [], _∷_, _++_, map}
 use mathlib.Core.Option.{Option, Option·map, none, some}
-use mathlib.Core.Path.{_≡_, refl, sym, ap, _∙_}
+use mathlib.Core.Path.{_≡_, refl, sym, ap, _∙_, subst}
 use native.Mathlib.Nat.{zero-add, sub-zero}
 use native.Mathlib.Numerals.{add-one}
 use native.Mathlib.Omega.{arith}
@@ -17,19 +17,18 @@ use Rattle.reading.specs.Bursts.{Burst, columnOf}
 use Rattle.reading.specs.Part.{Part, step}
 use Rattle.reading.specs.Cells.{burstsOf, cellsOf}
 use Rattle.capture.proofs.Accepted.{cycles-rise}
-use Rattle.pins.specs.Pins.{codeOf, bankOf, addressOf, modeAfter}
+use Rattle.pins.specs.Pins.{bankOf, addressOf, modeAfter}
 use Rattle.pins.proofs.Commands.{write-is}
 use Rattle.judge.specs.Meaning.{partAt}
 use Rattle.judge.proofs.Events.{part-next}
 use Rattle.beats.specs.Kept.{gives, eventsFrom, keptOf}
-use Rattle.beats.specs.Rows.{firstCell}
+use Rattle.beats.specs.Rows.{InRow, firstCell}
 use Rattle.beats.proofs.Events.{Rises, next-event, no-event, events-rise, rise-behind}
 use Rattle.beats.proofs.Looking.{kept-le}
 use Rattle.beats.proofs.Ahead.{burstLeft, eventBursts, burstsFrom, bursts-ahead, eventCells, cellsFrom, cells-ahead}
-use Rattle.cells.specs.Meaning as told
-use Rattle.cells.specs.Meaning.{toldOf, givenBy, Listable, Clean, burstsOn, burstAt, At, cellsOn}
+use Rattle.cells.specs.Meaning.{toldOf, toldBy, givenBy, Listable, Clean, burstsOn, burstAt, At, modeAt, cellsOn}
 use Rattle.cells.proofs.Alone.{fitting, each-alone}
-use Rattle.cells.proofs.Rows.{first-at, mode-next}
+use Rattle.cells.proofs.Rows.{first-at, mode-next, row-at}
 
 -- a burst, if there is one
 abbrev pub listed : Option Burst → List Burst
@@ -52,7 +51,7 @@ module _ (settings bytes : List ℕ) (n : ℕ) where
 
   -- the mode word, and how many cells were counted or written so far
   pub record Walked (mode cells i : ℕ) : Type 0 where
-    pub moded : mode ≡ p i .mode
+    pub moded : mode ≡ modeAt s bytes i
     pub within : i ≤ n
     pub small : cells ≤ 128 * i
 
@@ -147,16 +146,7 @@ module _ (settings bytes : List ℕ) (n : ℕ) where
           row : getD firsts (bankOf (e i .pins)) 0 ≡ firstCell s (bankOf (e i .pins)) (p i .banks (bankOf (e i .pins)) .row)
           row = ap (λ (xs : List ℕ). getD xs (bankOf (e i .pins)) 0) (a .rowed) ∙ first-at s (p i) (bankOf (e i .pins)) (omega arith)
 
-          here : told.Burst
-          here =
-              record {
-                writes = eqb (codeOf (e i .pins)) 2;
-                first = getD firsts (bankOf (e i .pins)) 0;
-                column = columnOf s (addressOf (e i .pins));
-                pairs = keptOf s mode (e i) (later i);
-              }
-
-          same : here ≡ toldOf s (burstLeft s (p i) (e i) (later i))
+          same : toldBy s bytes n i firsts mode ≡ toldOf s (burstLeft s (p i) (e i) (later i))
           same =
               λ u.
               record {
@@ -166,9 +156,24 @@ module _ (settings bytes : List ℕ) (n : ℕ) where
                 pairs = keptOf s (a .moded u) (e i) (later i);
               }
 
-          go : (v : Bool) → cond v (some here) none ≡ Option·map (toldOf s) (cond v (some (burstLeft s (p i) (e i) (later i))) none)
+          go : (v : Bool) → cond v (some (toldBy s bytes n i firsts mode)) none ≡ Option·map (toldOf s) (cond v (some (burstLeft s (p i) (e i) (later i))) none)
           go true = ap some same
           go false = refl
+
+      -- its mode word is that of then, and its cells are in a row of the part
+      pub record Placed (x : Burst) : Type 0 where
+        pub moded : x .mode ≡ modeAt s bytes i
+        pub in-row : InRow (firstCell s (x .bank) (x .row)) (x .column) (x .n)
+
+      pub placed : {x : Burst} → burstAt s bytes n i ≡ some x → Placed x
+      placed {x} f = go (gives (e i .pins)) (sym f ∙ burst-found)
+        where
+          here : Placed (burstLeft s (p i) (e i) (later i))
+          here = record { moded = refl; in-row = row-at s bytes (z .sized) i _ (addressOf (e i .pins)) (omega arith) (kept-le s (p i .mode) (e i) (later i)) }
+
+          go : (v : Bool) → some x ≡ cond v (some (burstLeft s (p i) (e i) (later i))) none → Placed x
+          go true q = let same : burstLeft s (p i) (e i) (later i) ≡ x = cc in subst Placed same here
+          go false q = let zero-one : _≡_ {A = ℕ} 0 1 = cc in absurd (omega arith)
 
       -- the bursts from here on, by it
       pub burst-next : rest i ≡ listed (burstAt s bytes n i) ++ rest (i + 1)

@@ -16,7 +16,6 @@ use Rattle.pins.specs.Pins.{bankOf, addressOf, modeAfter}
 use Rattle.judge.specs.Meaning.{partAt}
 use Rattle.beats.specs.Kept.{gives, eventsFrom, keptOf}
 use Rattle.beats.specs.Rows.{InRow, firstCell, firstCells, cellsOpened, beatCells}
-use Rattle.beats.proofs.Columns.{column-lt, first-lt}
 use Rattle.beats.proofs.Events.{no-event}
 use Rattle.beats.proofs.Looking.{kept-le, kept-nothing}
 use Rattle.beats.proofs.Storing.{length-cells, no-cells}
@@ -24,7 +23,7 @@ use Rattle.beats.proofs.Ahead.{eventCells, cellsFrom}
 use Rattle.cells.specs.Meaning.{Listable, Clean, firstsAt, cellsOn}
 use Rattle.cells.proofs.Walked as walked
 use Rattle.cells.proofs.Walked.{Walked, walks-on, all-cells, next-cells}
-use Rattle.cells.proofs.Rows.{first-at, none-opened, mode-stays, rows-next, low-at}
+use Rattle.cells.proofs.Rows.{first-at, none-opened, mode-stays, rows-next, row-at}
 
 module _ (settings bytes : List ℕ) (n : ℕ) (old : List ℕ) where
   abbrev s : Settings
@@ -108,12 +107,7 @@ module _ (settings bytes : List ℕ) (n : ℕ) (old : List ℕ) where
       first-is = ef ∙ ap (λ (xs : List ℕ). getD xs bank 0) (b .rowed) ∙ first-at s p bank (omega (arith, eb))
 
       pub in-row : Listable settings bytes n → InRow first column pairs
-      in-row z =
-          record {
-            cell = rw first-is (first-lt s (z .sized) bank (p .banks bank .row) (omega (arith, eb)) (low-at s bytes i bank));
-            low = rw ec (column-lt s (addressOf pins));
-            short = omega (arith, ep, kept-le s mode e later);
-          }
+      in-row z = rw (first-is, ec) (row-at s bytes (z .sized) i bank (addressOf pins) (omega (arith, eb)) (omega (arith, ep, kept-le s mode e later)))
 
       stored-are : beatCells first mode column (2 * pairs) ≡ cells
       stored-are = rw (first-is, ec, eb, ew, pairs-are, b .on .moded)

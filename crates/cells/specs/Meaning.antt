@@ -46,17 +46,17 @@ abbrev pub toldOf : Settings → reading.Burst → Burst
 toldOf s x = record { writes = x .writes; first = firstCell s (x .bank) (x .row); column = x .column; pairs = x .n }
 
 -- by the first cells of the rows that the banks were opened on and the mode word before event i
-unfoldable pub givenBy : Settings → List ℕ → ℕ → ℕ → List ℕ → ℕ → Option Burst
-givenBy s bytes n i firsts mode =
-    cond (gives (eventAt bytes i .pins))
-    (some
-    (record {
+abbrev pub toldBy : Settings → List ℕ → ℕ → ℕ → List ℕ → ℕ → Burst
+toldBy s bytes n i firsts mode =
+    record {
       writes = eqb (codeOf (eventAt bytes i .pins)) 2;
       first = getD firsts (bankOf (eventAt bytes i .pins)) 0;
       column = columnOf s (addressOf (eventAt bytes i .pins));
       pairs = keptOf s mode (eventAt bytes i) (eventsFrom bytes n (i + 1));
-    }))
-    none
+    }
+
+unfoldable pub givenBy : Settings → List ℕ → ℕ → ℕ → List ℕ → ℕ → Option Burst
+givenBy s bytes n i firsts mode = cond (gives (eventAt bytes i .pins)) (some (toldBy s bytes n i firsts mode)) none
 
 -- n events fit, and so do the settings
 pub record Listable (settings bytes : List ℕ) (n : ℕ) : Type 0 where
