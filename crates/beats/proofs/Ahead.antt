@@ -1,4 +1,4 @@
--- The cells of a capture's bursts, event by event: each burst as the events behind it leave it.
+-- The bursts of a capture and their cells, event by event: each burst as the events behind it leave it.
 use Prim.Native.Nat.{ℕ, suc, _*_}
 use mathlib.Core.Bool.{Bool, true, false, cond, _&&_, and-false}
 use mathlib.Core.List.{List, [], _∷_, _++_, map, reverse, append-nil, append-assoc, map-id, reverse-cons}
@@ -78,13 +78,19 @@ module _ (s : Settings) (p : Part) (e : Event) (es : List Event) (r : Rises (suc
           calm a (ap (λ (z : Bool). newer s && z) (write-is (e .pins) ∙ q) ∙ and-false (newer s)) ∙ rw (g, a, q, and-false (newer s))
       go false a false i w q = calm a (rw i) ∙ rw (g, a, i)
 
-module _ (s : Settings) where
-  cells-last : (x : Burst) (xs : List Burst) → cellsOf s (reverse (x ∷ xs)) ≡ cellsOf s (reverse xs) ++ burstCells s x
-  unfolding cellsOf
-  cells-last x xs =
-      ap (cellsOf s) (reverse-cons x xs) ∙ cells-append s (reverse xs) (x ∷ [])
-      ∙ ap (λ (cs : List ℕ). cellsOf s (reverse xs) ++ cs) (append-nil (burstCells s x))
+-- the burst that a READ or WRITE gives, as the events behind it leave it
+abbrev pub burstLeft : Settings → Part → Event → List Event → Burst
+burstLeft s p e es = withPairs (keptOf s (p .mode) e es) (burstGiven s p (e .cycle) (commandOf (e .pins)))
 
+-- that of any event, and those of all events behind the part's
+abbrev pub eventBursts : Settings → Part → Event → List Event → List Burst
+eventBursts s p e es = cond (gives (e .pins)) (burstLeft s p e es ∷ []) []
+
+abbrev pub burstsFrom : Settings → Part → List Event → List Burst
+burstsFrom s p [] = []
+burstsFrom s p (e ∷ es) = eventBursts s p e es ++ burstsFrom s (step s p e) es
+
+module _ (s : Settings) where
   module _ (p : Part) (e : Event) (es : List Event) where
     abbrev x : Burst
     x = burstGiven s p (e .cycle) (commandOf (e .pins))
@@ -92,24 +98,10 @@ module _ (s : Settings) where
     abbrev rest : Burst → Burst
     rest = leftOf s (step s p e) es
 
-    kept-cells : (n : ℕ) → burstCells s (withPairs n x) ≡
-        beatCells (firstInRow s (bankOf (e .pins)) (p .banks (bankOf (e .pins)) .row)) (p .mode) (columnOf s (addressOf (e .pins))) (2 * n)
-    unfolding burstCells beatCell beatCells
-    kept-cells n = refl
-
     one-event : Rises (suc (e .cycle)) es → Told s p e → (xs : List Burst) (v : Bool) → gives (e .pins) ≡ v →
-        cellsOf s (reverse (map rest (cond v (x ∷ xs) xs))) ≡ cellsOf s (reverse (map rest xs)) ++ eventCells s p e es
-    one-event r u xs true g =
-        cells-last (rest x) (map rest xs)
-        ∙ ap (λ (cs : List ℕ). cellsOf s (reverse (map rest xs)) ++ cs)
-        (ap (burstCells s) (kept-in-the-end s p e es r g u) ∙ kept-cells (keptOf s (p .mode) e es))
-    one-event r u xs false g =
-        let row = firstInRow s (bankOf (e .pins)) (p .banks (bankOf (e .pins)) .row) in
-        let column = columnOf s (addressOf (e .pins)) in
-        let none : eventCells s p e es ≡ [] =
-        ap (λ (n : ℕ). beatCells row (p .mode) column (2 * n)) (sym (kept-nothing s (p .mode) e es g)) ∙ no-cells row (p .mode) column in
-        sym (append-nil (cellsOf s (reverse (map rest xs))))
-        ∙ ap (λ (cs : List ℕ). cellsOf s (reverse (map rest xs)) ++ cs) (sym none)
+        reverse (map rest (cond v (x ∷ xs) xs)) ≡ reverse (map rest xs) ++ cond v (burstLeft s p e es ∷ []) []
+    one-event r u xs true g = reverse-cons (rest x) (map rest xs) ∙ ap (λ (y : Burst). reverse (map rest xs) ++ (y ∷ [])) (kept-in-the-end s p e es r g u)
+    one-event r u xs false g = sym (append-nil (reverse (map rest xs)))
 
   -- a burst that an event cuts, and those behind it
   stands-on : (p : Part) (e : Event) (es : List Event) {xs : List Burst} →
@@ -121,27 +113,56 @@ module _ (s : Settings) where
       λ i. cutByAll s es ((standing-pairs (step s p e) (cut .n) y ∙ q) i) cut ∷ stands-on p e es qs i
 
   ahead : (p : Part) (from : ℕ) (es : List Event) → Rises from es → Alone s p es →
-      cellsOf s (reverse (run s p es .bursts)) ≡ cellsOf s (reverse (map (leftOf s p es) (p .bursts))) ++ cellsFrom s p es
-  ahead p from [] r u = rw (map-id (p .bursts)) (sym (append-nil (cellsOf s (reverse (p .bursts)))))
+      reverse (run s p es .bursts) ≡ reverse (map (leftOf s p es) (p .bursts)) ++ burstsFrom s p es
+  ahead p from [] r u = rw (map-id (p .bursts)) (sym (append-nil (reverse (p .bursts))))
   ahead p from (e ∷ es) r u =
       ahead (step s p e) (suc (e .cycle)) es (r .1) (u .1)
-      ∙ ap (λ (cs : List ℕ). cs ++ cellsFrom s (step s p e) es)
-      (cut ∙ ap (λ (xs : List Burst). cellsOf s (reverse xs) ++ eventCells s p e es) (stands-on p e es (u .0 .stands)))
-      ∙ append-assoc (cellsOf s (reverse (map (leftOf s p (e ∷ es)) (p .bursts)))) (eventCells s p e es) (cellsFrom s (step s p e) es)
+      ∙ ap (λ (ys : List Burst). ys ++ burstsFrom s (step s p e) es)
+      (cut ∙ ap (λ (xs : List Burst). reverse xs ++ eventBursts s p e es) (stands-on p e es (u .0 .stands)))
+      ∙ append-assoc (reverse (map (leftOf s p (e ∷ es)) (p .bursts))) (eventBursts s p e es) (burstsFrom s (step s p e) es)
     where
       f : Burst → Burst
-      f x = cutAlone s (standing p x) (e .cycle) (commandOf (e .pins)) x
+      f y = cutAlone s (standing p y) (e .cycle) (commandOf (e .pins)) y
 
-      with-burst : Bool → List Burst → List ℕ
-      with-burst v xs = cellsOf s (reverse (map (leftOf s (step s p e) es) (cond v (x p e es ∷ xs) xs)))
+      with-burst : Bool → List Burst → List Burst
+      with-burst v xs = reverse (map (leftOf s (step s p e) es) (cond v (x p e es ∷ xs) xs))
 
-      cut : cellsOf s (reverse (map (leftOf s (step s p e) es) (burstsAfter s p (e .cycle) (commandOf (e .pins))))) ≡
-          cellsOf s (reverse (map (leftOf s (step s p e) es) (map f (p .bursts)))) ++ eventCells s p e es
+      cut : reverse (map (leftOf s (step s p e) es) (burstsAfter s p (e .cycle) (commandOf (e .pins)))) ≡
+          reverse (map (leftOf s (step s p e) es) (map f (p .bursts))) ++ eventBursts s p e es
       cut =
           ap (λ (v : Bool). with-burst v (map (cutBy s p (e .cycle) (commandOf (e .pins))) (p .bursts))) (gives-is (e .pins))
           ∙ ap (with-burst (gives (e .pins))) (u .0 .cut)
           ∙ one-event p e es (r .1) (u .0) (map f (p .bursts)) (gives (e .pins)) refl
 
+  -- the bursts of a capture, event by event
+  pub bursts-ahead : (es : List Event) → Rises 0 es → Alone s (start s) es → burstsOf s es ≡ burstsFrom s (start s) es
+  unfolding burstsOf
+  bursts-ahead es r u = ahead (start s) 0 es r u
+
+  -- ---- their cells
+
+  -- a burst's are those of its row
+  pub burst-cells : (x : Burst) → burstCells s x ≡ beatCells (firstInRow s (x .bank) (x .row)) (x .mode) (x .column) (2 * x .n)
+  unfolding burstCells beatCell beatCells
+  burst-cells x = refl
+
+  event-cells : (p : Part) (e : Event) (es : List Event) → cellsOf s (eventBursts s p e es) ≡ eventCells s p e es
+  unfolding cellsOf
+  event-cells p e es = go (gives (e .pins)) refl
+    where
+      go : (v : Bool) → gives (e .pins) ≡ v → cellsOf s (cond v (burstLeft s p e es ∷ []) []) ≡ eventCells s p e es
+      go true g = append-nil (burstCells s (burstLeft s p e es)) ∙ burst-cells (burstLeft s p e es)
+      go false g =
+          let row = firstInRow s (bankOf (e .pins)) (p .banks (bankOf (e .pins)) .row) in
+          let column = columnOf s (addressOf (e .pins)) in
+          sym (ap (λ (n : ℕ). beatCells row (p .mode) column (2 * n)) (sym (kept-nothing s (p .mode) e es g)) ∙ no-cells row (p .mode) column)
+
+  cells-from : (p : Part) (es : List Event) → cellsOf s (burstsFrom s p es) ≡ cellsFrom s p es
+  unfolding cellsOf
+  cells-from p [] = refl
+  cells-from p (e ∷ es) =
+      cells-append s (eventBursts s p e es) (burstsFrom s (step s p e) es)
+      ∙ (λ i. event-cells p e es i ++ cells-from (step s p e) es i)
+
   pub cells-ahead : (es : List Event) → Rises 0 es → Alone s (start s) es → cellsOf s (burstsOf s es) ≡ cellsFrom s (start s) es
-  unfolding burstsOf cellsOf
-  cells-ahead es r u = ahead (start s) 0 es r u
+  cells-ahead es r u = ap (cellsOf s) (bursts-ahead es r u) ∙ cells-from (start s) es

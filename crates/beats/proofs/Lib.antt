@@ -8,3 +8,4 @@ pub mod Interrupting
 pub mod Looking
 mod Searching
 pub mod Ahead
+pub mod Sums

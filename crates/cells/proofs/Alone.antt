@@ -1,56 +1,41 @@
 -- In a clean capture every event cuts what its command cuts by itself, and a write stands from its own event on, so looking
 -- ahead needs no part.
-use Prim.Native.Nat.{ℕ, zero, suc, _+_, _-_, _≤_, _<_}
+use Prim.Native.Nat.{ℕ, zero, suc, _+_, _≤_, _<_}
 use mathlib.Core.Bool.{true}
-use mathlib.Core.List.{List, [], _∷_, map, List·Memᴰ}
-use mathlib.Core.Option.{Option, none, some}
-use mathlib.Core.Path.{_≡_, refl, ap, _∙_}
-use native.Mathlib.Nat.{sub-zero}
+use mathlib.Core.List.{List, List·Memᴰ}
+use mathlib.Core.Option.{none}
+use mathlib.Core.Path.{_≡_, refl, sym, _∙_, subst}
+use native.Mathlib.Nat.{zero-add}
 use native.Mathlib.Omega.{arith}
 use lib.Dec.{leb}
-use Rattle.reading.specs.Search.{ever, count}
-use Rattle.reading.specs.Settings.{Settings}
+use Rattle.reading.specs.Search.{ever}
+use Rattle.reading.specs.Settings.{Settings, settingsOf}
 use Rattle.reading.specs.Capture.{Event, eventAt}
 use Rattle.reading.specs.Commands.{Command, commandOf}
 use Rattle.reading.specs.Bursts.{Burst}
 use Rattle.reading.specs.Part.{Part, start, step}
 use Rattle.reading.specs.Rules.{rule3, brokenBy}
-use Rattle.reading.proofs.Meaning.{none-broken}
-use Rattle.reading.specs.Verdict.{Verdict, clean, broken, brokenOr, judgeFrom, verdictOf, judgeBy, verdictBy}
+use Rattle.reading.specs.Verdict.{Verdict, clean, broken, verdictOf}
 use Rattle.reading.specs.Answers.{notClean}
-use Rattle.bridge.proofs.Next.{Sound, open-by}
-use Rattle.bridge.proofs.Kept.{same-cuts}
-use Rattle.bridge.proofs.Turn.{turned-event, start-sound}
-use Rattle.judge.specs.Meaning.{eventsIn}
-use Rattle.beats.specs.Kept.{Fit, eventsFrom}
-use Rattle.capture.proofs.Accepted.{cycle-fits}
-use Rattle.deadlines.specs.Deadlines.{FAR}
-use Rattle.beats.proofs.Events.{Rises}
-use Rattle.beats.proofs.Ahead.{Told, Alone}
+use Rattle.reading.proofs.Meaning.{none-broken}
 use Rattle.reading.proofs.Cuts.{All, nil, cons}
 use Rattle.reading.proofs.Alone.{standing, standsAfter, Past, standing-after, given-stands}
-use Rattle.bridge.proofs.Bursts.{Given}
 use Rattle.pins.proofs.Commands.{write-is}
-
-pub clean-rest : (o : Option ℕ) (i t : ℕ) (x : Verdict) → brokenOr o i t x ≡ clean → (o ≡ none) × (x ≡ clean)
-clean-rest none i t x e = (refl, e)
-clean-rest (some r) i t x e = let z : _≡_ {A = ℕ} 0 1 = cc in absurd (omega arith)
+use Rattle.bridge.proofs.Bursts.{Given}
+use Rattle.bridge.proofs.Next.{Sound, open-by}
+use Rattle.bridge.proofs.Kept.{same-cuts}
+use Rattle.judge.specs.Meaning.{eventsIn, partAt}
+use Rattle.judge.proofs.Events.{part-next}
+use Rattle.judge.proofs.Sounds.{Sounds, clean-sound}
+use Rattle.beats.specs.Kept as kept
+use Rattle.beats.specs.Kept.{eventsFrom}
+use Rattle.beats.proofs.Events.{next-event, no-event}
+use Rattle.beats.proofs.Ahead.{Told, Alone}
+use Rattle.cells.specs.Meaning.{Listable, Clean}
 
 is-clean : (x : Verdict) → notClean x ≡ none → x ≡ clean
 is-clean clean e = refl
 is-clean (broken r i t) e = let z : _≡_ {A = ℕ} 0 1 = cc in absurd (omega arith)
-
--- no cycle is out of reach
-abbrev pub Early : List Event → Type 0
-Early [] = Unit {0}
-Early (e ∷ es) = (e .cycle < FAR) × Early es
-
-pub events-early : (bytes : List ℕ) (n : ℕ) → Fit bytes n → Early (eventsFrom bytes n 0)
-events-early bytes n z = go (n - 0) 0 (omega arith)
-  where
-    go : (left i : ℕ) → i + left ≤ n → Early (map (eventAt bytes) (count i left))
-    go zero i l = tt
-    go (suc left) i l = (omega (arith, cycle-fits bytes i (z .events i (omega arith))), go left (suc i) (omega arith))
 
 -- what is known of an event that breaks no rule
 module _ (s : Settings) (p : Part) (from : ℕ) (e : Event) (l : from ≤ e .cycle) (g : Sound from p) (kept : brokenBy s p e ≡ none) where
@@ -85,21 +70,24 @@ module _ (s : Settings) (p : Part) (from : ℕ) (e : Event) (l : from ≤ e .cyc
         given = λ w a. given-stands s p t c a (opened-before (c .bank)) (write-is (e .pins) ∙ w) third;
       }
 
-module _ (s : Settings) where
-  pub all-clean : (bytes : List ℕ) (n : ℕ) → notClean (verdictOf s (eventsIn bytes n)) ≡ none → judgeFrom s (start s) 0 (eventsFrom bytes n 0) ≡ clean
-  unfolding verdictBy
-  all-clean bytes n k = ap (λ (m : ℕ). judgeFrom s (start s) 0 (map (eventAt bytes) (count 0 m))) (sub-zero n) ∙ is-clean _ k
+pub fitting : (settings bytes : List ℕ) (n : ℕ) → Listable settings bytes n → kept.Fit bytes n
+fitting settings bytes n z = record { few = z .fit .few; long = z .fit .long; events = z .fit .events }
 
-  module _ (wide : s .rowBits < 32) (ticks : 0 < s .tREFI) where
-    behind : (p : Part) (from i : ℕ) (es : List Event) → Sound from p → Rises from es → Early es → judgeFrom s p i es ≡ clean → Alone s p es
-    unfolding judgeBy
-    behind p from i [] g r y k = tt
-    behind p from i (e ∷ es) g r y k =
-        let rest = clean-rest (brokenBy s p e) i (e .cycle) (judgeFrom s (step s p e) (suc i) es) k in
-        let next = turned-event s wide p from (e .cycle) (r .0) (record { early = y .0; ticks = ticks }) g (e .pins) .onward (rest .0) .sound in (
-          told s p from e (r .0) g (rest .0),
-          behind (step s p e) (suc (e .cycle)) (suc i) es next (r .1) (y .1) (rest .1),
-        )
+-- every event of a clean capture
+module _ (settings bytes : List ℕ) (n : ℕ) (z : Listable settings bytes n) (k : Clean (settingsOf settings) bytes n) where
+  abbrev s : Settings
+  s = settingsOf settings
 
-    pub each-alone : (es : List Event) → Rises 0 es → Early es → judgeFrom s (start s) 0 es ≡ clean → Alone s (start s) es
-    each-alone es = behind (start s) 0 0 es (start-sound s)
+  pub sounds : (i : ℕ) → i < n → Sounds settings bytes n i
+  sounds = clean-sound settings bytes n (z .fit) (is-clean (verdictOf s (eventsIn bytes n)) k)
+
+  behind : (left i : ℕ) → i + left ≡ n → Alone s (partAt s bytes i) (eventsFrom bytes n i)
+  behind zero i e = subst (Alone s (partAt s bytes i)) (sym (no-event bytes n i (omega arith))) tt
+  behind (suc left) i e =
+      let l : i < n = omega arith in
+      let x = sounds i l in
+      let later = subst (λ (p : Part). Alone s p (eventsFrom bytes n (i + 1))) (part-next s bytes i) (behind left (i + 1) (omega arith)) in
+      subst (Alone s (partAt s bytes i)) (sym (next-event bytes n i l)) (told s (partAt s bytes i) (x .from) (eventAt bytes i) (x .above) (x .sound) (x .kept), later)
+
+  pub each-alone : Alone s (start s) (eventsFrom bytes n 0)
+  each-alone = behind n 0 (zero-add n)

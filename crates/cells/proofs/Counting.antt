@@ -1,110 +1,142 @@
--- Counting the cells: what is counted before event i, and the cells of the events from i on.
+-- Counting the beats: what is counted before event i, and the beats of the events from i on.
 use Prim.Native.Nat.{ℕ, _+_, _*_, _≤_, _<_}
-use mathlib.Core.List.{List, _∷_, _++_, map}
-use mathlib.Core.Option.{none}
-use mathlib.Core.Path.{_≡_, refl, sym, ap, _∙_, subst}
-use native.Mathlib.Nat.{sub-zero}
+use mathlib.Core.Bool.{Bool, true, false, cond, _||_}
+use mathlib.Core.List.{List, [], _∷_}
+use mathlib.Core.Path.{_≡_, refl, sym, ap, _∙_}
+use native.Mathlib.Nat.{add-zero, zero-add}
 use native.Mathlib.Omega.{arith}
-use lib.ListN.{length, length-append}
-use Rattle.reading.specs.Search.{count}
+use borrow.Author.Tests.{eqb-true}
+use lib.Dec.{eqb}
+use lib.ListN.{length}
 use Rattle.reading.specs.Settings.{Settings, settingsOf}
 use Rattle.reading.specs.Capture.{Event, eventAt}
-use Rattle.reading.specs.Cells.{burstsOf, cellsOf}
-use Rattle.reading.specs.Part.{Part, start, step}
-use Rattle.reading.specs.Verdict.{verdictOf}
-use Rattle.reading.specs.Answers.{notClean}
-use Rattle.judge.specs.Meaning.{eventsIn}
-use Rattle.pins.specs.Pins.{modeAfter}
-use Rattle.beats.specs.Kept as kept
+use Rattle.reading.specs.Commands.{WRITE, is, commandOf}
+use Rattle.reading.specs.Bursts.{Burst, reads}
+use Rattle.reading.specs.Cells.{beatsBy, beatsOf}
+use Rattle.reading.specs.Part.{Part}
+use Rattle.pins.specs.Pins.{codeOf, modeAfter, gives}
+use Rattle.pins.proofs.Commands.{write-is}
+use Rattle.judge.specs.Meaning.{partAt}
 use Rattle.beats.specs.Kept.{eventsFrom, keptOf}
-use Rattle.beats.proofs.Events.{Rises, next-event, no-event, events-rise}
 use Rattle.beats.proofs.Looking.{kept-le}
-use Rattle.beats.proofs.Commands.{mode-is}
-use Rattle.beats.proofs.Storing.{length-cells}
-use Rattle.beats.proofs.Ahead.{eventCells, cellsFrom, cells-ahead}
-use Rattle.cells.specs.Meaning.{Listable, KeepsPair, cellsOn}
-use Rattle.cells.proofs.Alone.{events-early, all-clean, each-alone}
-use Rattle.cells.proofs.Pairs.{Keeps, each-keeps}
+use Rattle.beats.proofs.Ahead.{burstLeft, eventBursts}
+use Rattle.beats.proofs.Sums.{beats-append, beats-together, cells-length}
+use Rattle.cells.specs.Meaning.{Listable, Clean, burstsOn, cellsOn}
+use Rattle.cells.proofs.Walked as walked
+use Rattle.cells.proofs.Walked.{Walked, walks-on, rest, rest-begins, rest-next, rest-ends}
+
+abbrev writes : Burst → Bool
+writes x = x .writes
+
+-- ---- the beats of one event
+
+module _ (s : Settings) (p : Part) (e : Event) (es : List Event) where
+  abbrev kept : ℕ
+  kept = 2 * keptOf s (p .mode) e es
+
+  -- a READ is no WRITE
+  no-write : eqb (codeOf (e .pins)) 10 ≡ true → eqb (codeOf (e .pins)) 2 ≡ false
+  no-write f = let z = eqb-true (codeOf (e .pins)) 10 f in rw z
+
+  read-beats : cond (eqb (codeOf (e .pins)) 10) kept 0 ≡ beatsBy reads (eventBursts s p e es)
+  read-beats = go (eqb (codeOf (e .pins)) 10) (eqb (codeOf (e .pins)) 2) (write-is (e .pins)) no-write
+    where
+      go : (u v : Bool) → is WRITE (commandOf (e .pins)) ≡ v → (u ≡ true → v ≡ false) → cond u kept 0 ≡ beatsBy reads (cond (u || v) (burstLeft s p e es ∷ []) [])
+      go true v f g = rw (f ∙ g refl) (sym (add-zero kept))
+      go false true f g = rw f
+      go false false f g = refl
+
+  written-beats : cond (eqb (codeOf (e .pins)) 2) kept 0 ≡ beatsBy writes (eventBursts s p e es)
+  written-beats = go (eqb (codeOf (e .pins)) 10) (eqb (codeOf (e .pins)) 2) (write-is (e .pins))
+    where
+      go : (u v : Bool) → is WRITE (commandOf (e .pins)) ≡ v → cond v kept 0 ≡ beatsBy writes (cond (u || v) (burstLeft s p e es ∷ []) [])
+      go true true f = rw f (sym (add-zero kept))
+      go true false f = rw f
+      go false true f = rw f (sym (add-zero kept))
+      go false false f = refl
+
+  few-beats : beatsOf (eventBursts s p e es) ≤ kept
+  few-beats = go (gives (e .pins))
+    where
+      go : (v : Bool) → beatsOf (cond v (burstLeft s p e es ∷ []) []) ≤ kept
+      go true = omega arith
+      go false = omega arith
+
+-- ---- those of all events
 
 module _ (settings bytes : List ℕ) (n : ℕ) where
   abbrev s : Settings
   s = settingsOf settings
 
-  pub fitting : Listable settings bytes n → kept.Fit bytes n
-  fitting z = record { few = z .fit .few; long = z .fit .long; events = z .fit .events }
+  pub record Counted (mode read written i : ℕ) : Type 0 where
+    pub on : Walked settings bytes n mode (read + written) i
+    pub reads-are : beatsBy reads (burstsOn s bytes n) ≡ read + beatsBy reads (rest settings bytes n i)
+    pub writes-are : beatsBy writes (burstsOn s bytes n) ≡ written + beatsBy writes (rest settings bytes n i)
 
-  -- no event breaks a rule
-  abbrev pub Clean : Type 0
-  Clean = notClean (verdictOf s (eventsIn bytes n)) ≡ none
-
-  pub all-ahead : Listable settings bytes n → Clean → cellsOn s bytes n ≡ cellsFrom s (start s) (eventsFrom bytes n 0)
-  unfolding cellsOn
-  all-ahead z k =
-      ap (λ (k : ℕ). cellsOf s (burstsOf s (map (eventAt bytes) (count 0 k)))) (sym (sub-zero n))
-      ∙ cells-ahead s (eventsFrom bytes n 0) rises (each-alone s (z .fit .rows) (z .fit .ticks) (eventsFrom bytes n 0) rises (events-early bytes n (fitting z)) (all-clean s bytes n k))
-    where
-      rises : Rises 0 (eventsFrom bytes n 0)
-      rises = events-rise bytes n (fitting z)
-
-  -- the cells of event i, and those behind it
-  pub next-cells : (p : Part) (i : ℕ) → i < n → cellsFrom s p (eventsFrom bytes n i) ≡
-      eventCells s p (eventAt bytes i) (eventsFrom bytes n (i + 1)) ++ cellsFrom s (step s p (eventAt bytes i)) (eventsFrom bytes n (i + 1))
-  next-cells p i l = ap (cellsFrom s p) (next-event bytes n i l)
-
-  -- every burst keeps a pair
-  pub all-keep : Listable settings bytes n → Clean → Keeps s (start s) (eventsFrom bytes n 0)
-  all-keep z k =
-      each-keeps s (z .fit .rows) (z .fit .ticks) (eventsFrom bytes n 0) (events-rise bytes n (fitting z)) (events-early bytes n (fitting z))
-      (all-clean s bytes n k) (z .moded)
-
-  module _ (p : Part) (i : ℕ) (l : i < n) (k : Keeps s p (eventsFrom bytes n i)) where
-    pub keep-on : Keeps s p (eventAt bytes i ∷ eventsFrom bytes n (i + 1))
-    keep-on = subst (Keeps s p) (next-event bytes n i l) k
-
-    pub pair-kept : {mode : ℕ} → mode ≡ p .mode → KeepsPair s bytes n i mode
-    pair-kept e g = rw e (keep-on .0 g)
-
-  pub record Counted (mode cells i : ℕ) : Type 0 where
-    pub reached : Part
-    pub moded : mode ≡ reached .mode
-    pub keeps : Keeps s reached (eventsFrom bytes n i)
-    pub within : i ≤ n
-    pub small : cells ≤ 128 * i
-    pub counts : length (cellsOn s bytes n) ≡ cells + length (cellsFrom s reached (eventsFrom bytes n i))
-
-  pub begins : Listable settings bytes n → Clean → Counted (s .mode) 0 0
+  pub begins : Listable settings bytes n → Clean s bytes n → Counted (s .mode) 0 0 0
   begins z k =
       record {
-        reached = start s;
-        moded = refl;
-        keeps = all-keep z k;
-        within = omega arith;
-        small = omega arith;
-        counts = ap length (all-ahead z k) ∙ omega arith;
+        on = walked.begins settings bytes n;
+        reads-are = ap (beatsBy reads) (rest-begins settings bytes n z k) ∙ sym (zero-add _);
+        writes-are = ap (beatsBy writes) (rest-begins settings bytes n z k) ∙ sym (zero-add _);
       }
 
-  pub goes-on : {mode cells i pairs pins next : ℕ} → Counted mode cells i → i < n → pairs ≡ keptOf s mode (eventAt bytes i) (eventsFrom bytes n (i + 1)) →
-      pins ≡ eventAt bytes i .pins → next ≡ modeAfter mode pins → Counted next (cells + 2 * pairs) (i + 1)
-  goes-on {mode} {cells} {i} {pairs} {pins} {next} b l ep ew em =
-      record {
-        reached = step s (b .reached) (eventAt bytes i);
-        moded = em ∙ rw (ew, b .moded) (sym (mode-is s (b .reached) (eventAt bytes i)));
-        keeps = keep-on (b .reached) i l (b .keeps) .1;
-        within = omega arith;
-        small = omega (arith, b .small, ep, kept-le s mode (eventAt bytes i) later);
-        counts = b .counts ∙ omega (arith, sized);
-      }
-    where
-      later : List Event
-      later = eventsFrom bytes n (i + 1)
+  module _ {mode read written i : ℕ} (b : Counted mode read written i) (l : i < n) {pins pairs : ℕ} (ew : pins ≡ eventAt bytes i .pins)
+      (ep : pairs ≡ keptOf s mode (eventAt bytes i) (eventsFrom bytes n (i + 1))) where
+    abbrev p : Part
+    p = partAt s bytes i
 
-      pairs-are : pairs ≡ keptOf s (b .reached .mode) (eventAt bytes i) later
-      pairs-are = ep ∙ ap (λ (m : ℕ). keptOf s m (eventAt bytes i) later) (b .moded)
+    abbrev e : Event
+    e = eventAt bytes i
 
-      sized : length (cellsFrom s (b .reached) (eventsFrom bytes n i)) ≡ 2 * pairs + length (cellsFrom s (step s (b .reached) (eventAt bytes i)) later)
-      sized =
-          ap length (next-cells (b .reached) i l) ∙ length-append (eventCells s (b .reached) (eventAt bytes i) later) _
-          ∙ ap (λ (k : ℕ). k + length (cellsFrom s (step s (b .reached) (eventAt bytes i)) later)) (length-cells _ _ _ _ ∙ ap (λ (k : ℕ). 2 * k) (sym pairs-are))
+    abbrev later : List Event
+    later = eventsFrom bytes n (i + 1)
 
-  pub ends : {mode cells i : ℕ} → Counted mode cells i → n ≤ i → cells ≡ length (cellsOn s bytes n)
-  ends {mode} {cells} {i} b l = sym (b .counts ∙ ap (λ (es : List Event). cells + length (cellsFrom s (b .reached) es)) (no-event bytes n i l) ∙ omega arith)
+    pairs-are : pairs ≡ keptOf s (p .mode) e later
+    pairs-are = ep ∙ ap (λ (m : ℕ). keptOf s m e later) (b .on .moded)
+
+    split : (kind : Burst → Bool) → beatsBy kind (rest settings bytes n i) ≡ beatsBy kind (eventBursts s p e later) + beatsBy kind (rest settings bytes n (i + 1))
+    split kind = ap (beatsBy kind) (rest-next settings bytes n i l) ∙ beats-append kind (eventBursts s p e later) (rest settings bytes n (i + 1))
+
+    -- there is room for some of them
+    pub room : (code : ℕ) {beats some : ℕ} → beats ≤ 2 * pairs → some ≡ cond (eqb (codeOf pins) code) beats 0 → read + written + some ≤ 128 * (i + 1)
+    room code {beats} {some} eb es = omega (arith, b .on .small, ep, kept-le s mode e later, most (eqb (codeOf pins) code) es)
+      where
+        most : (v : Bool) → some ≡ cond v beats 0 → some ≤ beats
+        most true f = omega arith
+        most false f = omega arith
+
+    module _ {beats r w : ℕ} (eb : beats ≡ 2 * pairs) (er : r ≡ cond (eqb (codeOf pins) 10) beats 0) (ewr : w ≡ cond (eqb (codeOf pins) 2) beats 0) where
+      r-is : r ≡ beatsBy reads (eventBursts s p e later)
+      r-is = er ∙ rw (ew, eb, pairs-are) (read-beats s p e later)
+
+      w-is : w ≡ beatsBy writes (eventBursts s p e later)
+      w-is = ewr ∙ rw (ew, eb, pairs-are) (written-beats s p e later)
+
+      few : r + w ≤ 2 * pairs
+      few = omega (arith, r-is, w-is, beats-together (eventBursts s p e later), few-beats s p e later, pairs-are)
+
+      pub goes-on : {next : ℕ} → next ≡ modeAfter mode pins → Counted next (read + r) (written + w) (i + 1)
+      goes-on {next} em =
+          let same : read + written + (r + w) ≡ read + r + (written + w) = omega arith in
+          record {
+            on = rw same at (walks-on settings bytes n (b .on) l ew ep em few);
+            reads-are = b .reads-are ∙ omega (arith, split reads, r-is);
+            writes-are = b .writes-are ∙ omega (arith, split writes, w-is);
+          }
+
+  module _ {mode read written i : ℕ} (b : Counted mode read written i) (l : n ≤ i) where
+    none-left : (kind : Burst → Bool) → beatsBy kind (rest settings bytes n i) ≡ 0
+    none-left kind = ap (beatsBy kind) (rest-ends settings bytes n i l)
+
+    pub all-read : read ≡ beatsBy reads (burstsOn s bytes n)
+    all-read = omega (arith, b .reads-are, none-left reads)
+
+    pub all-written : written ≡ beatsBy writes (burstsOn s bytes n)
+    all-written = omega (arith, b .writes-are, none-left writes)
+
+  -- together they are the cells
+  pub all-beats : {read written : ℕ} → read ≡ beatsBy reads (burstsOn s bytes n) → written ≡ beatsBy writes (burstsOn s bytes n) →
+      read + written ≡ length (cellsOn s bytes n)
+  unfolding cellsOn
+  all-beats f g = omega (arith, f, g, beats-together (burstsOn s bytes n), cells-length s (burstsOn s bytes n))

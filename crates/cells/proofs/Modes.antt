@@ -1,22 +1,27 @@
 -- Mode words of a clean capture are valid, so a burst has one pair at least and eight at most.
-use Prim.Native.Nat.{ℕ, _%_, _≤_}
+use Prim.Native.Nat.{ℕ, zero, suc, _%_, _≤_}
 use mathlib.Core.Bool.{Bool, true, false, cond, _&&_, _||_}
-use mathlib.Core.List.{List·Memᴰ}
+use mathlib.Core.List.{List, List·Memᴰ}
 use mathlib.Core.Option.{none}
-use mathlib.Core.Path.{_≡_, refl, sym, ap, _∙_}
+use mathlib.Core.Path.{_≡_, refl, sym, ap, _∙_, subst}
+use native.Mathlib.Numerals.{add-one}
 use native.Mathlib.Omega.{arith}
 use borrow.Author.Tests.{leb-true, eqb-true}
 use lib.Dec.{leb, eqb}
 use lib.Pow.{pow-mono}
 use Rattle.reading.specs.Search.{implies}
 use Rattle.reading.specs.Mode.{h, modeWord}
-use Rattle.reading.specs.Settings.{Settings}
-use Rattle.reading.specs.Capture.{Event}
+use Rattle.reading.specs.Settings.{Settings, settingsOf}
+use Rattle.reading.specs.Capture.{Event, eventAt}
 use Rattle.reading.specs.Commands.{MODE-REGISTER-SET, Command, commandOf, is}
 use Rattle.reading.specs.Part.{Part, step}
 use Rattle.reading.specs.Rules.{brokenBy}
 use Rattle.reading.proofs.Meaning.{none-broken}
 use Rattle.reading.proofs.Laws.{both}
+use Rattle.judge.specs.Meaning.{partAt}
+use Rattle.judge.proofs.Events.{part-next}
+use Rattle.cells.specs.Meaning.{Listable, Clean}
+use Rattle.cells.proofs.Alone.{sounds}
 
 pub few-pairs : (m : ℕ) → modeWord m ≡ true → h m ≤ 8
 few-pairs m v =
@@ -51,3 +56,14 @@ module _ (s : Settings) (p : Part) (e : Event) (v : modeWord (p .mode) ≡ true)
           valid : (z : Bool) → modeWord (c .address) ≡ z → modeWord (c .address) ≡ true
           valid true f = f
           valid false f = f ∙ sym (ap (λ (z : Bool). z || eqb (c .bank) 2) f ∙ other) ∙ k
+
+-- before every event
+module _ (settings bytes : List ℕ) (n : ℕ) (z : Listable settings bytes n) (k : Clean (settingsOf settings) bytes n) where
+  abbrev s : Settings
+  s = settingsOf settings
+
+  pub valid-at : (i : ℕ) → i ≤ n → modeWord (partAt s bytes i .mode) ≡ true
+  valid-at zero l = z .moded
+  valid-at (suc i) l =
+      subst (λ (p : Part). modeWord (p .mode) ≡ true) (sym (part-next s bytes i) ∙ ap (partAt s bytes) (add-one i))
+      (mode-valid s (partAt s bytes i) (eventAt bytes i) (valid-at i (omega arith)) (sounds settings bytes n z k i (omega arith) .kept))

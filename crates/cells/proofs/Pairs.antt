@@ -1,36 +1,38 @@
 -- In a clean capture every burst keeps a pair at least: where a write is interrupted, rules 10 and 11 see to it.
-use Prim.Native.Nat.{ℕ, suc, _+_, _-_, _≤_, _<_}
+use Prim.Native.Nat.{ℕ, zero, suc, _+_, _-_, _≤_, _<_}
 use mathlib.Core.Bool.{Bool, true, false, cond, not, _&&_}
 use mathlib.Core.List.{List, [], _∷_, map, List·Memᴰ}
 use mathlib.Core.Option.{Option, none, some}
 use mathlib.Core.Path.{_≡_, refl, sym, ap, _∙_, subst}
+use native.Mathlib.Numerals.{add-one}
 use native.Mathlib.Omega.{arith}
-use lib.Dec.{leb, ltb, eqb}
-use borrow.Author.Tests.{leb-true, leb-false, eqb-true}
+use lib.Dec.{leb, ltb}
+use borrow.Author.Tests.{leb-true, eqb-true}
 use Rattle.reading.specs.Search.{find, lesser, implies}
-use Rattle.reading.specs.Mode.{h, modeWord}
-use Rattle.reading.specs.Settings.{Settings, newer}
-use Rattle.reading.specs.Capture.{Event}
+use Rattle.reading.specs.Mode.{modeWord}
+use Rattle.reading.specs.Settings.{Settings, settingsOf, newer}
+use Rattle.reading.specs.Capture.{Event, eventAt}
 use Rattle.reading.specs.Commands.{READ, WRITE, Command, is, among, commandOf}
 use Rattle.reading.specs.Bursts.{Burst, wholeEnd, dataEnd, restsFrom}
-use Rattle.reading.specs.Part.{Part, closes, lastWrite, lastBankWrite, isThat, cuts, interrupts, interruptedTo, atMost, cutBy, burstGiven, start, step}
+use Rattle.reading.specs.Part.{Part, closes, lastWrite, lastBankWrite, isThat, cuts, interrupts, interruptedTo, atMost, cutBy, burstGiven, step}
 use Rattle.reading.specs.Rules.{afterWrite, rule10, rule11, brokenBy}
-use Rattle.reading.specs.Verdict.{clean, judgeFrom, judgeBy}
 use Rattle.reading.proofs.Meaning.{none-broken}
 use Rattle.reading.proofs.Cuts.{All, nil, cons}
 use Rattle.reading.proofs.Alone.{standing, standing-pairs, standsAfter, cutAlone}
 use Rattle.reading.proofs.Laws.{both, every-bank}
 use Rattle.bridge.proofs.Bursts.{Given, find-all}
 use Rattle.bridge.proofs.Next.{Sound}
-use Rattle.bridge.proofs.Turn.{turned-event, start-sound}
+use Rattle.judge.specs.Meaning.{partAt}
+use Rattle.judge.proofs.Events.{part-next}
 use Rattle.pins.specs.Pins.{gives}
 use Rattle.pins.proofs.Commands.{gives-is}
-use Rattle.beats.specs.Kept.{keptOf}
-use Rattle.beats.proofs.Events.{Rises}
+use Rattle.beats.specs.Kept.{eventsFrom, keptOf}
+use Rattle.beats.proofs.Events.{Rises, next-event, no-event, rise-behind}
 use Rattle.beats.proofs.Cut.{cutByAll}
-use Rattle.beats.proofs.Ahead.{Told, leftOf, kept-in-the-end}
-use Rattle.cells.proofs.Alone.{clean-rest, Early, told}
-use Rattle.cells.proofs.Modes.{some-pair, mode-valid}
+use Rattle.beats.proofs.Ahead.{leftOf, kept-in-the-end}
+use Rattle.cells.specs.Meaning.{Listable, KeepsPair, Clean}
+use Rattle.cells.proofs.Alone.{fitting, told, sounds}
+use Rattle.cells.proofs.Modes.{some-pair, valid-at}
 
 abbrev HasPair : Burst → Type 0
 HasPair x = 1 ≤ x .n
@@ -88,12 +90,7 @@ module _ (s : Settings) (p : Part) (t : ℕ) (c : Command) (all : All HasPair (p
         go false false true f = least (x .n) (interruptedTo s t c x) n (f refl)
         go false false false f = n
 
--- ---- the events behind a part
-
--- every burst that they give keeps a pair
-abbrev pub Keeps : Settings → Part → List Event → Type 0
-Keeps s p [] = Unit {0}
-Keeps s p (e ∷ es) = (gives (e .pins) ≡ true → 1 ≤ keptOf s (p .mode) e es) × Keeps s (step s p e) es
+-- ---- an event that breaks no rule
 
 apart : {P : Burst → Type 0} (v : Bool) {x : Burst} {xs : List Burst} → All P (cond v (x ∷ xs) xs) → (v ≡ true → P x) × All P xs
 apart true (cons q qs) = (λ e. q, qs)
@@ -147,19 +144,43 @@ module _ (s : Settings) (p : Part) (from : ℕ) (e : Event) (l : from ≤ e .cyc
           λ m. subst HasPair (kept-in-the-end s p e es r m u) (two .0 (gives-is (e .pins) ∙ m)),
         )
 
-module _ (s : Settings) (wide : s .rowBits < 32) (ticks : 0 < s .tREFI) where
-  behind : (p : Part) (from i : ℕ) (es : List Event) → Sound from p → Rises from es → Early es → judgeFrom s p i es ≡ clean → modeWord (p .mode) ≡ true →
-      All HasPair (p .bursts) → All (λ x. HasPair (leftOf s p es x)) (p .bursts) × Keeps s p es
-  unfolding judgeBy
-  behind p from i [] g r y k v a = (a, tt)
-  behind p from i (e ∷ es) g r y k v a =
-      let rest = clean-rest (brokenBy s p e) i (e .cycle) (judgeFrom s (step s p e) (suc i) es) k in
-      let next = turned-event s wide p from (e .cycle) (r .0) (record { early = y .0; ticks = ticks }) g (e .pins) .onward (rest .0) .sound in
-      let later =
-      behind (step s p e) (suc (e .cycle)) (suc i) es next (r .1) (y .1) (rest .1) (mode-valid s p e v (rest .0))
-      (all-next s p from e (r .0) g (rest .0) v a) in
-      let one = one-keeps s p from e (r .0) g (rest .0) v a es (r .1) (later .0) in
-      (one .0, (one .1, later .1))
+-- ---- all events of a clean capture
 
-  pub each-keeps : (es : List Event) → Rises 0 es → Early es → judgeFrom s (start s) 0 es ≡ clean → modeWord (s .mode) ≡ true → Keeps s (start s) es
-  each-keeps es r y k v = behind (start s) 0 0 es (start-sound s) r y k v nil .1
+module _ (settings bytes : List ℕ) (n : ℕ) (z : Listable settings bytes n) (k : Clean (settingsOf settings) bytes n) where
+  abbrev s : Settings
+  s = settingsOf settings
+
+  abbrev p : ℕ → Part
+  p i = partAt s bytes i
+
+  -- every burst has one so far
+  all-have : (i : ℕ) → i ≤ n → All HasPair (p i .bursts)
+  all-have zero l = nil
+  all-have (suc i) l =
+      let x = sounds settings bytes n z k i (omega arith) in
+      subst (λ (q : Part). All HasPair (q .bursts)) (sym (part-next s bytes i) ∙ ap p (add-one i))
+      (all-next s (p i) (x .from) (eventAt bytes i) (x .above) (x .sound) (x .kept) (valid-at settings bytes n z k i (omega arith)) (all-have i (omega arith)))
+
+  abbrev Left : Part → List Event → Type 0
+  Left q es = All (λ x. HasPair (leftOf s q es x)) (q .bursts)
+
+  one : (i : ℕ) → i < n → Left (p (i + 1)) (eventsFrom bytes n (i + 1)) →
+      Left (p i) (eventAt bytes i ∷ eventsFrom bytes n (i + 1)) × KeepsPair s bytes n i (p i .mode)
+  one i l later =
+      let x = sounds settings bytes n z k i l in
+      one-keeps s (p i) (x .from) (eventAt bytes i) (x .above) (x .sound) (x .kept) (valid-at settings bytes n z k i (omega arith)) (all-have i (omega arith))
+      (eventsFrom bytes n (i + 1)) (rise-behind bytes n (fitting settings bytes n z) i l)
+      (subst (λ (q : Part). Left q (eventsFrom bytes n (i + 1))) (part-next s bytes i) later)
+
+  -- and in the end
+  behind : (left i : ℕ) → i + left ≡ n → Left (p i) (eventsFrom bytes n i)
+  behind zero i e = subst (Left (p i)) (sym (no-event bytes n i (omega arith))) (all-have i (omega arith))
+  behind (suc left) i e =
+      let l : i < n = omega arith in
+      subst (Left (p i)) (sym (next-event bytes n i l)) (one i l (behind left (i + 1) (omega arith)) .0)
+
+  each-keeps : (i : ℕ) → i < n → KeepsPair s bytes n i (p i .mode)
+  each-keeps i l = one i l (behind (n - (i + 1)) (i + 1) (omega arith)) .1
+
+  pub pair-kept : (i : ℕ) → i < n → {mode : ℕ} → mode ≡ p i .mode → KeepsPair s bytes n i mode
+  pair-kept i l e = subst (KeepsPair s bytes n i) (sym e) (each-keeps i l)

@@ -1,21 +1,24 @@
--- The first cells of the four banks' rows, kept in a list.
-use Prim.Native.Nat.{ℕ, zero, suc, _<_}
+-- The first cells of the four banks' rows, kept in a list; and the mode word.
+use Prim.Native.Nat.{ℕ, zero, suc, _+_, _≤_, _<_}
 use mathlib.Core.Bool.{Bool, true, false, cond, _&&_, _||_}
 use mathlib.Core.List.{List}
-use mathlib.Core.Path.{_≡_, refl, sym, ap, _∙_}
+use mathlib.Core.Path.{_≡_, refl, sym, ap, _∙_, subst}
+use native.Mathlib.Numerals.{add-one}
 use native.Mathlib.Omega.{arith}
 use borrow.Author.Tests.{eqb-true}
 use lib.Dec.{eqb}
 use lib.ListN.{getD, set}
 use Rattle.reading.specs.Settings.{Settings}
-use Rattle.reading.specs.Capture.{Event}
+use Rattle.reading.specs.Capture.{Event, eventAt}
+use Rattle.reading.specs.Bursts.{columnOf}
 use Rattle.reading.specs.Part.{Part, step}
 use Rattle.pins.specs.Pins.{codeOf, bankOf, addressOf, gives, modeAfter}
-use Rattle.beats.specs.Rows.{firstInRow, firstCells, cellsOpened}
-use Rattle.beats.proofs.Commands.{row-is}
-
-abbrev pub firstsOf : Settings → Part → List ℕ
-firstsOf s p = firstCells s (p .banks 0 .row) (p .banks 1 .row) (p .banks 2 .row) (p .banks 3 .row)
+use Rattle.judge.specs.Meaning.{partAt}
+use Rattle.judge.proofs.Events.{part-next}
+use Rattle.beats.specs.Rows.{Sized, InRow, firstInRow, firstCells, cellsOpened}
+use Rattle.beats.proofs.Columns.{column-lt, first-lt}
+use Rattle.beats.proofs.Commands.{mode-is, row-is}
+use Rattle.cells.specs.Meaning.{firstsOf, firstsAt, modeAt}
 
 pub first-at : (s : Settings) (p : Part) (b : ℕ) → b < 4 → getD (firstsOf s p) b 0 ≡ firstInRow s b (p .banks b .row)
 first-at s p zero l = refl
@@ -50,7 +53,7 @@ module _ (s : Settings) (p : Part) (e : Event) where
   row-by : (v u : Bool) (b : ℕ) → opens ≡ v → eqb b (bankOf (e .pins)) ≡ u → next .banks b .row ≡ cond (v && u) (addressOf (e .pins)) (p .banks b .row)
   row-by v u b f g = row-is s p e b ∙ rw (f, g)
 
-  pub firsts-after : cellsOpened s (firstsOf s p) (e .pins) ≡ firstsOf s next
+  firsts-after : cellsOpened s (firstsOf s p) (e .pins) ≡ firstsOf s next
   firsts-after = go opens refl
     where
       stays : opens ≡ false → (b : ℕ) → next .banks b .row ≡ p .banks b .row
@@ -74,9 +77,32 @@ module _ (s : Settings) (p : Part) (e : Event) where
       go false f = sym (λ i. firstCells s (stays f 0 i) (stays f 1 i) (stays f 2 i) (stays f 3 i))
 
   -- a row is what fourteen pins can say
-  pub low-after : ((b : ℕ) → p .banks b .row < 16384) → (b : ℕ) → next .banks b .row < 16384
+  low-after : ((b : ℕ) → p .banks b .row < 16384) → (b : ℕ) → next .banks b .row < 16384
   low-after low b = rw (row-is s p e b) (go (opens && eqb b (bankOf (e .pins))))
     where
       go : (v : Bool) → cond v (addressOf (e .pins)) (p .banks b .row) < 16384
       go true = omega arith
       go false = low b
+
+-- before event i, and behind it
+module _ (s : Settings) (bytes : List ℕ) where
+  module _ (i : ℕ) {pins : ℕ} (ew : pins ≡ eventAt bytes i .pins) where
+    pub mode-next : {mode next : ℕ} → mode ≡ modeAt s bytes i → next ≡ modeAfter mode pins → next ≡ modeAt s bytes (i + 1)
+    mode-next em f =
+        f ∙ rw (ew, em) (sym (mode-is s (partAt s bytes i) (eventAt bytes i))) ∙ ap (λ (q : Part). q .mode) (sym (part-next s bytes i))
+
+    pub rows-next : {firsts opened : List ℕ} → firsts ≡ firstsAt s bytes i → opened ≡ cellsOpened s firsts pins →
+        opened ≡ firstsAt s bytes (i + 1)
+    rows-next er f =
+        f ∙ rw (ew, er) (firsts-after s (partAt s bytes i) (eventAt bytes i)) ∙ ap (firstsOf s) (sym (part-next s bytes i))
+
+  low-at : (i b : ℕ) → partAt s bytes i .banks b .row < 16384
+  low-at zero b = omega arith
+  low-at (suc i) b =
+      subst (λ (q : Part). q .banks b .row < 16384) (sym (part-next s bytes i) ∙ ap (partAt s bytes) (add-one i))
+      (low-after s (partAt s bytes i) (eventAt bytes i) (low-at i) b)
+
+  pub row-at : Sized s → (i bank address : ℕ) → bank < 4 → {pairs : ℕ} → pairs ≤ 64 →
+      InRow (firstInRow s bank (partAt s bytes i .banks bank .row)) (columnOf s address) pairs
+  row-at z i bank address b l =
+      record { cell = first-lt s z bank (partAt s bytes i .banks bank .row) b (low-at i bank); low = column-lt s address; short = l }

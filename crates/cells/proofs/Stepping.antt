@@ -5,16 +5,17 @@ use mathlib.Core.List.{List}
 use mathlib.Core.Option.{none, some}
 use mathlib.Core.Path.{_≡_, refl, sym, ap, _∙_}
 use native.Mathlib.Omega.{arith}
+use lib.Dec.{eqb}
 use lib.ListN.{getD}
 use Rattle.reading.specs.Settings.{Settings}
 use Rattle.reading.specs.Capture.{Event, eventAt}
 use Rattle.reading.specs.Bursts.{columnOf}
-use Rattle.pins.specs.Pins.{bankOf, addressOf, gives}
+use Rattle.pins.specs.Pins.{codeOf, bankOf, addressOf, gives}
 use Rattle.beats.specs.Kept.{eventsFrom, keptOf}
 use Rattle.cells.specs.declared.Given.{Given}
 use Rattle.cells.specs.declared.Given.the-variants.{Burst, Other}
 use Rattle.cells.specs.Meaning as meaning
-use Rattle.cells.specs.Meaning.{givenMeans, givenBy}
+use Rattle.cells.specs.Meaning.{givenMeans, toldBy, givenBy}
 
 module _ (s : Settings) (bytes : List ℕ) (n i : ℕ) (firsts : List ℕ) (mode : ℕ) where
   abbrev w : ℕ
@@ -25,7 +26,7 @@ module _ (s : Settings) (bytes : List ℕ) (n i : ℕ) (firsts : List ℕ) (mode
 
   -- the burst that event i gives, if it gives one
   abbrev there : meaning.Burst
-  there = record { first = getD firsts (bankOf w) 0; column = columnOf s (addressOf w); pairs = keptOf s mode (eventAt bytes i) later }
+  there = toldBy s bytes n i firsts mode
 
   pub record Is (first column pairs : ℕ) : Type 0 where
     pub burst : gives w ≡ true
@@ -38,25 +39,27 @@ module _ (s : Settings) (bytes : List ℕ) (n i : ℕ) (firsts : List ℕ) (mode
     unfolding givenBy
     found-none g = let h : gives w ≡ false = sym (f ∙ ap gives e) ∙ g in rw h
 
-    pub found : {bank first column pairs : ℕ} → v ≡ true → bank ≡ bankOf pins → first ≡ getD firsts bank 0 → column ≡ columnOf s (addressOf pins) →
-        pairs ≡ keptOf s mode (eventAt bytes i) later → givenMeans (Burst first column pairs) ≡ givenBy s bytes n i firsts mode
+    pub found : {code bank first column pairs : ℕ} → v ≡ true → code ≡ codeOf pins → bank ≡ bankOf pins → first ≡ getD firsts bank 0 →
+        column ≡ columnOf s (addressOf pins) → pairs ≡ keptOf s mode (eventAt bytes i) later →
+        givenMeans (Burst (eqb code 2) first column pairs) ≡ givenBy s bytes n i firsts mode
     unfolding givenBy
-    found g b x y z =
+    found g c b x y z =
         let h : gives w ≡ true = sym (f ∙ ap gives e) ∙ g in
+        let kind = ap (λ (k : ℕ). eqb k 2) (c ∙ ap codeOf e) in
         let row = x ∙ ap (λ (k : ℕ). getD firsts k 0) (b ∙ ap bankOf e) in
         let place = y ∙ ap (λ (k : ℕ). columnOf s (addressOf k)) e in
-        rw h (λ u. some (record { first = row u; column = place u; pairs = z u }))
+        rw h (λ u. some (record { writes = kind u; first = row u; column = place u; pairs = z u }))
 
   module _ {r : Given} (step : givenMeans r ≡ givenBy s bytes n i firsts mode) where
-    pub told : {first column pairs : ℕ} → r ≡ Burst first column pairs → Is first column pairs
+    pub told : {writes : Bool} {first column pairs : ℕ} → r ≡ Burst writes first column pairs → Is first column pairs
     unfolding givenBy
-    told {first} {column} {pairs} b = go (gives w) refl (sym (ap givenMeans b) ∙ step)
+    told {writes} {first} {column} {pairs} b = go (gives w) refl (sym (ap givenMeans b) ∙ step)
       where
         go : (v : Bool) → gives w ≡ v →
-            some (record { first = first; column = column; pairs = pairs }) ≡ cond v (some there) none →
+            some (record { writes = writes; first = first; column = column; pairs = pairs }) ≡ cond v (some there) none →
             Is first column pairs
         go true g q =
-            let same : record { first = first; column = column; pairs = pairs } ≡ there = cc in
+            let same : record { writes = writes; first = first; column = column; pairs = pairs } ≡ there = cc in
             record { burst = g; row = ap (λ (x : meaning.Burst). x .first) same; place = ap (λ (x : meaning.Burst). x .column) same; kept = ap (λ (x : meaning.Burst). x .pairs) same }
         go false g q = let z : _≡_ {A = ℕ} 0 1 = cc in absurd (omega arith)
 

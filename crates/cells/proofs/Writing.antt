@@ -10,53 +10,42 @@ use lib.Seq.{sets, length-sets}
 use Rattle.reading.specs.Settings.{Settings, settingsOf}
 use Rattle.reading.specs.Capture.{Event, eventAt}
 use Rattle.reading.specs.Bursts.{columnOf}
-use Rattle.reading.specs.Part.{Part, start, step}
+use Rattle.reading.specs.Part.{Part}
 use Rattle.words.proofs.Runs.{sets-append}
 use Rattle.pins.specs.Pins.{bankOf, addressOf, gives, modeAfter}
+use Rattle.judge.specs.Meaning.{partAt}
 use Rattle.beats.specs.Kept.{eventsFrom, keptOf}
 use Rattle.beats.specs.Rows.{InRow, firstInRow, firstCells, cellsOpened, beatCells}
-use Rattle.beats.proofs.Columns.{column-lt, first-lt}
-use Rattle.beats.proofs.Commands.{mode-is}
 use Rattle.beats.proofs.Events.{no-event}
 use Rattle.beats.proofs.Looking.{kept-le, kept-nothing}
 use Rattle.beats.proofs.Storing.{length-cells, no-cells}
 use Rattle.beats.proofs.Ahead.{eventCells, cellsFrom}
-use Rattle.cells.specs.Meaning.{Listable, cellsOn}
-use Rattle.cells.proofs.Pairs.{Keeps}
-use Rattle.cells.proofs.Counting.{Clean, all-ahead, all-keep, keep-on, next-cells}
-use Rattle.cells.proofs.Rows.{firstsOf, first-at, none-opened, mode-stays, firsts-after, low-after}
+use Rattle.cells.specs.Meaning.{Listable, Clean, firstsAt, cellsOn}
+use Rattle.cells.proofs.Walked as walked
+use Rattle.cells.proofs.Walked.{Walked, walks-on, all-cells, next-cells}
+use Rattle.cells.proofs.Rows.{first-at, none-opened, mode-stays, rows-next, row-at}
 
 module _ (settings bytes : List ℕ) (n : ℕ) (old : List ℕ) where
   abbrev s : Settings
   s = settingsOf settings
 
   pub record Written (out firsts : List ℕ) (mode next i : ℕ) : Type 0 where
-    pub reached : Part
-    pub moded : mode ≡ reached .mode
-    pub keeps : Keeps s reached (eventsFrom bytes n i)
-    pub rowed : firsts ≡ firstsOf s reached
-    pub low : (b : ℕ) → reached .banks b .row < 16384
-    pub within : i ≤ n
-    pub small : next ≤ 128 * i
+    pub on : Walked settings bytes n mode next i
+    pub rowed : firsts ≡ firstsAt s bytes i
     pub done : List ℕ
     pub place : next ≡ length done
     pub holds : out ≡ sets old 0 done
-    pub total : cellsOn s bytes n ≡ done ++ cellsFrom s reached (eventsFrom bytes n i)
+    pub total : cellsOn s bytes n ≡ done ++ cellsFrom s (partAt s bytes i) (eventsFrom bytes n i)
 
-  pub begins : {firsts : List ℕ} → Listable settings bytes n → Clean settings bytes n → firsts ≡ firstCells s 0 0 0 0 → Written old firsts (s .mode) 0 0
+  pub begins : {firsts : List ℕ} → Listable settings bytes n → Clean s bytes n → firsts ≡ firstCells s 0 0 0 0 → Written old firsts (s .mode) 0 0
   begins z k f =
       record {
-        reached = start s;
-        moded = refl;
-        keeps = all-keep settings bytes n z k;
+        on = walked.begins settings bytes n;
         rowed = f;
-        low = λ b. omega arith;
-        within = omega arith;
-        small = omega arith;
         done = [];
         place = refl;
         holds = refl;
-        total = all-ahead settings bytes n z k;
+        total = all-cells settings bytes n z k;
       }
 
   pub size : {out firsts : List ℕ} {mode next i : ℕ} → Written out firsts mode next i → length out ≡ length old
@@ -70,19 +59,23 @@ module _ (settings bytes : List ℕ) (n : ℕ) (old : List ℕ) where
     abbrev later : List Event
     later = eventsFrom bytes n (i + 1)
 
-    abbrev cells : List ℕ
-    cells = eventCells s (b .reached) e later
+    abbrev p : Part
+    p = partAt s bytes i
 
-    pairs-are : pairs ≡ keptOf s (b .reached .mode) e later
-    pairs-are = ep ∙ ap (λ (m : ℕ). keptOf s m e later) (b .moded)
+    abbrev cells : List ℕ
+    cells = eventCells s p e later
+
+    abbrev behind : List ℕ
+    behind = cellsFrom s (partAt s bytes (i + 1)) later
+
+    pairs-are : pairs ≡ keptOf s (p .mode) e later
+    pairs-are = ep ∙ ap (λ (m : ℕ). keptOf s m e later) (b .on .moded)
 
     sized : length cells ≡ 2 * pairs
     sized = length-cells _ _ _ _ ∙ ap (λ (k : ℕ). 2 * k) (sym pairs-are)
 
-    split : cellsOn s bytes n ≡ b .done ++ cells ++ cellsFrom s (step s (b .reached) e) later
-    split =
-        b .total ∙ ap (λ (cs : List ℕ). b .done ++ cs) (next-cells settings bytes n (b .reached) i l)
-        ∙ sym (append-assoc (b .done) cells (cellsFrom s (step s (b .reached) e) later))
+    split : cellsOn s bytes n ≡ b .done ++ cells ++ behind
+    split = b .total ∙ ap (λ (cs : List ℕ). b .done ++ cs) (next-cells settings bytes n i l) ∙ sym (append-assoc (b .done) cells behind)
 
     -- there is room for them
     pub room : length (cellsOn s bytes n) ≤ length old → next + 2 * pairs ≤ length out
@@ -95,39 +88,29 @@ module _ (settings bytes : List ℕ) (n : ℕ) (old : List ℕ) where
         Written out′ firsts′ mode′ (next + 2 * pairs) (i + 1)
     turned eo ef em =
         record {
-          reached = step s (b .reached) e;
-          moded = em ∙ rw (ew, b .moded) (sym (mode-is s (b .reached) e));
-          keeps = keep-on settings bytes n (b .reached) i l (b .keeps) .1;
-          rowed = ef ∙ rw (ew, b .rowed) (firsts-after s (b .reached) e);
-          low = low-after s (b .reached) e (b .low);
-          within = omega arith;
-          small = omega (arith, b .small, ep, kept-le s mode e later);
+          on = walks-on settings bytes n (b .on) l ew ep em (omega arith);
+          rowed = rows-next s bytes i ew (b .rowed) ef;
           done = b .done ++ cells;
           place = omega (arith, b .place, sized, length-append (b .done) cells);
-          holds = eo ∙ rw (b .holds, b .place) behind;
+          holds = eo ∙ rw (b .holds, b .place) one-behind;
           total = split;
         }
       where
-        behind : sets (sets old 0 (b .done)) (length (b .done)) cells ≡ sets old 0 (b .done ++ cells)
-        behind =
+        one-behind : sets (sets old 0 (b .done)) (length (b .done)) cells ≡ sets old 0 (b .done ++ cells)
+        one-behind =
             ap (λ (k : ℕ). sets (sets old 0 (b .done)) k cells) (sym (zero-add (length (b .done))))
             ∙ sets-append old 0 (b .done) cells
 
     -- an event that gives a burst, by the number of its row's first cell and by its column
     module _ {bank first column : ℕ} (eb : bank ≡ bankOf pins) (ef : first ≡ getD firsts bank 0) (ec : column ≡ columnOf s (addressOf pins)) where
-      first-is : first ≡ firstInRow s bank (b .reached .banks bank .row)
-      first-is = ef ∙ ap (λ (xs : List ℕ). getD xs bank 0) (b .rowed) ∙ first-at s (b .reached) bank (omega (arith, eb))
+      first-is : first ≡ firstInRow s bank (p .banks bank .row)
+      first-is = ef ∙ ap (λ (xs : List ℕ). getD xs bank 0) (b .rowed) ∙ first-at s p bank (omega (arith, eb))
 
       pub in-row : Listable settings bytes n → InRow first column pairs
-      in-row z =
-          record {
-            cell = rw first-is (first-lt s (z .sized) bank (b .reached .banks bank .row) (omega (arith, eb)) (b .low bank));
-            low = rw ec (column-lt s (addressOf pins));
-            short = omega (arith, ep, kept-le s mode e later);
-          }
+      in-row z = rw (first-is, ec) (row-at s bytes (z .sized) i bank (addressOf pins) (omega (arith, eb)) (omega (arith, ep, kept-le s mode e later)))
 
       stored-are : beatCells first mode column (2 * pairs) ≡ cells
-      stored-are = rw (first-is, ec, eb, ew, pairs-are, b .moded)
+      stored-are = rw (first-is, ec, eb, ew, pairs-are, b .on .moded)
 
       pub goes-on : {out′ : List ℕ} → gives pins ≡ true → out′ ≡ sets out next (beatCells first mode column (2 * pairs)) →
           Written out′ firsts mode (next + 2 * pairs) (i + 1)
@@ -148,12 +131,12 @@ module _ (settings bytes : List ℕ) (n : ℕ) (old : List ℕ) where
       none-kept : 0 ≡ keptOf s mode (eventAt bytes i) later
       none-kept = kept-nothing s mode (eventAt bytes i) later (ap gives (sym ew) ∙ g)
 
-      nothing : sets out next (eventCells s (b .reached) (eventAt bytes i) later) ≡ out
-      nothing = rw (← b .moded, ← none-kept) (ap (sets out next) (no-cells _ _ _))
+      nothing : sets out next (eventCells s (partAt s bytes i) (eventAt bytes i) later) ≡ out
+      nothing = rw (← b .on .moded, ← none-kept) (ap (sets out next) (no-cells _ _ _))
 
   module _ {out firsts : List ℕ} {mode next i : ℕ} (b : Written out firsts mode next i) (l : n ≤ i) where
     all-done : cellsOn s bytes n ≡ b .done
-    all-done = b .total ∙ ap (λ (es : List Event). b .done ++ cellsFrom s (b .reached) es) (no-event bytes n i l) ∙ append-nil (b .done)
+    all-done = b .total ∙ ap (λ (es : List Event). b .done ++ cellsFrom s (partAt s bytes i) es) (no-event bytes n i l) ∙ append-nil (b .done)
 
     pub counted : next ≡ length (cellsOn s bytes n)
     counted = b .place ∙ ap length (sym all-done)

@@ -7,21 +7,24 @@ use settings::places::EDITION;
 use settings::places::MODE;
 use words::Found;
 ghost use mathlib.Core.Path.{_≡_};
-ghost use mathlib.Core.Bool.{false};
-ghost use mathlib.Core.Option.{none};
-ghost use Prim.Native.Nat.{_+_, _≤_, _<_};
+ghost use mathlib.Core.Bool.{false, cond};
+ghost use Prim.Native.Nat.{_+_, _*_, _≤_, _<_};
+ghost use lib.Dec.{eqb};
 ghost use lib.ListN.{length};
 ghost use lib.Seq.{sets};
 ghost use Rattle.words.specs.Found.{placeOf};
 ghost use Rattle.reading.specs.Settings.{settingsOf, newer};
 ghost use Rattle.reading.specs.Capture.{eventAt};
+ghost use Rattle.reading.specs.Bursts.{reads};
+ghost use Rattle.reading.specs.Cells.{beatsBy};
 ghost use Rattle.reading.specs.Verdict.{verdictOf};
 ghost use Rattle.reading.specs.Answers.{cellsOutcome, notClean};
-ghost use Rattle.pins.specs.Pins.{modeAfter};
+ghost use Rattle.pins.specs.Pins.{codeOf, modeAfter};
 ghost use Rattle.beats.specs.Kept.{eventsFrom, keptOf};
 ghost use Rattle.beats.specs.Rows.{Sized, cellsOpened};
 ghost use Rattle.judge.specs.Meaning.{eventsIn};
-ghost use Rattle.cells.specs.Meaning.{means, givenMeans, givenBy, Listable, KeepsPair, cellsOn, lackingIn, listing};
+ghost use Rattle.cells.specs.Meaning.{means, Listable, Clean, KeepsPair, givenMeans, givenBy, givenAt, At, firstsAt, modeAt};
+ghost use Rattle.cells.specs.Meaning.{burstsOn, cellsOn, lackingIn, listing};
 
 // What is said of a capture whose cells are asked for.
 pub enum Listed {
@@ -29,9 +32,20 @@ pub enum Listed {
     Written { cells: u32 },
 }
 
-// What an event gives: a burst, with what is written of it, or none.
-enum Given {
-    Burst { first: u32, column: u32, pairs: u32 },
+// The kept beats of a clean capture, by what they do.
+pub struct Beats {
+    pub read: u32,
+    pub written: u32,
+}
+
+// What an event gives: a burst, by the first cell of its row, its column and the pairs that it keeps in the end; or none.
+pub enum Given {
+    Burst {
+        writes: bool,
+        first: u32,
+        column: u32,
+        pairs: u32,
+    },
     Other,
 }
 
@@ -63,34 +77,50 @@ fn pairs_of(s: &Settings, bytes: &[u8], n: u32, i: u32, mode: u32) -> u32
     beats::kept(bytes, n, i, mode)
 }
 
-// How many cells there are: two for each pair that a burst keeps.
-fn needed(s: &Settings, bytes: &[u8], n: u32) -> u32
+// So many beats if the pins ask for the command, else none.
+fn beats_by(w: u32, code: u32, beats: u32) -> u32
+    ensures { λ r. ⌜ r ≡ cond (eqb (codeOf w) code) beats 0 ⌝ }
+{
+    if pins::code(w) != code {
+        return 0;
+    }
+    beats
+}
+
+// How many beats of a clean capture are read, and how many written: two for each pair that a burst keeps.
+pub fn kept_beats(s: &Settings, bytes: &[u8], n: u32) -> Beats
     requires { ⌜ Listable (now s) (now bytes) n ⌝ }
-    requires { ⌜ notClean (verdictOf (settingsOf (now s)) (eventsIn (now bytes) n)) ≡ none ⌝ }
-    ensures { λ r. ⌜ r ≡ length (cellsOn (settingsOf (now (s .entry))) (now (bytes .entry)) n) ⌝ }
+    requires { ⌜ Clean (settingsOf (now s)) (now bytes) n ⌝ }
+    ensures { λ r. ⌜ r .read ≡ beatsBy reads (burstsOn (settingsOf (now (s .entry))) (now (bytes .entry)) n) ⌝ }
+    ensures { λ r. ⌜ r .written ≡ beatsBy (λ x. x .writes) (burstsOn (settingsOf (now (s .entry))) (now (bytes .entry)) n) ⌝ }
 {
     let mut mode = s[MODE];
-    let mut cells: u32 = 0;
+    let mut read: u32 = 0;
+    let mut written: u32 = 0;
     let mut i: u32 = 0;
     'events: while i < n {
-        cells += 2 * pairs_of(s, bytes, n, i, mode);
-        mode = beats::mode_after(mode, capture::pins_at(bytes, i as usize));
+        let w = capture::pins_at(bytes, i as usize);
+        let beats = 2 * pairs_of(s, bytes, n, i, mode);
+        read += beats_by(w, pins::READ, beats);
+        written += beats_by(w, pins::WRITE, beats);
+        mode = beats::mode_after(mode, w);
         i += 1;
     }
-    cells
+    Beats { read, written }
 }
 
 // The cells that are needed, where the buffer has room for fewer. Sixteen a command are enough for a clean capture, and
 // then nothing is counted.
 fn lacking(s: &Settings, bytes: &[u8], n: u32, room: usize) -> Found
     requires { ⌜ Listable (now s) (now bytes) n ⌝ }
-    requires { ⌜ notClean (verdictOf (settingsOf (now s)) (eventsIn (now bytes) n)) ≡ none ⌝ }
+    requires { ⌜ Clean (settingsOf (now s)) (now bytes) n ⌝ }
     ensures { λ r. ⌜ placeOf r ≡ lackingIn room (length (cellsOn (settingsOf (now (s .entry))) (now (bytes .entry)) n)) ⌝ }
 {
     if (16 * n) as usize <= room {
         return Found::Nothing;
     }
-    let cells = needed(s, bytes, n);
+    let kept = kept_beats(s, bytes, n);
+    let cells = kept.read + kept.written;
     if room < cells as usize {
         return Found::At(cells);
     }
@@ -107,11 +137,13 @@ fn step(s: &Settings, bytes: &[u8], n: u32, i: u32, firsts: &[u32; 4], mode: u32
     if !pins::gives_burst(w) {
         return Given::Other;
     }
+    let writes = pins::code(w) == pins::WRITE;
     let bank = pins::bank(w);
     let first = firsts[bank];
     let column = beats::column(s, w);
     let pairs = beats::kept(bytes, n, i, mode);
     Given::Burst {
+        writes,
         first,
         column,
         pairs,
@@ -128,12 +160,14 @@ fn newer_step(s: &Settings, bytes: &[u8], n: u32, i: u32, firsts: &[u32; 4], mod
     if !pins::gives_burst(w) {
         return Given::Other;
     }
+    let writes = pins::code(w) == pins::WRITE;
     let bank = pins::bank(w);
     let first = firsts[bank];
     let column = beats::column(s, w);
     if beats::interruptible(s, w) {
         let left = beats::interrupted(s, bytes, n, i, mode);
         return Given::Burst {
+            writes,
             first,
             column,
             pairs: left,
@@ -141,10 +175,48 @@ fn newer_step(s: &Settings, bytes: &[u8], n: u32, i: u32, firsts: &[u32; 4], mod
     }
     let pairs = beats::kept(bytes, n, i, mode);
     Given::Burst {
+        writes,
         first,
         column,
         pairs,
     }
+}
+
+// What event i of a clean capture gives, for whoever walks over its events: by the first cells of the rows that the banks were
+// opened on and the mode word before it. `beats::first_cells` and the settings' mode word are those before the first.
+pub fn burst_at(s: &Settings, bytes: &[u8], n: u32, i: u32, firsts: &[u32; 4], mode: u32) -> Given
+    requires { ⌜ Listable (now s) (now bytes) n × (i < n) ⌝ }
+    requires { ⌜ Clean (settingsOf (now s)) (now bytes) n ⌝ }
+    requires { ⌜ At (settingsOf (now s)) (now bytes) i (now firsts) mode ⌝ }
+    ensures { λ r. ⌜ givenMeans r ≡ givenAt (settingsOf (now (s .entry))) (now (bytes .entry)) n i ⌝ }
+{
+    let w = capture::pins_at(bytes, i as usize);
+    if !pins::gives_burst(w) {
+        return Given::Other;
+    }
+    let asked = pins::code(w);
+    let bank = pins::bank(w);
+    let first = firsts[bank];
+    let column = beats::column(s, w);
+    let pairs = pairs_of(s, bytes, n, i, mode);
+    Given::Burst {
+        writes: asked == pins::WRITE,
+        first,
+        column,
+        pairs,
+    }
+}
+
+// The same first cells and mode word behind event i, whatever it gives.
+pub fn passed(s: &Settings, bytes: &[u8], i: u32, firsts: &mut [u32; 4], mode: u32) -> u32
+    requires { ⌜ Sized (settingsOf (now s)) × (8 * i + 8 ≤ length (now bytes)) ⌝ }
+    requires { ⌜ At (settingsOf (now s)) (now bytes) i (now firsts) mode ⌝ }
+    ensures { λ r. ⌜ r ≡ modeAt (settingsOf (now (s .entry))) (now (bytes .entry)) (i + 1) ⌝ }
+    ensures { λ _. ⌜ now (firsts .exit) ≡ firstsAt (settingsOf (now (s .entry))) (now (bytes .entry)) (i + 1) ⌝ }
+{
+    let word = capture::pins_at(bytes, i as usize);
+    beats::open_row(s, firsts, word);
+    beats::mode_after(mode, word)
 }
 
 // An event that gives no burst: ACTIVE opens its row; MODE REGISTER SET changes the mode word, which is answered.
@@ -164,7 +236,7 @@ fn pass(s: &Settings, firsts: &mut [u32; 4], mode: u32, w: u32) -> u32
 // `interrupted` in a loop takes registers from every event (docs/DECISIONS.md, C19).
 fn write(s: &Settings, bytes: &[u8], n: u32, out: &mut [u32]) -> u32
     requires { ⌜ Listable (now s) (now bytes) n ⌝ }
-    requires { ⌜ notClean (verdictOf (settingsOf (now s)) (eventsIn (now bytes) n)) ≡ none ⌝ }
+    requires { ⌜ Clean (settingsOf (now s)) (now bytes) n ⌝ }
     requires { ⌜ length (cellsOn (settingsOf (now s)) (now bytes) n) ≤ length (now out) ⌝ }
     requires { ⌜ newer (settingsOf (now s)) ≡ false ⌝ }
     ensures { λ r. ⌜ r ≡ length (cellsOn (settingsOf (now (s .entry))) (now (bytes .entry)) n) ⌝ }
@@ -179,6 +251,7 @@ fn write(s: &Settings, bytes: &[u8], n: u32, out: &mut [u32]) -> u32
             first,
             column,
             pairs,
+            ..
         } = event
         else {
             let w = capture::pins_at(bytes, i as usize);
@@ -195,7 +268,7 @@ fn write(s: &Settings, bytes: &[u8], n: u32, out: &mut [u32]) -> u32
 // edition 0.
 fn write_newer(s: &Settings, bytes: &[u8], n: u32, out: &mut [u32]) -> u32
     requires { ⌜ Listable (now s) (now bytes) n ⌝ }
-    requires { ⌜ notClean (verdictOf (settingsOf (now s)) (eventsIn (now bytes) n)) ≡ none ⌝ }
+    requires { ⌜ Clean (settingsOf (now s)) (now bytes) n ⌝ }
     requires { ⌜ length (cellsOn (settingsOf (now s)) (now bytes) n) ≤ length (now out) ⌝ }
     ensures { λ r. ⌜ r ≡ length (cellsOn (settingsOf (now (s .entry))) (now (bytes .entry)) n) ⌝ }
     ensures { λ _. ⌜ now (out .exit) ≡ sets (now (out .entry)) 0 (cellsOn (settingsOf (now (s .entry))) (now (bytes .entry)) n) ⌝ }
@@ -209,6 +282,7 @@ fn write_newer(s: &Settings, bytes: &[u8], n: u32, out: &mut [u32]) -> u32
             first,
             column,
             pairs,
+            ..
         } = event
         else {
             let w = capture::pins_at(bytes, i as usize);

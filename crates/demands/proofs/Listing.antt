@@ -7,14 +7,13 @@ use native.Mathlib.Nat.{zero-add}
 use native.Mathlib.Omega.{arith}
 use borrow.Author.Tests.{le-ltb}
 use lib.Dec.{ltb}
-use lib.ListN.{length, getD, drop, length-append, length-map, List·getD-append}
+use lib.ListN.{length, getD, drop, List·getD-append}
 use lib.Seq.{getD-append-add}
-use Rattle.reading.specs.Search.{count}
 use Rattle.reading.specs.Settings.{Settings}
 use Rattle.reading.specs.Capture.{eventsOf}
 use Rattle.reading.specs.Mode.{BL, interleaved}
 use Rattle.reading.specs.Bursts.{Burst, place, beatColumn, cellNumber, beatCell, burstCells}
-use Rattle.reading.specs.Cells.{burstsOf, cellsOf}
+use Rattle.reading.specs.Cells.{burstsOf, cellsOf, beatsOf}
 use Rattle.reading.specs.Answers.{Answer, Outcome, answered, unless, settingsIn, verdictIn, notClean, cellsIn, fitting, leaves, cellsOutcome}
 use Rattle.reading.proofs.Meaning.{verdict-clean}
 use Rattle.reading.proofs.Tables.{tableRow, row-published}
@@ -22,25 +21,15 @@ use Rattle.reading.proofs.Beats.{cells-append}
 use Rattle.capture.proofs.Accepted.{accepted-rest}
 use Rattle.cells.specs.declared.Listed.{Listed}
 use Rattle.cells.specs.declared.Listed.the-variants as listed
-use Rattle.capture.proofs.Accepted.{length-count}
+use Rattle.beats.proofs.Sums.{burst-length, cells-length}
 use Rattle.cells.proofs.Unique.{one-answer}
 use Rattle.words.proofs.Counting.{at-count}
 use Rattle.demands.specs.Allowed.{Lists}
-use Rattle.demands.specs.Beats.{beatsOf}
 use Rattle.demands.specs.Refused.{Accepted, Clean}
 
 -- ---- the cells of bursts
 
 module _ (s : Settings) where
-  burst-length : (x : Burst) → length (burstCells s x) ≡ 2 * x .n
-  unfolding burstCells
-  burst-length x = length-map (count 0 (2 * x .n)) (beatCell s x) ∙ length-count 0 (2 * x .n)
-
-  cells-length : (xs : List Burst) → length (cellsOf s xs) ≡ beatsOf xs
-  unfolding cellsOf
-  cells-length [] = refl
-  cells-length (x ∷ xs) = length-append (burstCells s x) (cellsOf s xs) ∙ (λ i. burst-length x i + cells-length xs i)
-
   beat-there : (xs : List Burst) (x : Burst) (ys : List Burst) (tail : List ℕ) (j : ℕ) → j < 2 * x .n →
       getD (cellsOf s (xs ++ x ∷ ys) ++ tail) (beatsOf xs + j) 0 ≡ beatCell s x j
   unfolding cellsOf burstCells
@@ -48,9 +37,9 @@ module _ (s : Settings) where
       let split : cellsOf s (xs ++ x ∷ ys) ++ tail ≡ cellsOf s xs ++ (burstCells s x ++ (cellsOf s ys ++ tail)) =
       ap (λ (cs : List ℕ). cs ++ tail) (cells-append s xs (x ∷ ys)) ∙ append-assoc (cellsOf s xs) (burstCells s x ++ cellsOf s ys) tail
       ∙ ap (λ (cs : List ℕ). cellsOf s xs ++ cs) (append-assoc (burstCells s x) (cellsOf s ys) tail) in
-      (λ i. getD (split i) (sym (cells-length xs) i + j) 0)
+      (λ i. getD (split i) (sym (cells-length s xs) i + j) 0)
       ∙ getD-append-add (cellsOf s xs) (burstCells s x ++ (cellsOf s ys ++ tail)) j 0
-      ∙ List·getD-append (burstCells s x) (cellsOf s ys ++ tail) 0 j (omega (arith, burst-length x, l))
+      ∙ List·getD-append (burstCells s x) (cellsOf s ys ++ tail) 0 j (omega (arith, burst-length s x, l))
       ∙ at-count (beatCell s x) 0 0 (2 * x .n) j l ∙ ap (beatCell s x) (zero-add j)
 
 -- The cell of beat j is that of the published burst tables: of the row for the burst's length, order and starting column.

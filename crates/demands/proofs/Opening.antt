@@ -18,7 +18,8 @@ use Rattle.reading.specs.Capture.{headerWord, countIn, eventCount, editionIn, s
 use Rattle.reading.specs.Answers.{Answer, refused, answered, unless, accepted}
 use Rattle.words.proofs.Search.{none-below, nothing-below}
 use Rattle.settings.proofs.Fitting.{rowAt}
-use Rattle.capture.proofs.Accepted.{both, words-count}
+use Rattle.reading.proofs.Laws.{both}
+use Rattle.capture.proofs.Accepted.{words-count}
 use Rattle.demands.specs.Refused.{opened, Accepted}
 use Rattle.demands.specs.Captures.{Lowest, leastBytes, mostBytes, BadLength, BadHeader, BadSetting, BadEvent, Limited, CaptureRefused}
 use Rattle.demands.specs.Captures as case

@@ -97,6 +97,9 @@ use Rattle.beats.proofs.write_burst.Reads as beats-write-burst
 use Rattle.beats.proofs.interruptible.Reads as beats-interruptible
 use Rattle.beats.proofs.interrupted.Reads as beats-interrupted
 use Rattle.beats.proofs.kept.Reads as beats-kept
+use Rattle.cells.proofs.kept_beats.Reads as cells-kept-beats
+use Rattle.cells.proofs.burst_at.Reads as cells-burst-at
+use Rattle.cells.proofs.passed.Reads as cells-passed
 use Rattle.cells.proofs.burst_cells.Reads as cells-burst-cells
 use Rattle.morgazell.proofs.morgazell_judge.Reads as morgazell-morgazell-judge
 use Rattle.morgazell.proofs.morgazell_cells.Reads as morgazell-morgazell-cells
@@ -469,6 +472,16 @@ pub beats-kept-settles : (κs : _) (a : _) (z z′ : _) (e e′ : _) → beats-k
 beats-kept-settles κs a z z′ e e′ p q = p ∙ sym q
 
 -- ---- cells
+
+pub cells-kept-beats-settles : (κs : _) (a : _) (z z′ : _) (e e′ : _) → cells-kept-beats.Post κs a z e → cells-kept-beats.Post κs a z′ e′ → z ≡ z′
+cells-kept-beats-settles κs a z z′ e e′ p q = cells.one-count z z′ (p .0 ∙ sym (q .0)) (p .1 ∙ sym (q .1))
+
+pub cells-burst-at-settles : (κs : _) (a : _) (z z′ : _) (e e′ : _) → cells-burst-at.Post κs a z e → cells-burst-at.Post κs a z′ e′ → z ≡ z′
+cells-burst-at-settles κs a z z′ e e′ p q = p ∙ sym q
+
+pub cells-passed-settles : (κs : _) (a : _) (z z′ : _) (e e′ : _) → cells-passed.Post κs a z e → cells-passed.Post κs a z′ e′ →
+    (z ≡ z′) × (now (e .1 .1 .1 .0) ≡ now (e′ .1 .1 .1 .0))
+cells-passed-settles κs a z z′ e e′ p q = (p .0 ∙ sym (q .0), p .1 ∙ sym (q .1))
 
 pub cells-burst-cells-settles : (κs : _) (a : _) (z z′ : _) (e e′ : _) → cells-burst-cells.Post κs a z e → cells-burst-cells.Post κs a z′ e′ →
     (z ≡ z′) × (now (e .1 .0) ≡ now (e′ .1 .0))

@@ -1,8 +1,7 @@
--- What the contracts of the public functions allow, when a capture and when a call is refused, how many beats bursts keep, what
--- each read returns, answers by other rules, by the reading before there were editions, and by closed rows as they were.
+-- What the contracts of the public functions allow, when a capture and when a call is refused, what each read returns, answers
+-- by other rules, by the reading before there were editions, and by closed rows as they were.
 pub mod Allowed
 pub mod Captures
-pub mod Beats
 pub mod Reads
 pub mod Refused
 pub mod ByRules

@@ -3,12 +3,14 @@ use Prim.Native.Nat.{ℕ, zero, suc, _+_, _≤_, _<_}
 use mathlib.Core.List.{List, [], _∷_, map}
 use mathlib.Core.Path.{_≡_, refl, sym, ap, _∙_}
 use native.Mathlib.Nat.{add-zero, zero-add, add-suc, suc-add}
+use native.Mathlib.Numerals.{add-one}
 use native.Mathlib.Omega.{arith}
-use lib.ListN.{length, take, drop}
+use lib.ListN.{length, drop}
 use Rattle.reading.specs.Search.{count}
 use Rattle.reading.specs.Settings.{Settings}
-use Rattle.reading.specs.Capture.{Event}
-use Rattle.reading.specs.Part.{Part, step, run}
+use Rattle.reading.specs.Capture.{Event, eventAt}
+use Rattle.reading.specs.Part.{Part, start, step, run}
+use Rattle.judge.specs.Meaning.{partAt}
 
 drop-map : {A B : Type 0} (f : A → B) (i : ℕ) (xs : List A) → drop i (map f xs) ≡ map f (drop i xs)
 drop-map f zero xs = refl
@@ -43,10 +45,15 @@ module _ {A : Type 0} (f : ℕ → A) (n : ℕ) where
   pub none-of : (i : ℕ) → n ≤ i → drop i (map f (count 0 n)) ≡ []
   none-of i l = drop-map f i (count 0 n) ∙ ap (map f) (count-gone 0 n i l)
 
--- the part after one event more of the list
-pub run-next : (s : Settings) (p : Part) (i : ℕ) (es : List Event) {e : Event} {rest : List Event} → drop i es ≡ e ∷ rest →
-    run s p (take (suc i) es) ≡ step s (run s p (take i es)) e
-run-next s p zero [] h = let z : _≡_ {A = ℕ} 0 1 = cc in absurd (omega arith)
-run-next s p zero (x ∷ es) {e} h = let same : x ≡ e = cc in ap (step s p) same
-run-next s p (suc i) [] h = let z : _≡_ {A = ℕ} 0 1 = cc in absurd (omega arith)
-run-next s p (suc i) (x ∷ es) h = run-next s (step s p x) i es h
+-- the part behind one event more
+run-next : (s : Settings) (f : ℕ → Event) (from i : ℕ) (p : Part) →
+    run s p (map f (count from (suc i))) ≡ step s (run s p (map f (count from i))) (f (from + i))
+run-next s f from zero p = ap (λ (k : ℕ). step s p (f k)) (sym (add-zero from))
+run-next s f from (suc i) p =
+    run-next s f (suc from) i (step s p (f from))
+    ∙ ap (λ (k : ℕ). step s (run s p (map f (count from (suc i)))) (f k)) (suc-add from i ∙ sym (add-suc from i))
+
+pub part-next : (s : Settings) (bytes : List ℕ) (i : ℕ) → partAt s bytes (i + 1) ≡ step s (partAt s bytes i) (eventAt bytes i)
+part-next s bytes i =
+    ap (partAt s bytes) (add-one i) ∙ run-next s (eventAt bytes) 0 i (start s)
+    ∙ ap (λ (k : ℕ). step s (partAt s bytes i) (eventAt bytes k)) (zero-add i)

@@ -7,12 +7,12 @@ use mathlib.Core.Path.{_≡_, refl, sym, ap, _∙_}
 use native.Mathlib.Numerals.{add-one}
 use native.Mathlib.Omega.{arith}
 use lib.Dec.{eqb}
-use lib.ListN.{take, drop}
+use lib.ListN.{drop}
 use borrow.Author.Tests.{eqb-true, eqb-false, eq-eqb, ne-eqb, not-true}
 use Rattle.reading.specs.Settings.{Settings, settingsOf}
 use Rattle.reading.specs.Capture.{Event, eventAt}
 use Rattle.reading.specs.Commands.{commandOf}
-use Rattle.reading.specs.Part.{Part, start, step, run}
+use Rattle.reading.specs.Part.{Part, start, step}
 use Rattle.reading.specs.Rules.{keepsRule, rules, brokenBy}
 use Rattle.reading.specs.Verdict as is
 use Rattle.reading.specs.Verdict.{broken, brokenOr, judgeFrom, verdictOf, judgedOf, judgeBy, verdictBy}
@@ -29,8 +29,8 @@ use Rattle.bridge.proofs.Next.{Sound}
 use Rattle.bridge.proofs.Turn.{Turned, turned-event, start-laid, start-sound}
 use Rattle.judge.specs.declared.Verdict.{Verdict}
 use Rattle.judge.specs.declared.Verdict.the-variants.{Clean, Broken}
-use Rattle.judge.specs.Meaning.{Fit, Started, eventsIn, said, verdictOn, judgedPart, deadlinesOn, paceOn}
-use Rattle.judge.proofs.Events.{next-of, none-of, run-next}
+use Rattle.judge.specs.Meaning.{Fit, Started, eventsIn, said, verdictOn, partAt, judgedPart, deadlinesOn, paceOn}
+use Rattle.judge.proofs.Events.{next-of, none-of, part-next}
 
 -- no rule has the number 0
 pub positive : (s : Settings) (p : Part) (e : Event) (r : ℕ) → brokenBy s p e ≡ some r → r ≡ 0 → ⊥
@@ -74,7 +74,7 @@ module _ (settings bytes : List ℕ) (n : ℕ) where
   -- before event i the deadlines are the summary of a part, from which the rest decides the verdict
   pub record Before (d pace : List ℕ) (i : ℕ) : Type 0 where
     pub reached : Part
-    pub after : reached ≡ run s (start s) (take i es)
+    pub after : reached ≡ partAt s bytes i
     pub from : ℕ
     pub sound : Sound from reached
     pub deadlines : d ≡ laid (summary s reached)
@@ -112,15 +112,15 @@ module _ (settings bytes : List ℕ) (n : ℕ) where
     turn = turned-event s (fit .rows) (b .reached) (b .from) (eventAt bytes i .cycle) (b .above l) timed (b .sound) (eventAt bytes i .pins)
 
     -- the step's answer is the reading's
-    breaks-is : stepBreaks s d t w ≡ num (brokenBy s (b .reached) (eventAt bytes i))
+    pub breaks-is : stepBreaks s d t w ≡ num (brokenBy s (b .reached) (eventAt bytes i))
     breaks-is = ap (λ (k : List ℕ). stepBreaks s k t w) (b .deadlines) ∙ turn .breaks
 
-    unfolds : verdictOf s es ≡ brokenOr (brokenBy s (b .reached) (eventAt bytes i)) i t (judgeFrom s (step s (b .reached) (eventAt bytes i)) (suc i) (drop (suc i) es))
+    pub unfolds : verdictOf s es ≡ brokenOr (brokenBy s (b .reached) (eventAt bytes i)) i t (judgeFrom s (step s (b .reached) (eventAt bytes i)) (suc i) (drop (suc i) es))
     unfolding judgeBy
     unfolds = b .decides ∙ ap (judgeFrom s (b .reached) i) (next-of (eventAt bytes) n i l)
 
     -- the next event's place
-    goes-on : stepBreaks s d t w ≡ 0 → Before (stepAfter s d pace t w) (paceAfter pace w) (i + 1)
+    pub goes-on : stepBreaks s d t w ≡ 0 → Before (stepAfter s d pace t w) (paceAfter pace w) (i + 1)
     goes-on z = go (brokenBy s (b .reached) (eventAt bytes i)) refl
       where
         onwards : brokenBy s (b .reached) (eventAt bytes i) ≡ none → Before (stepAfter s d pace t w) (paceAfter pace w) (i + 1)
@@ -130,8 +130,7 @@ module _ (settings bytes : List ℕ) (n : ℕ) where
               reached = step s (b .reached) (eventAt bytes i);
               after =
                   ap (λ (p : Part). step s p (eventAt bytes i)) (b .after)
-                  ∙ sym (run-next s (start s) i es (next-of (eventAt bytes) n i l))
-                  ∙ ap (λ (k : ℕ). run s (start s) (take k es)) (sym (add-one i));
+                  ∙ sym (part-next s bytes i);
               from = suc t;
               sound = k .sound;
               deadlines = rw (b .deadlines, b .paced) (k .leaves);
@@ -165,8 +164,8 @@ module _ (settings bytes : List ℕ) (n : ℕ) where
   unfolding verdictOn judgedPart
   ended {d} {pace} {i} b v e f =
       let judged : judgedOf n (verdictOf s es) ≡ i = ap (judgedOf n) e ∙ f in
-      let there : b .reached ≡ run s (start s) (take (judgedOf n (verdictOf s es)) es) =
-      b .after ∙ ap (λ (k : ℕ). run s (start s) (take k es)) (sym judged) in (
+      let there : b .reached ≡ partAt s bytes (judgedOf n (verdictOf s es)) =
+      b .after ∙ ap (partAt s bytes) (sym judged) in (
         sym (ap (said n) e),
         (
           b .deadlines ∙ ap (λ (p : Part). laid (summary s p)) there,

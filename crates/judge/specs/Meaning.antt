@@ -3,7 +3,7 @@ use Prim.Native.Nat.{ℕ, _*_, _≤_, _<_}
 use mathlib.Core.Bool.{true}
 use mathlib.Core.List.{List, map}
 use mathlib.Core.Path.{_≡_}
-use lib.ListN.{length, take}
+use lib.ListN.{length}
 use Rattle.reading.specs.Search.{count}
 use Rattle.reading.specs.Settings as reading
 use Rattle.reading.specs.Capture as capture
@@ -47,9 +47,13 @@ said n (is.broken rule event cycle) = Broken n event rule event cycle
 unfoldable pub verdictOn : reading.Settings → List ℕ → ℕ → Verdict
 verdictOn s bytes n = said n (is.verdictOf s (eventsIn bytes n))
 
--- the part after the events that were judged, and what is kept of it
+-- the part before event i
+abbrev pub partAt : reading.Settings → List ℕ → ℕ → Part
+partAt s bytes i = run s (start s) (eventsIn bytes i)
+
+-- that after the events that were judged, and what is kept of it
 unfoldable pub judgedPart : reading.Settings → List ℕ → ℕ → Part
-judgedPart s bytes n = run s (start s) (take (is.judgedOf n (is.verdictOf s (eventsIn bytes n))) (eventsIn bytes n))
+judgedPart s bytes n = partAt s bytes (is.judgedOf n (is.verdictOf s (eventsIn bytes n)))
 
 abbrev pub deadlinesOn : reading.Settings → List ℕ → ℕ → List ℕ
 deadlinesOn s bytes n = laid (summary s (judgedPart s bytes n))

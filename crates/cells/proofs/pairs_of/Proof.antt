@@ -4,7 +4,7 @@ use Rattle.reading.specs.Settings.{settingsOf}
 use Rattle.reading.specs.Capture.{eventAt}
 use Rattle.beats.specs.Kept.{eventsFrom}
 use Rattle.beats.proofs.Looking.{early-keeps, kept-early, kept-else}
-use Rattle.cells.proofs.Counting.{fitting}
+use Rattle.cells.proofs.Alone.{fitting}
 use borrow.Author.Needs.{needs}
 use Rattle.cells.proofs.pairs_of.Statement.{statement}
 use Rattle.cells.proofs.pairs_of.Tie as tie

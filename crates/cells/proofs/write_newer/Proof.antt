@@ -5,7 +5,7 @@ use native.Mathlib.Omega.{arith}
 use borrow.Author.Needs.{needs}
 use Rattle.reading.specs.Settings.{settingsOf}
 use Rattle.cells.proofs.Stepping.{told, told-other}
-use Rattle.cells.proofs.Counting.{pair-kept}
+use Rattle.cells.proofs.Pairs.{pair-kept}
 use Rattle.cells.proofs.Writing.{Written, begins, size, room, in-row, goes-on, passes, counted, ends}
 use Rattle.cells.proofs.write_newer.Statement.{statement}
 use Rattle.cells.proofs.write_newer.Tie as tie
@@ -35,7 +35,7 @@ newer-step-requires c κs =
     let start = test .before .before .before .before .before .before in
     let a = start .args in (
       (start .pre .0, test .newer-events-test .taken),
-      pair-kept (a .s .now) (a .bytes .now) (a .n) (x .inv .reached) (x .i) (test .newer-events-test .taken) (x .inv .keeps) (x .inv .moded),
+      pair-kept (a .s .now) (a .bytes .now) (a .n) (start .pre .0) (start .pre .1 .0) (x .i) (test .newer-events-test .taken) (x .inv .on .moded),
     )
 
 enum-known-event : tie.Need-enum-known-event Inv-newer-events μ-newer-events
@@ -136,7 +136,7 @@ newer-events-again-2 c =
 cast-result : tie.Need-cast-result Inv-newer-events μ-newer-events
 cast-result c =
     let x = c .before .newer-events .inv in
-    omega (arith, x .small, x .within, c .before .before .before .before .before .before .pre .0 .fit .few)
+    omega (arith, x .on .small, x .on .within, c .before .before .before .before .before .before .pre .0 .fit .few)
 
 same-length : tie.Need-same-length Inv-newer-events μ-newer-events
 same-length c =

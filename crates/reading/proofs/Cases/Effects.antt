@@ -5,7 +5,8 @@ use mathlib.Core.Path.{_≡_, refl}
 use lib.ListN.{set}
 use Rattle.reading.specs.Settings.{settingsOf}
 use Rattle.reading.specs.Capture.{Event}
-use Rattle.reading.specs.Cells.{burstsOf}
+use Rattle.reading.specs.Bursts.{reads}
+use Rattle.reading.specs.Cells.{burstsOf, beatsBy, beatsOf}
 use Rattle.reading.proofs.Cases.{ACTIVE, READ, WRITE, TERMINATE, PRECHARGE, REFRESH, MODE, NOP, DESELECT, A10, A11, bank, at, usual, four, touches, breaks, saidOf, Line, line, lineUnder, HoldLines}
 
 -- the first cell of bank 1: 8192 x 1024
@@ -98,6 +99,22 @@ never-cut :
     (2 ∷ 2 ∷ []) ∷ (2 ∷ []) ∷ (2 ∷ []) ∷ (2 ∷ 2 ∷ []) ∷ []
 unfolding burstsOf
 never-cut = refl
+
+-- the beats that are read, that are written, and both
+abbrev beats : List Event → List ℕ
+beats es =
+    let xs = burstsOf (settingsOf usual) es in
+    beatsBy reads xs ∷ beatsBy (λ x. x .writes) xs ∷ beatsOf xs ∷ []
+
+counted-beats :
+    map beats
+    ((at 0 ACTIVE ∷ at 3 (READ + 5) ∷ at 4 (READ + 8) ∷ at 20 WRITE ∷ [])
+    ∷ (at 0 ACTIVE ∷ at 3 WRITE ∷ [])
+    ∷ []
+    ∷ []) ≡
+    (6 ∷ 4 ∷ 10 ∷ []) ∷ (0 ∷ 4 ∷ 4 ∷ []) ∷ (0 ∷ 0 ∷ 0 ∷ []) ∷ []
+unfolding burstsOf
+counted-beats = refl
 
 cells : List Line
 cells =
