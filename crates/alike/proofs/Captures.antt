@@ -12,12 +12,13 @@ use Rattle.reading.specs.Words.{wordAt}
 use Rattle.reading.specs.Settings.{Settings, settingsOf, inEdition, badSetting}
 use Rattle.reading.specs.Capture.{settingsStart, eventsStart, captureSize, mostEvents, newestEdition, headerWord, countIn, eventCount, editionIn, settingWords, eventBytes, eventAt, eventsOf, lengthFits, headerFits, pinLimit, lastCycle, eventFits, badEvent}
 use Rattle.reading.specs.Verdict.{Verdict, verdictOf, judgedOf}
-use Rattle.reading.specs.Answers.{Answer, Report, refused, answered, unless, accepted, settingsIn, verdictIn, judgeAnswer}
+use Rattle.reading.specs.Answers.{Answer, Report, answered, unless, accepted, settingsIn, verdictIn, judgeAnswer}
 use Rattle.reading.specs.Blank.{above, OnlyAddressesDiffer}
 use Rattle.words.proofs.Words.{word-take}
 use Rattle.words.proofs.Counting.{same-counted, same-lowest}
 use Rattle.settings.specs.Meaning.{held}
-use Rattle.capture.proofs.Accepted.{count-range, cycle-fits, cycle-rises, refused-rest}
+use Rattle.capture.specs.Calls.{Accepted}
+use Rattle.capture.proofs.Accepted.{count-range, cycle-fits, cycle-rises, accepted-alike}
 use Rattle.capture.proofs.Opened.{Opened, opens}
 use Rattle.bridge.specs.Summary.{Timed}
 use Rattle.alike.proofs.Pins.{alike-above}
@@ -110,7 +111,7 @@ module _ (a b : List ℕ) (k : OnlyAddressesDiffer a b) where
 
   -- ---- judged, where they are accepted
 
-  module _ (open-to : accepted a (answered (tt {0})) ≡ answered tt) where
+  module _ (open-to : Accepted a) where
     abbrev s : Settings
     s = settingsIn a
 
@@ -157,8 +158,5 @@ module _ (a b : List ℕ) (k : OnlyAddressesDiffer a b) where
   -- The judge's whole answer is the same: refusal and place, or verdict, rule, event, cycle and judged count.
   pub judged-alike : judgeAnswer a ≡ judgeAnswer b
   unfolding judgeAnswer
-  judged-alike = go (accepted a (answered (tt {0}))) refl ∙ same-accepted (report (eventCount b) (verdictIn b))
-    where
-      go : (x : Answer (Unit {0})) → accepted a (answered tt) ≡ x → accepted a (report (eventCount a) (verdictIn a)) ≡ accepted a (report (eventCount b) (verdictIn b))
-      go (refused number place) e = refused-rest a _ e ∙ sym (refused-rest a _ e)
-      go (answered tt) e = ap (accepted a) (λ i. report (same-events i) (verdict-alike e i))
+  judged-alike =
+      accepted-alike a _ _ (λ open-to. λ i. report (same-events i) (verdict-alike open-to i)) ∙ same-accepted (report (eventCount b) (verdictIn b))

@@ -2,8 +2,8 @@
 use Prim.Native.Nat.{ℕ, zero, suc, _+_, _-_, _*_, _≤_, _<_}
 use mathlib.Core.Bool.{Bool, true, false, cond, not, _&&_, _||_, and-eq-true-iff}
 use mathlib.Core.List.{List}
-use mathlib.Core.Logic.{_⊎_}
-use mathlib.Core.Option.{Option, none, some}
+use mathlib.Core.Logic.{_⊎_, inl, inr}
+use mathlib.Core.Option.{none}
 use mathlib.Core.Path.{_≡_, refl, sym, ap, _∙_}
 use native.Mathlib.Decide.{decLt}
 use native.Mathlib.Omega.{arith}
@@ -20,7 +20,7 @@ use Rattle.settings.specs.Meaning.{held}
 use Rattle.settings.proofs.Padded.{held-settings}
 use Rattle.settings.proofs.Fitting.{in-range, each-in-range}
 use Rattle.capture.specs.Calls.{opened, Accepted}
-use Rattle.capture.proofs.Outcome.{passed, follow, follow-unless, follows-refused, follows-answered, follow-refused, follow-answered}
+use Rattle.capture.proofs.Outcome.{not-refused, passed, follow, follow-unless, follows-refused, follows-answered, follow-refused, follow-answered}
 
 -- ---- whatever follows: refused alike, or answered by what follows
 
@@ -52,8 +52,24 @@ module _ {A : Type 0} (capture : List ℕ) (rest : Answer A) where
       (opened capture ≡ refused number place) ⊎ (Accepted capture × (rest ≡ refused number place))
   refused-in e = follow-refused (opened capture) rest (sym (followed capture rest) ∙ e)
 
+  -- an answer is refused where opening is
+  pub refused-only : {x : A} {number place : ℕ} → rest ≡ answered x → accepted capture rest ≡ refused number place → opened capture ≡ refused number place
+  refused-only {x} {number} {place} is e = go (refused-in e)
+    where
+      go : (opened capture ≡ refused number place) ⊎ (Accepted capture × (rest ≡ refused number place)) → opened capture ≡ refused number place
+      go (inl h) = h
+      go (inr h) = not-refused (sym is ∙ h .1)
+
   pub answered-in : {x : A} → accepted capture rest ≡ answered x → Accepted capture × (rest ≡ answered x)
   answered-in e = follow-answered (opened capture) rest (sym (followed capture rest) ∙ e)
+
+-- what follows is asked only where a capture is accepted
+pub accepted-alike : {A : Type 0} (capture : List ℕ) (x y : Answer A) → (Accepted capture → x ≡ y) → accepted capture x ≡ accepted capture y
+accepted-alike capture x y same = go (opened capture) refl
+  where
+    go : (o : Answer (Unit {0})) → opened capture ≡ o → accepted capture x ≡ accepted capture y
+    go (refused number place) h = refused-rest capture x h ∙ sym (refused-rest capture y h)
+    go (answered tt) h = ap (accepted capture) (same h)
 
 -- ---- accepted: all fits
 
@@ -63,6 +79,7 @@ pub record Sized (capture : List ℕ) : Type 0 where
 
 pub record Sound (capture : List ℕ) : Type 0 where
   pub sized : Sized capture
+  pub fine : badSetting (settingWords capture) ≡ none
   pub settings : (i : ℕ) → i < countIn capture → settingFits i (getD (settingWords capture) i 0) ≡ true
   pub events : (i : ℕ) → i < eventCount capture → cycleFits (eventBytes capture) i ≡ true
   pub pins : (i : ℕ) → i < eventCount capture → eventAt (eventBytes capture) i .pins < pinLimit capture
@@ -145,6 +162,7 @@ module _ (capture : List ℕ) where
       λ i l. not-false _ (none-below (λ j. not (eventFits limit (eventBytes capture) j)) (eventCount capture) four i l) in
       record {
         sized = sized (not-false _ (not-given _ one)) (not-false _ (not-given _ two));
+        fine = three;
         settings = λ i l. in-range (settingWords capture) (length (settingWords capture)) ranges i (omega (arith, words-count));
         events = λ i l. both (ltb (eventAt (eventBytes capture) i .pins) limit) _ (fits i l) .1;
         pins = λ i l. ltb-true _ _ (both (ltb (eventAt (eventBytes capture) i .pins) limit) _ (fits i l) .0);

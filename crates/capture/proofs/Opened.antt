@@ -8,7 +8,7 @@ use lib.ListN.{length, getD, length-drop}
 use Rattle.reading.specs.Search.{count}
 use Rattle.reading.specs.Mode.{modeWord}
 use Rattle.reading.specs.Settings.{Settings, settingsOf, settingFits}
-use Rattle.reading.specs.Capture.{Event, countIn, eventsStart, eventCount, editionIn, settingWords, eventBytes, eventAt, eventsOf, cycleFits}
+use Rattle.reading.specs.Capture.{countIn, eventsStart, eventCount, editionIn, settingWords, eventBytes, eventAt, eventsOf, cycleFits}
 use Rattle.reading.specs.Answers.{Answer, refused, accepted, settingsIn}
 use Rattle.settings.specs.declared.Checked.{Checked}
 use Rattle.settings.specs.declared.Checked.the-variants.{Fine, Refused}

@@ -11,7 +11,7 @@ use lib.Dec.{ltb}
 use lib.ListN.{length, take, drop, length-append}
 use lib.Seq.{sets, take-at, drop-at}
 use Rattle.reading.specs.Search.{given}
-use Rattle.reading.specs.Answers.{Answer, refused, answered, unless, Outcome, leaves, fitting}
+use Rattle.reading.specs.Answers.{Answer, refused, answered, unless, leaves, fitting}
 use Rattle.words.proofs.Runs.{front}
 use Rattle.capture.specs.Calls.{Meets}
 

@@ -1,18 +1,17 @@
 -- Captures that differ only in addresses, and what `blanks::blank` writes: about whatever the contracts allow.
 use Prim.Native.Nat.{ℕ, _+_, _*_, _<_}
-use mathlib.Core.Bool.{Bool, true, false}
-use mathlib.Core.List.{List, _++_}
-use mathlib.Core.Logic.{_↔_}
-use mathlib.Core.Path.{_≡_, refl, sym, ap, _∙_, subst}
+use mathlib.Core.Bool.{false}
+use mathlib.Core.List.{List}
+use mathlib.Core.Logic.{_↔_, _⊎_, inl, inr}
+use mathlib.Core.Path.{_≡_, sym, ap, _∙_, subst}
 use native.Mathlib.Omega.{arith}
-use lib.Dec.{ltb}
 use lib.ListN.{length, getD, take, drop}
-use lib.Seq.{take-at, drop-at}
-use Rattle.reading.specs.Search.{given}
 use Rattle.reading.specs.Capture.{eventsStart, countIn, eventCount, eventBytes, eventAt}
-use Rattle.reading.specs.Answers.{Answer, refused, answered, unless, accepted, settingsIn, fitting, leaves}
+use Rattle.reading.specs.Answers.{Answer, refused, answered, accepted, settingsIn, fitting}
 use Rattle.reading.specs.Blank.{namesColumn, namesRow, OnlyAddressesDiffer, blanked, blankOutcome}
-use Rattle.capture.proofs.Accepted.{accepted-rest, refused-rest}
+use Rattle.capture.proofs.Outcome as outcome
+use Rattle.capture.proofs.Outcome.{Wrote, too-long, lacking, fits, refused-meets, leaves-refused}
+use Rattle.capture.proofs.Accepted.{accepted-rest, refused-rest, refused-in, answered-in}
 use Rattle.judge.specs.declared.Verdict.{Verdict}
 use Rattle.alike.proofs.Captures.{same-accepted, judged-alike}
 use Rattle.alike.proofs.Pins.{as-made}
@@ -25,7 +24,6 @@ use Rattle.blanks.proofs.Unique as one-blank
 use Rattle.demands.specs.Allowed.{Judges, Blanks}
 use Rattle.demands.specs.Refused.{opened, Accepted, BlankRefused, unopened, scant}
 use Rattle.demands.proofs.Judging.{one-answer}
-use Rattle.demands.proofs.Refusing.{other, leaves-refused, room, too-long}
 
 -- ---- two captures that differ only in addresses
 
@@ -87,29 +85,29 @@ module _ (capture : List ℕ) (open-to : Accepted capture) (bytes : Bytes captur
 -- ---- what `blank` answers and leaves
 
 module _ (capture out : List ℕ) where
-  answers : {x : Answer (List ℕ)} → accepted capture (fitting out (blanked capture)) ≡ x → blankOutcome capture out ≡ leaves x out
-  unfolding blankOutcome
-  answers e = ap (λ (x : Answer (List ℕ)). leaves x out) e
+  abbrev rest : Answer (List ℕ)
+  rest = fitting out (blanked capture)
 
   -- Refused exactly in the cases that are written out in specs/Refused, with their place.
   case-of : (number place : ℕ) → blankOutcome capture out .answer ≡ refused number place → BlankRefused capture out number place
-  case-of number place k = go (opened capture) refl
+  unfolding blankOutcome
+  case-of number place k = go (refused-in capture rest (leaves-refused (accepted capture rest) out k .0))
     where
-      go : (x : Answer (Unit {0})) → opened capture ≡ x → BlankRefused capture out number place
-      go (refused n p) h =
-          let so : _≡_ {A = Answer ℕ} (refused n p) (refused number place) = sym (ap (λ o. o .answer) (answers (refused-rest capture _ h))) ∙ k in
-          let e : n ≡ number = cc in
-          let f : p ≡ place = cc in
-          unopened (h ∙ (λ i. refused (e i) (f i)))
-      go (answered tt) h =
-          let (n, p, l) = room out (blanked capture) number place (sym (ap (λ o. o .answer) (answers (accepted-rest capture _ h))) ∙ k) in
+      go : (opened capture ≡ refused number place) ⊎ (Accepted capture × (rest ≡ refused number place)) → BlankRefused capture out number place
+      go (inl h) = unopened h
+      go (inr (h, e)) =
+          let (n, p, l) = lacking out (blanked capture) e in
           scant h n (p ∙ sym (blanked-length capture h)) (rw p l)
 
   of-case : (number place : ℕ) → BlankRefused capture out number place → blankOutcome capture out .answer ≡ refused number place
-  of-case number place (unopened h) = ap (λ o. o .answer) (answers (refused-rest capture _ h))
+  unfolding blankOutcome
+  of-case number place (unopened h) = sym (refused-meets (refused-rest capture rest h) .0)
   of-case number place (scant h n p l) =
-      ap (λ o. o .answer) (answers (accepted-rest capture _ h)) ∙ too-long out (blanked capture) (omega (arith, p, l, blanked-length capture h))
-      ∙ (λ i. refused (sym n i) ((sym (blanked-length capture h) ∙ sym p) i))
+      sym
+      (refused-meets
+      (accepted-rest capture rest h ∙ too-long out (blanked capture) (omega (arith, p, l, blanked-length capture h))
+      ∙ (λ i. refused (sym n i) ((sym (blanked-length capture h) ∙ sym p) i)))
+      .0)
 
 pub blank-refused-exactly : (capture out : List ℕ) (r : Blanked) (left : List ℕ) → Blanks capture out r left → (number place : ℕ) →
     r ≡ Refused number place ↔ BlankRefused capture out number place
@@ -122,55 +120,44 @@ blank-refused-exactly capture out r left a number place = (
 pub blank-refused : (capture out left : List ℕ) (number place : ℕ) → Blanks capture out (Refused number place) left → left ≡ out
 unfolding blankOutcome
 blank-refused capture out left number place a =
-    a .1 ∙ leaves-refused (accepted capture (fitting out (blanked capture))) out number place (sym (a .0))
+    a .1 ∙ leaves-refused (accepted capture (fitting out (blanked capture))) out (sym (a .0)) .1
 
 -- ---- what `blank` wrote
 
-record Wrote (capture out left : List ℕ) (n : ℕ) : Type 0 where
-  open-to : Accepted capture
-  count : n ≡ length (blanked capture)
-  whole : left ≡ blanked capture ++ drop n out
-
 module _ (capture out left : List ℕ) (n : ℕ) (a : Blanks capture out (Written n) left) where
-  wrote : Wrote capture out left n
-  wrote = go (opened capture) refl
-    where
-      fitted : Accepted capture → (v : Bool) → ltb (length out) (length (blanked capture)) ≡ v →
-          blankOutcome capture out ≡ leaves (unless 7 (given (length (blanked capture)) v) (answered (blanked capture))) out → Wrote capture out left n
-      fitted h true e k = other (a .0 ∙ ap (λ o. o .answer) k)
-      fitted h false e k =
-          let so : _≡_ {A = Answer ℕ} (answered n) (answered (length (blanked capture))) = a .0 ∙ ap (λ o. o .answer) k in
-          let same : n ≡ length (blanked capture) = cc in
-          record {
-            open-to = h;
-            count = same;
-            whole = a .1 ∙ ap (λ o. o .buffer) k ∙ ap (λ (i : ℕ). blanked capture ++ drop i out) (sym same);
-          }
+  abbrev answer : Answer (List ℕ)
+  answer = accepted capture (fitting out (blanked capture))
 
-      go : (x : Answer (Unit {0})) → opened capture ≡ x → Wrote capture out left n
-      go (refused number place) h = other (a .0 ∙ ap (λ o. o .answer) (answers capture out (refused-rest capture _ h)))
-      go (answered tt) h =
-          fitted h (ltb (length out) (length (blanked capture))) refl (answers capture out (accepted-rest capture _ h))
+  wrote : Wrote answer out n
+  unfolding blankOutcome
+  wrote = outcome.wrote answer out (sym (a .0))
+
+  is-blanked : Accepted capture × (blanked capture ≡ wrote .list)
+  is-blanked =
+      let (h, e) = answered-in capture _ (wrote .is) in
+      (h, fits out (blanked capture) e .0)
 
   -- The capture was accepted, and its bytes, blanked, are what stands at the front of the buffer; bytes behind them stay.
   pub written-opened : Accepted capture
-  written-opened = wrote .open-to
+  written-opened = is-blanked .0
 
   pub written-is : take n left ≡ blanked capture
-  written-is = ap (take n) (wrote .whole) ∙ take-at (blanked capture) (drop n out) n (sym (wrote .count))
+  unfolding blankOutcome
+  written-is = ap (take n) (a .1) ∙ wrote .front ∙ sym (is-blanked .1)
 
   pub written-long : n ≡ length capture
-  written-long = wrote .count ∙ sym (blanked-length capture (wrote .open-to))
+  written-long = wrote .count ∙ sym (ap length (is-blanked .1)) ∙ sym (blanked-length capture (is-blanked .0))
 
   pub behind-stays : drop n left ≡ drop n out
-  behind-stays = ap (drop n) (wrote .whole) ∙ drop-at (blanked capture) (drop n out) n (sym (wrote .count))
+  unfolding blankOutcome
+  behind-stays = ap (drop n) (a .1) ∙ wrote .behind
 
   -- What was written is accepted, differs only in addresses from what was given, and so is judged alike.
   pub written-accepted : Accepted (take n left)
-  written-accepted = subst Accepted (sym written-is) (blanked-accepted capture (wrote .open-to))
+  written-accepted = subst Accepted (sym written-is) (blanked-accepted capture (is-blanked .0))
 
   pub written-related : OnlyAddressesDiffer capture (take n left)
-  written-related = subst (OnlyAddressesDiffer capture) (sym written-is) (blanked-related capture (wrote .open-to))
+  written-related = subst (OnlyAddressesDiffer capture) (sym written-is) (blanked-related capture (is-blanked .0))
 
   pub written-judged : (r q : Verdict) → Judges capture r → Judges (take n left) q → r ≡ q
   written-judged = judged-same capture (take n left) written-related

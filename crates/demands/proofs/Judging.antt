@@ -3,15 +3,15 @@ use Prim.Native.Nat.{ℕ}
 use mathlib.Core.List.{List}
 use mathlib.Core.Logic.{_↔_}
 use mathlib.Core.Path.{_≡_, refl, sym, ap, _∙_}
-use native.Mathlib.Omega.{arith}
 use lib.ListN.{length}
 use Rattle.reading.specs.Settings.{Settings}
 use Rattle.reading.specs.Capture.{Event, eventCount, eventsOf}
 use Rattle.reading.specs.Part.{start}
 use Rattle.reading.specs.Verdict as is
-use Rattle.reading.specs.Answers.{Answer, refused, answered, accepted, settingsIn, verdictIn, judgeAnswer, Report}
+use Rattle.reading.specs.Answers.{Answer, refused, answered, settingsIn, verdictIn, judgeAnswer, Report}
 use Rattle.reading.proofs.Meaning.{Unbroken, BrokenAt, verdict-clean, verdict-broken}
-use Rattle.capture.proofs.Accepted.{accepted-rest, refused-rest}
+use Rattle.capture.specs.Calls.{Accepted}
+use Rattle.capture.proofs.Accepted.{accepted-rest, answered-in}
 use Rattle.judge.specs.declared.Verdict.{Verdict}
 use Rattle.judge.specs.declared.Verdict.the-variants.{Refused, Clean, Broken}
 use Rattle.judge.specs.Meaning.{means}
@@ -42,23 +42,17 @@ pub judged-clean : (capture : List ℕ) (n : ℕ) (r : Verdict) → Judges captu
     r ≡ Clean (eventCount capture) (eventCount capture)
 unfolding judgeAnswer
 judged-clean capture n r a h =
-    one-answer capture r (Clean n n) a (sym h) ∙ ap (λ (k : ℕ). Clean k k) (sym (counted (accepted capture (answered (tt {0}))) refl))
+    one-answer capture r (Clean n n) a (sym h) ∙ ap (λ (k : ℕ). Clean k k) (sym (ap eventsOfAnswer (answered-in capture _ h .1)))
   where
     eventsOfAnswer : Answer Report → ℕ
     eventsOfAnswer (refused number place) = 0
     eventsOfAnswer (answered r) = r .events
 
-    counted : (a : Answer (Unit {0})) → accepted capture (answered tt) ≡ a → eventCount capture ≡ n
-    counted (refused number place) e =
-        let z : _≡_ {A = Answer Report} (refused number place) (answered _) = sym (refused-rest capture _ e) ∙ h in
-        let k : _≡_ {A = ℕ} 0 1 = cc in absurd (omega arith)
-    counted (answered tt) e = ap eventsOfAnswer (sym (accepted-rest capture _ e) ∙ h)
-
 verdictOfAnswer : Answer Report → is.Verdict
 verdictOfAnswer (refused number place) = is.clean
 verdictOfAnswer (answered r) = r .verdict
 
-module _ (capture : List ℕ) (open-to : accepted capture (answered (tt {0})) ≡ answered tt) (r : Verdict) (allowed : Judges capture r) where
+module _ (capture : List ℕ) (open-to : Accepted capture) (r : Verdict) (allowed : Judges capture r) where
   abbrev s : Settings
   s = settingsIn capture
 
