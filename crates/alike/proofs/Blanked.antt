@@ -13,12 +13,13 @@ use Rattle.reading.specs.Words.{wordAt, bytesOf}
 use Rattle.reading.specs.Settings.{Settings}
 use Rattle.reading.specs.Capture.{Event, eventsStart, countIn, eventCount, eventBytes, eventAt, eventsOf, headerWord}
 use Rattle.reading.specs.Schedule.{eventWords}
-use Rattle.reading.specs.Answers.{answered, accepted, settingsIn}
+use Rattle.reading.specs.Answers.{settingsIn}
 use Rattle.reading.specs.Blank.{blankPins, blankEvent, blanked, OnlyAddressesDiffer}
 use Rattle.reading.proofs.Meaning.{eventOf}
 use Rattle.words.proofs.Words.{bytesOf-length, word-of-bytes}
 use Rattle.words.proofs.Counting.{at-count, same-counted}
 use Rattle.words.proofs.Events.{words-length, cycle-word, pins-word}
+use Rattle.capture.specs.Calls.{Accepted}
 use Rattle.capture.proofs.Accepted.{Sound, length-count, accepted-sound, cycle-fits}
 use Rattle.alike.proofs.Pins.{above-blank, alike-blank, blank-alike, blanked-alike}
 use Rattle.alike.proofs.Captures.{same-count, same-settings, same-events}
@@ -50,7 +51,7 @@ module _ (a b : List ℕ) (k : OnlyAddressesDiffer a b) where
 
 -- ---- a capture that is accepted
 
-module _ (c : List ℕ) (open-to : accepted c (answered (tt {0})) ≡ answered tt) where
+module _ (c : List ℕ) (open-to : Accepted c) where
   abbrev s : Settings
   s = settingsIn c
 
@@ -145,7 +146,7 @@ module _ (c : List ℕ) (open-to : accepted c (answered (tt {0})) ≡ answered t
 
 -- ---- two captures that are accepted and blanked to the same bytes
 
-module _ (a b : List ℕ) (open-a : accepted a (answered (tt {0})) ≡ answered tt) (open-b : accepted b (answered (tt {0})) ≡ answered tt)
+module _ (a b : List ℕ) (open-a : Accepted a) (open-b : Accepted b)
     (e : blanked a ≡ blanked b) where
   -- what is the same of a capture and of itself blanked is the same of both
   both-same : {A : Type 0} (f : List ℕ → A) → f a ≡ f (blanked a) → f b ≡ f (blanked b) → f a ≡ f b

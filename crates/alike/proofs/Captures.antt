@@ -12,16 +12,15 @@ use Rattle.reading.specs.Words.{wordAt}
 use Rattle.reading.specs.Settings.{Settings, settingsOf, inEdition, badSetting}
 use Rattle.reading.specs.Capture.{settingsStart, eventsStart, captureSize, mostEvents, newestEdition, headerWord, countIn, eventCount, editionIn, settingWords, eventBytes, eventAt, eventsOf, lengthFits, headerFits, pinLimit, lastCycle, eventFits, badEvent}
 use Rattle.reading.specs.Verdict.{Verdict, verdictOf, judgedOf}
-use Rattle.reading.specs.Answers.{Answer, Report, refused, answered, unless, accepted, settingsIn, verdictIn, judgeAnswer}
+use Rattle.reading.specs.Answers.{Answer, Report, answered, unless, accepted, settingsIn, verdictIn, judgeAnswer}
 use Rattle.reading.specs.Blank.{above, OnlyAddressesDiffer}
 use Rattle.words.proofs.Words.{word-take}
 use Rattle.words.proofs.Counting.{same-counted, same-lowest}
 use Rattle.settings.specs.Meaning.{held}
-use Rattle.settings.specs.declared.Checked.the-variants as checked
-use Rattle.capture.proofs.Accepted.{held-in, count-range, cycle-fits, cycle-rises, refused-rest}
+use Rattle.capture.specs.Calls.{Accepted}
+use Rattle.capture.proofs.Accepted.{count-range, cycle-fits, cycle-rises, accepted-alike}
+use Rattle.capture.proofs.Opened.{Opened, opens}
 use Rattle.bridge.specs.Summary.{Timed}
-use Rattle.judge.specs.Meaning.{Fit}
-use Rattle.judge.proofs.Judging as judging
 use Rattle.alike.proofs.Pins.{alike-above}
 use Rattle.alike.proofs.Walking.{Pairs, done, next, same-verdict}
 
@@ -112,27 +111,27 @@ module _ (a b : List ℕ) (k : OnlyAddressesDiffer a b) where
 
   -- ---- judged, where they are accepted
 
-  module _ (open-to : accepted a (answered (tt {0})) ≡ answered tt) where
+  module _ (open-to : Accepted a) where
     abbrev s : Settings
     s = settingsIn a
 
-    fit : Fit (held (editionIn a) (settingWords a)) (eventBytes a) (eventCount a)
-    fit = judging.fit a checked.Fine (sym open-to) refl refl refl refl
+    fit : Opened a (held (editionIn a) (settingWords a)) (eventCount a) (eventBytes a)
+    fit = opens a open-to refl refl refl
 
     wide : s .rowBits < 32
-    wide = subst (λ (x : Settings). x .rowBits < 32) (held-in a) (fit .rows)
+    wide = subst (λ (x : Settings). x .rowBits < 32) (fit .settings-are) (omega (arith, fit .rows))
 
     timed : (i : ℕ) → i < eventCount a → Timed s (eventAt (eventBytes a) i .cycle)
     timed i l =
         record {
-          early = omega (arith, cycle-fits (eventBytes a) i (fit .events i l));
-          ticks = subst (λ (x : Settings). 0 < x .tREFI) (held-in a) (fit .ticks);
+          early = omega (arith, cycle-fits (eventBytes a) i (fit .rise i l));
+          ticks = subst (λ (x : Settings). 0 < x .tREFI) (fit .settings-are) (fit .ticks);
         }
 
     rises : (i : ℕ) → suc i < eventCount a → suc (eventAt (eventBytes a) i .cycle) ≤ eventAt (eventBytes a) (suc i) .cycle
     rises i l =
         let e : suc i - 1 ≡ i = omega arith in
-        rw e at (cycle-rises (eventBytes a) (suc i) (fit .events (suc i) l) (omega arith))
+        rw e at (cycle-rises (eventBytes a) (suc i) (fit .rise (suc i) l) (omega arith))
 
     -- n events from event i on
     pairs : (n i from : ℕ) → i + n ≤ eventCount a → (0 < n → from ≤ eventAt (eventBytes a) i .cycle) →
@@ -159,8 +158,5 @@ module _ (a b : List ℕ) (k : OnlyAddressesDiffer a b) where
   -- The judge's whole answer is the same: refusal and place, or verdict, rule, event, cycle and judged count.
   pub judged-alike : judgeAnswer a ≡ judgeAnswer b
   unfolding judgeAnswer
-  judged-alike = go (accepted a (answered (tt {0}))) refl ∙ same-accepted (report (eventCount b) (verdictIn b))
-    where
-      go : (x : Answer (Unit {0})) → accepted a (answered tt) ≡ x → accepted a (report (eventCount a) (verdictIn a)) ≡ accepted a (report (eventCount b) (verdictIn b))
-      go (refused number place) e = refused-rest a _ e ∙ sym (refused-rest a _ e)
-      go (answered tt) e = ap (accepted a) (λ i. report (same-events i) (verdict-alike e i))
+  judged-alike =
+      accepted-alike a _ _ (λ open-to. λ i. report (same-events i) (verdict-alike open-to i)) ∙ same-accepted (report (eventCount b) (verdictIn b))

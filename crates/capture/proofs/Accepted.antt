@@ -2,7 +2,8 @@
 use Prim.Native.Nat.{ℕ, zero, suc, _+_, _-_, _*_, _≤_, _<_}
 use mathlib.Core.Bool.{Bool, true, false, cond, not, _&&_, _||_}
 use mathlib.Core.List.{List}
-use mathlib.Core.Option.{Option, none, some}
+use mathlib.Core.Logic.{_⊎_, inl, inr}
+use mathlib.Core.Option.{none}
 use mathlib.Core.Path.{_≡_, refl, sym, ap, _∙_}
 use native.Mathlib.Decide.{decLt}
 use native.Mathlib.Omega.{arith}
@@ -19,20 +20,13 @@ use Rattle.words.proofs.Search.{none-below}
 use Rattle.settings.specs.Meaning.{held}
 use Rattle.settings.proofs.Padded.{held-settings}
 use Rattle.settings.proofs.Fitting.{in-range, each-in-range}
+use Rattle.capture.specs.Calls.{opened, Accepted}
+use Rattle.capture.proofs.Outcome.{not-refused, passed, follow, follow-unless, follows-refused, follows-answered, follow-refused, follow-answered}
 
 -- ---- whatever follows: refused alike, or answered by what follows
 
-abbrev pub follow : {A : Type 0} → Answer (Unit {0}) → Answer A → Answer A
-follow (refused number place) rest = refused number place
-follow (answered u) rest = rest
-
-follow-unless : {A : Type 0} (number : ℕ) (o : Option ℕ) (a : Answer (Unit {0})) (rest : Answer A) →
-    unless number o (follow a rest) ≡ follow (unless number o a) rest
-follow-unless number none a rest = refl
-follow-unless number (some place) a rest = refl
-
 pub followed : {A : Type 0} (capture : List ℕ) (rest : Answer A) →
-    accepted capture rest ≡ follow (accepted capture (answered (tt {0}))) rest
+    accepted capture rest ≡ follow (opened capture) rest
 unfolding accepted
 followed {A} capture rest =
     let o1 = given 0 (not (lengthFits capture)) in
@@ -48,11 +42,35 @@ followed {A} capture rest =
     ∙ follow-unless 1 o1 a2 rest
 
 module _ {A : Type 0} (capture : List ℕ) (rest : Answer A) where
-  pub accepted-rest : accepted capture (answered (tt {0})) ≡ answered tt → accepted capture rest ≡ rest
-  accepted-rest h = followed capture rest ∙ ap (λ (a : Answer (Unit {0})). follow a rest) h
+  pub accepted-rest : Accepted capture → accepted capture rest ≡ rest
+  accepted-rest h = followed capture rest ∙ follows-answered rest h
 
-  pub refused-rest : {number place : ℕ} → accepted capture (answered (tt {0})) ≡ refused number place → accepted capture rest ≡ refused number place
-  refused-rest h = followed capture rest ∙ ap (λ (a : Answer (Unit {0})). follow a rest) h
+  pub refused-rest : {number place : ℕ} → opened capture ≡ refused number place → accepted capture rest ≡ refused number place
+  refused-rest h = followed capture rest ∙ follows-refused rest h
+
+  -- and back
+  pub refused-in : {number place : ℕ} → accepted capture rest ≡ refused number place →
+      (opened capture ≡ refused number place) ⊎ (Accepted capture × (rest ≡ refused number place))
+  refused-in e = follow-refused (opened capture) rest (sym (followed capture rest) ∙ e)
+
+  -- an answer is refused where opening is
+  pub refused-only : {x : A} {number place : ℕ} → rest ≡ answered x → accepted capture rest ≡ refused number place → opened capture ≡ refused number place
+  refused-only {x} {number} {place} is e = go (refused-in e)
+    where
+      go : (opened capture ≡ refused number place) ⊎ (Accepted capture × (rest ≡ refused number place)) → opened capture ≡ refused number place
+      go (inl h) = h
+      go (inr h) = not-refused (sym is ∙ h .1)
+
+  pub answered-in : {x : A} → accepted capture rest ≡ answered x → Accepted capture × (rest ≡ answered x)
+  answered-in e = follow-answered (opened capture) rest (sym (followed capture rest) ∙ e)
+
+-- what follows is asked only where a capture is accepted
+pub accepted-alike : {A : Type 0} (capture : List ℕ) (x y : Answer A) → (Accepted capture → x ≡ y) → accepted capture x ≡ accepted capture y
+accepted-alike capture x y same = go (opened capture) refl
+  where
+    go : (o : Answer (Unit {0})) → opened capture ≡ o → accepted capture x ≡ accepted capture y
+    go (refused number place) h = refused-rest capture x h ∙ sym (refused-rest capture y h)
+    go (answered tt) h = ap (accepted capture) (same h)
 
 -- ---- accepted: all fits
 
@@ -62,18 +80,10 @@ pub record Sized (capture : List ℕ) : Type 0 where
 
 pub record Sound (capture : List ℕ) : Type 0 where
   pub sized : Sized capture
+  pub fine : badSetting (settingWords capture) ≡ none
   pub settings : (i : ℕ) → i < countIn capture → settingFits i (getD (settingWords capture) i 0) ≡ true
   pub events : (i : ℕ) → i < eventCount capture → cycleFits (eventBytes capture) i ≡ true
   pub pins : (i : ℕ) → i < eventCount capture → eventAt (eventBytes capture) i .pins < pinLimit capture
-
-nothing-wrong : (o1 o2 o3 o4 : Option ℕ) →
-    unless 1 o1 (unless 2 o2 (unless 3 o3 (unless 4 o4 (answered (tt {0}))))) ≡ answered tt →
-    (o1 ≡ none) × (o2 ≡ none) × (o3 ≡ none) × (o4 ≡ none)
-nothing-wrong none none none none h = (refl, refl, refl, refl)
-nothing-wrong none none none (some p) h = let z : _≡_ {A = ℕ} 0 1 = cc in absurd (omega arith)
-nothing-wrong none none (some p) o4 h = let z : _≡_ {A = ℕ} 0 1 = cc in absurd (omega arith)
-nothing-wrong none (some p) o3 o4 h = let z : _≡_ {A = ℕ} 0 1 = cc in absurd (omega arith)
-nothing-wrong (some p) o2 o3 o4 h = let z : _≡_ {A = ℕ} 0 1 = cc in absurd (omega arith)
 
 third-and-last : (a b c d e f : Bool) → (a && b && c && d && e && f) ≡ true → (c ≡ true) × (f ≡ true)
 third-and-last a b c d e f h =
@@ -133,18 +143,20 @@ module _ (capture : List ℕ) where
   pub held-in : settingsOf (held (editionIn capture) (settingWords capture)) ≡ settingsIn capture
   held-in = held-settings (settingWords capture) (editionIn capture) (omega (arith, words-count, count-range .1))
 
-  pub accepted-sound : accepted capture (answered (tt {0})) ≡ answered tt → Sound capture
+  pub accepted-sound : Accepted capture → Sound capture
   unfolding accepted badEvent eventFits
   accepted-sound h =
       let limit = pinLimit capture in
-      let clear =
-      nothing-wrong (given 0 (not (lengthFits capture))) (given 0 (not (headerFits capture))) (badSetting (settingWords capture))
-      (badEvent limit (eventBytes capture) (eventCount capture)) h in
-      let ranges = each-in-range (settingWords capture) (clear .2) in
+      let (one, after-one) = passed 1 (given 0 (not (lengthFits capture))) _ h in
+      let (two, after-two) = passed 2 (given 0 (not (headerFits capture))) _ after-one in
+      let (three, after-three) = passed 3 (badSetting (settingWords capture)) _ after-two in
+      let (four, after-four) = passed 4 (badEvent limit (eventBytes capture) (eventCount capture)) _ after-three in
+      let ranges = each-in-range (settingWords capture) three in
       let fits : (i : ℕ) → i < eventCount capture → eventFits limit (eventBytes capture) i ≡ true =
-      λ i l. not-false _ (none-below (λ j. not (eventFits limit (eventBytes capture) j)) (eventCount capture) (clear .3) i l) in
+      λ i l. not-false _ (none-below (λ j. not (eventFits limit (eventBytes capture) j)) (eventCount capture) four i l) in
       record {
-        sized = sized (not-false _ (not-given 0 _ (clear .0))) (not-false _ (not-given 0 _ (clear .1)));
+        sized = sized (not-false _ (not-given 0 _ one)) (not-false _ (not-given 0 _ two));
+        fine = three;
         settings = λ i l. in-range (settingWords capture) (length (settingWords capture)) ranges i (omega (arith, words-count));
         events = λ i l. both (ltb (eventAt (eventBytes capture) i .pins) limit) _ (fits i l) .1;
         pins = λ i l. ltb-true _ _ (both (ltb (eventAt (eventBytes capture) i .pins) limit) _ (fits i l) .0);

@@ -1,18 +1,17 @@
 -- Captures that differ only in addresses, and what `blanks::blank` writes: about whatever the contracts allow.
 use Prim.Native.Nat.{ℕ, _+_, _*_, _<_}
-use mathlib.Core.Bool.{Bool, true, false}
-use mathlib.Core.List.{List, _++_}
-use mathlib.Core.Logic.{_↔_}
-use mathlib.Core.Path.{_≡_, refl, sym, ap, _∙_, subst}
+use mathlib.Core.Bool.{false}
+use mathlib.Core.List.{List}
+use mathlib.Core.Logic.{_↔_, _⊎_, inl, inr}
+use mathlib.Core.Path.{_≡_, sym, ap, _∙_, subst}
 use native.Mathlib.Omega.{arith}
-use lib.Dec.{ltb}
 use lib.ListN.{length, getD, take, drop}
-use lib.Seq.{take-at, drop-at}
-use Rattle.reading.specs.Search.{given}
 use Rattle.reading.specs.Capture.{eventsStart, countIn, eventCount, eventBytes, eventAt}
-use Rattle.reading.specs.Answers.{Answer, refused, answered, unless, accepted, settingsIn, fitting, leaves}
+use Rattle.reading.specs.Answers.{Answer, refused, answered, accepted, settingsIn, fitting}
 use Rattle.reading.specs.Blank.{namesColumn, namesRow, OnlyAddressesDiffer, blanked, blankOutcome}
-use Rattle.capture.proofs.Accepted.{accepted-rest, refused-rest}
+use Rattle.capture.proofs.Outcome as outcome
+use Rattle.capture.proofs.Outcome.{Wrote, too-long, lacking, fits, refused-meets, leaves-refused}
+use Rattle.capture.proofs.Accepted.{accepted-rest, refused-rest, refused-in, answered-in}
 use Rattle.judge.specs.declared.Verdict.{Verdict}
 use Rattle.alike.proofs.Captures.{same-accepted, judged-alike}
 use Rattle.alike.proofs.Pins.{as-made}
@@ -26,7 +25,6 @@ use Rattle.demands.specs.Allowed.{Judges, Blanks}
 use Rattle.demands.specs.Refused.{opened, Accepted, BlankRefused, unopened, scant}
 use Rattle.demands.proofs.Judging.{one-answer}
 use Rattle.demands.proofs.Opening.{capture-refused-exactly}
-use Rattle.demands.proofs.Refusing.{other, leaves-refused, room, too-long}
 
 -- ---- two captures that differ only in addresses
 
@@ -86,29 +84,29 @@ pins-kept capture open-to bytes i l c r =
 -- ---- what `blank` answers and leaves
 
 module _ (capture out : List ℕ) where
-  answers : {x : Answer (List ℕ)} → accepted capture (fitting out (blanked capture)) ≡ x → blankOutcome capture out ≡ leaves x out
-  unfolding blankOutcome
-  answers e = ap (λ (x : Answer (List ℕ)). leaves x out) e
+  abbrev rest : Answer (List ℕ)
+  rest = fitting out (blanked capture)
 
   -- Refused exactly in the cases that are written out in specs/Refused, with their place.
   case-of : (number place : ℕ) → blankOutcome capture out .answer ≡ refused number place → BlankRefused capture out number place
-  case-of number place k = go (opened capture) refl
+  unfolding blankOutcome
+  case-of number place k = go (refused-in capture rest (leaves-refused (accepted capture rest) out k .0))
     where
-      go : (x : Answer (Unit {0})) → opened capture ≡ x → BlankRefused capture out number place
-      go (refused n p) h =
-          let so : _≡_ {A = Answer ℕ} (refused n p) (refused number place) = sym (ap (λ o. o .answer) (answers (refused-rest capture _ h))) ∙ k in
-          let e : n ≡ number = cc in
-          let f : p ≡ place = cc in
-          unopened (capture-refused-exactly capture number place .0 (h ∙ (λ i. refused (e i) (f i))))
-      go (answered tt) h =
-          let (n, p, l) = room out (blanked capture) number place (sym (ap (λ o. o .answer) (answers (accepted-rest capture _ h))) ∙ k) in
+      go : (opened capture ≡ refused number place) ⊎ (Accepted capture × (rest ≡ refused number place)) → BlankRefused capture out number place
+      go (inl h) = unopened (capture-refused-exactly capture number place .0 h)
+      go (inr (h, e)) =
+          let (n, p, l) = lacking out (blanked capture) e in
           scant h n (p ∙ sym (blanked-length capture h)) (rw p l)
 
   of-case : (number place : ℕ) → BlankRefused capture out number place → blankOutcome capture out .answer ≡ refused number place
-  of-case number place (unopened c) = ap (λ o. o .answer) (answers (refused-rest capture _ (capture-refused-exactly capture number place .1 c)))
+  unfolding blankOutcome
+  of-case number place (unopened c) = sym (refused-meets (refused-rest capture rest (capture-refused-exactly capture number place .1 c)) .0)
   of-case number place (scant h n p l) =
-      ap (λ o. o .answer) (answers (accepted-rest capture _ h)) ∙ too-long out (blanked capture) (omega (arith, p, l, blanked-length capture h))
-      ∙ (λ i. refused (sym n i) ((sym (blanked-length capture h) ∙ sym p) i))
+      sym
+      (refused-meets
+      (accepted-rest capture rest h ∙ too-long out (blanked capture) (omega (arith, p, l, blanked-length capture h))
+      ∙ (λ i. refused (sym n i) ((sym (blanked-length capture h) ∙ sym p) i)))
+      .0)
 
 pub blank-refused-exactly : (capture out : List ℕ) (r : Blanked) (left : List ℕ) → Blanks capture out r left → (number place : ℕ) →
     r ≡ Refused number place ↔ BlankRefused capture out number place
@@ -121,50 +119,38 @@ blank-refused-exactly capture out r left a number place = (
 pub blank-refused : (capture out left : List ℕ) (number place : ℕ) → Blanks capture out (Refused number place) left → left ≡ out
 unfolding blankOutcome
 blank-refused capture out left number place a =
-    a .1 ∙ leaves-refused (accepted capture (fitting out (blanked capture))) out number place (sym (a .0))
+    a .1 ∙ leaves-refused (accepted capture (fitting out (blanked capture))) out (sym (a .0)) .1
 
 -- ---- what `blank` wrote
 
-record Wrote (capture out left : List ℕ) (n : ℕ) : Type 0 where
-  open-to : Accepted capture
-  count : n ≡ length (blanked capture)
-  whole : left ≡ blanked capture ++ drop n out
-
 module _ (capture out left : List ℕ) (n : ℕ) (a : Blanks capture out (Written n) left) where
-  wrote : Wrote capture out left n
-  wrote = go (opened capture) refl
-    where
-      fitted : Accepted capture → (v : Bool) → ltb (length out) (length (blanked capture)) ≡ v →
-          blankOutcome capture out ≡ leaves (unless 7 (given (length (blanked capture)) v) (answered (blanked capture))) out → Wrote capture out left n
-      fitted h true e k = other (a .0 ∙ ap (λ o. o .answer) k)
-      fitted h false e k =
-          let so : _≡_ {A = Answer ℕ} (answered n) (answered (length (blanked capture))) = a .0 ∙ ap (λ o. o .answer) k in
-          let same : n ≡ length (blanked capture) = cc in
-          record {
-            open-to = h;
-            count = same;
-            whole = a .1 ∙ ap (λ o. o .buffer) k ∙ ap (λ (i : ℕ). blanked capture ++ drop i out) (sym same);
-          }
+  abbrev answer : Answer (List ℕ)
+  answer = accepted capture (fitting out (blanked capture))
 
-      go : (x : Answer (Unit {0})) → opened capture ≡ x → Wrote capture out left n
-      go (refused number place) h = other (a .0 ∙ ap (λ o. o .answer) (answers capture out (refused-rest capture _ h)))
-      go (answered tt) h =
-          fitted h (ltb (length out) (length (blanked capture))) refl (answers capture out (accepted-rest capture _ h))
+  wrote : Wrote answer out n
+  unfolding blankOutcome
+  wrote = outcome.wrote answer out (sym (a .0))
+
+  is-blanked : Accepted capture × (blanked capture ≡ wrote .list)
+  is-blanked =
+      let (h, e) = answered-in capture _ (wrote .is) in
+      (h, fits out (blanked capture) e .0)
 
 -- The capture was accepted, and its bytes, blanked, are what stands at the front of the buffer; bytes behind them stay.
 pub written-opened : (capture out left : List ℕ) (n : ℕ) → Blanks capture out (Written n) left → Accepted capture
-written-opened capture out left n a = wrote capture out left n a .open-to
+written-opened capture out left n a = is-blanked capture out left n a .0
 
 pub written-is : (capture out left : List ℕ) (n : ℕ) → Blanks capture out (Written n) left → take n left ≡ blanked capture
-written-is capture out left n a =
-    let w = wrote capture out left n a in ap (take n) (w .whole) ∙ take-at (blanked capture) (drop n out) n (sym (w .count))
+unfolding blankOutcome
+written-is capture out left n a = ap (take n) (a .1) ∙ wrote capture out left n a .front ∙ sym (is-blanked capture out left n a .1)
 
 pub written-long : (capture out left : List ℕ) (n : ℕ) → Blanks capture out (Written n) left → n ≡ length capture
-written-long capture out left n a = let w = wrote capture out left n a in w .count ∙ sym (blanked-length capture (w .open-to))
+written-long capture out left n a =
+    let (h, e) = is-blanked capture out left n a in wrote capture out left n a .count ∙ sym (ap length e) ∙ sym (blanked-length capture h)
 
 pub behind-stays : (capture out left : List ℕ) (n : ℕ) → Blanks capture out (Written n) left → drop n left ≡ drop n out
-behind-stays capture out left n a =
-    let w = wrote capture out left n a in ap (drop n) (w .whole) ∙ drop-at (blanked capture) (drop n out) n (sym (w .count))
+unfolding blankOutcome
+behind-stays capture out left n a = ap (drop n) (a .1) ∙ wrote capture out left n a .behind
 
 -- What was written is accepted, differs only in addresses from what was given, and so is judged alike.
 pub written-accepted : (capture out left : List ℕ) (n : ℕ) → Blanks capture out (Written n) left → Accepted (take n left)

@@ -19,7 +19,8 @@ use Rattle.reading.specs.Verdict as is
 use Rattle.reading.specs.Answers.{Answer, refused, answered, accepted, settingsIn, verdictIn, judgeAnswer, Report}
 use Rattle.reading.proofs.Meaning.{eventOf, partBefore, verdict-clean, verdict-broken}
 use Rattle.words.proofs.Counting.{at-count}
-use Rattle.capture.proofs.Accepted.{accepted-rest, refused-rest, accepted-sound, length-count}
+use Rattle.capture.specs.Calls.{Accepted}
+use Rattle.capture.proofs.Accepted.{accepted-rest, answered-in, refused-rest, accepted-sound, length-count}
 use Rattle.plan.proofs.Awake.{cke-high, awake-allowed, awake-stays}
 use Rattle.judge.specs.declared.Verdict.{Verdict}
 use Rattle.judge.specs.declared.Verdict.the-variants as said
@@ -52,17 +53,11 @@ pub judged-clean : (capture : List ℕ) (n : ℕ) (r : Verdict) → Judges captu
     r ≡ said.Clean (eventCount capture) (eventCount capture)
 unfolding judgeAnswer
 judged-clean capture n r a h =
-    one-answer capture r (said.Clean n n) a (sym h) ∙ ap (λ (k : ℕ). said.Clean k k) (sym (counted (accepted capture (answered (tt {0}))) refl))
+    one-answer capture r (said.Clean n n) a (sym h) ∙ ap (λ (k : ℕ). said.Clean k k) (sym (ap eventsOfAnswer (answered-in capture _ h .1)))
   where
     eventsOfAnswer : Answer Report → ℕ
     eventsOfAnswer (refused number place) = 0
     eventsOfAnswer (answered r) = r .events
-
-    counted : (a : Answer (Unit {0})) → accepted capture (answered tt) ≡ a → eventCount capture ≡ n
-    counted (refused number place) e =
-        let z : _≡_ {A = Answer Report} (refused number place) (answered _) = sym (refused-rest capture _ e) ∙ h in
-        let k : _≡_ {A = ℕ} 0 1 = cc in absurd (omega arith)
-    counted (answered tt) e = ap eventsOfAnswer (sym (accepted-rest capture _ e) ∙ h)
 
 verdictOfAnswer : Answer Report → is.Verdict
 verdictOfAnswer (refused number place) = is.clean

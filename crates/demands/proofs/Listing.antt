@@ -1,12 +1,9 @@
 -- Demand 2, for `cells::burst_cells`: the cells of every burst of a clean capture, and their order.
 use Prim.Native.Nat.{ℕ, _+_, _*_, _/_, _%_, _≤_, _<_}
-use mathlib.Core.Bool.{false}
 use mathlib.Core.List.{List, [], _∷_, _++_, append-assoc}
 use mathlib.Core.Path.{_≡_, refl, sym, ap, _∙_}
 use native.Mathlib.Nat.{zero-add}
 use native.Mathlib.Omega.{arith}
-use borrow.Author.Tests.{le-ltb}
-use lib.Dec.{ltb}
 use lib.ListN.{length, getD, drop, List·getD-append}
 use lib.Seq.{getD-append-add}
 use Rattle.reading.specs.Settings.{Settings}
@@ -18,6 +15,7 @@ use Rattle.reading.specs.Answers.{Answer, Outcome, answered, unless, settingsIn
 use Rattle.reading.proofs.Meaning.{verdict-clean}
 use Rattle.reading.proofs.Tables.{tableRow, row-published}
 use Rattle.reading.proofs.Beats.{cells-append}
+use Rattle.capture.proofs.Outcome as outcomes
 use Rattle.capture.proofs.Accepted.{accepted-rest}
 use Rattle.cells.specs.declared.Listed.{Listed}
 use Rattle.cells.specs.declared.Listed.the-variants as listed
@@ -60,8 +58,8 @@ module _ (capture out : List ℕ) (accepted : Accepted capture) (clean : Clean c
   unfolding cellsOutcome verdictIn
   outcome =
       let no-break : notClean (verdictIn capture) ≡ _ = ap notClean (verdict-clean (settingsIn capture) (eventsOf capture) .1 clean) in
-      let fits : ltb (length out) (length (cellsIn capture)) ≡ false = le-ltb (length out) (length (cellsIn capture)) room in
-      let answer : unless 8 (notClean (verdictIn capture)) (fitting out (cellsIn capture)) ≡ answered (cellsIn capture) = rw (no-break, fits) in
+      let answer : unless 8 (notClean (verdictIn capture)) (fitting out (cellsIn capture)) ≡ answered (cellsIn capture) =
+      rw no-break (outcomes.room out (cellsIn capture) room) in
       ap (λ (a : Answer (List ℕ)). leaves a out) (accepted-rest capture _ accepted ∙ answer)
 
 -- A clean capture, with room for its cells: as many are written as there are kept beats.

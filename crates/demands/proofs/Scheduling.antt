@@ -2,12 +2,11 @@
 use Prim.Native.Nat.{ℕ, suc, _+_, _*_, _≤_}
 use mathlib.Core.Bool.{Bool, true, false, cond, not}
 use mathlib.Core.List.{List, [], _∷_, _++_, append-nil, append-assoc}
-use mathlib.Core.Option.{Option, none, some}
+use mathlib.Core.Option.{none}
 use mathlib.Core.Path.{_≡_, refl, sym, ap, _∙_}
 use native.Mathlib.Omega.{arith}
-use lib.Dec.{ltb, eqb}
+use lib.Dec.{eqb}
 use lib.ListN.{length, getD, take, drop, length-append}
-use lib.Seq.{take-append-seam, drop-append-seam}
 use borrow.Author.Tests.{eqb-true, not-false}
 use Rattle.reading.specs.Search.{given, every}
 use Rattle.reading.specs.Mode.{BL}
@@ -19,8 +18,9 @@ use Rattle.reading.specs.Cells.{burstsOf}
 use Rattle.reading.specs.Rules.{placing}
 use Rattle.reading.specs.Schedule.{Schedule, planned, late, activePins, burstPins, refreshPins, whenServed, policyFits, badRequest, scheduleOf, captureOf}
 use Rattle.reading.specs.Memory.{Run, play, replayBursts, replay, requested, plain}
-use Rattle.reading.specs.Answers.{Answer, refused, answered, unless, leaves, fitting, whenPlanned, settingsIn, judgeAnswer, scheduleOutcome}
+use Rattle.reading.specs.Answers.{Answer, answered, leaves, fitting, whenPlanned, settingsIn, judgeAnswer, scheduleOutcome}
 use Rattle.reading.proofs.Laws.{not-given}
+use Rattle.capture.proofs.Outcome.{Wrote, not-answered, passed, fits, wrote}
 use Rattle.judge.specs.declared.Verdict.{Verdict}
 use Rattle.judge.specs.declared.Verdict.the-variants.{Clean}
 use Rattle.schedule.specs.declared.Scheduled.the-variants as said
@@ -143,45 +143,32 @@ record Written (ws qs : List ℕ) (policy : ℕ) (out : List ℕ) (n : ℕ) : Ty
   pub bytes : take n (scheduleOutcome ws qs policy out .buffer) ≡ captureOf ws events
   pub behind : drop n (scheduleOutcome ws qs policy out .buffer) ≡ drop n out
 
-unrefused : {B : Type 0} {number place n : ℕ} → _≡_ {A = Answer ℕ} (refused number place) (answered n) → B
-unrefused e = let z : _≡_ {A = ℕ} 0 1 = cc in absurd (omega arith)
-
 module _ (ws qs : List ℕ) (policy : ℕ) (out : List ℕ) (n : ℕ) (e : scheduleOutcome ws qs policy out .answer ≡ answered n) where
-  -- the schedule fits the buffer
-  fits : (es : List Event) → length ws ≡ 14 → badSetting ws ≡ none → badRequest (settingsOf ws) qs ≡ none → scheduleOf (settingsOf ws) policy qs ≡ planned es →
-      (v : Bool) →
-      leaves (unless 7 (given (length (captureOf ws es)) v) (answered (captureOf ws es))) out ≡ scheduleOutcome ws qs policy out → Written ws qs policy out n
-  fits es l b r s true h = unrefused (ap (λ o. o .answer) h ∙ e)
-  fits es l b r s false h =
-      let k : _≡_ {A = Answer ℕ} (answered (length (captureOf ws es))) (answered n) = ap (λ o. o .answer) h ∙ e in
-      let m : length (captureOf ws es) ≡ n = cc in
-      record {
-        events = es;
-        fourteen = l;
-        settings = b;
-        requests = r;
-        schedule = s;
-        bytes = rw (← m, ← h) (take-append-seam (captureOf ws es) (drop (length (captureOf ws es)) out));
-        behind = rw (← m, ← h) (drop-append-seam (captureOf ws es) (drop (length (captureOf ws es)) out));
-      }
-
-  -- no refusal applied
-  go : (a b d c : Option ℕ) (x : Schedule) → given 0 (not (eqb (length ws) 14)) ≡ a → badSetting ws ≡ b → badRequest (settingsOf ws) qs ≡ c →
-      scheduleOf (settingsOf ws) policy qs ≡ x →
-      leaves (unless 2 a (unless 3 b (unless 10 d (unless 5 c (whenPlanned x (λ es. fitting out (captureOf ws es))))))) out ≡ scheduleOutcome ws qs policy out → Written ws qs policy out n
-  go (some i) b d c x p q r s h = unrefused (ap (λ o. o .answer) h ∙ e)
-  go none (some i) d c x p q r s h = unrefused (ap (λ o. o .answer) h ∙ e)
-  go none none (some i) c x p q r s h = unrefused (ap (λ o. o .answer) h ∙ e)
-  go none none none (some i) x p q r s h = unrefused (ap (λ o. o .answer) h ∙ e)
-  go none none none none (late i) p q r s h = unrefused (ap (λ o. o .answer) h ∙ e)
-  go none none none none (planned es) p q r s h =
-      fits es (eqb-true (length ws) 14 (not-false (eqb (length ws) 14) (not-given 0 _ p))) q r s (ltb (length out) (length (captureOf ws es))) h
-
   written : Written ws qs policy out n
   unfolding scheduleOutcome
   written =
-      go (given 0 (not (eqb (length ws) 14))) (badSetting ws) (given 0 (not (policyFits policy))) (badRequest (settingsOf ws) qs)
-      (scheduleOf (settingsOf ws) policy qs) refl refl refl refl refl
+      let w = wrote _ out e in
+      let (count, rest-2) = passed 2 (given 0 (not (eqb (length ws) 14))) _ (w .is) in
+      let (each, rest-3) = passed 3 (badSetting ws) _ rest-2 in
+      let (known, rest-10) = passed 10 (given 0 (not (policyFits policy))) _ rest-3 in
+      let (asked, rest-5) = passed 5 (badRequest (settingsOf ws) qs) _ rest-10 in
+      let l : length ws ≡ 14 = eqb-true (length ws) 14 (not-false (eqb (length ws) 14) (not-given _ count)) in
+      go l each asked w (scheduleOf (settingsOf ws) policy qs) refl rest-5 refl
+    where
+      go : {x : Answer (List ℕ)} → length ws ≡ 14 → badSetting ws ≡ none → badRequest (settingsOf ws) qs ≡ none → (w : Wrote x out n) →
+          (p : Schedule) → scheduleOf (settingsOf ws) policy qs ≡ p → whenPlanned p (λ es. fitting out (captureOf ws es)) ≡ answered (w .list) →
+          leaves x out .buffer ≡ scheduleOutcome ws qs policy out .buffer → Written ws qs policy out n
+      go l b r w (late i) s h f = not-answered h
+      go l b r w (planned es) s h f =
+          record {
+            events = es;
+            fourteen = l;
+            settings = b;
+            requests = r;
+            schedule = s;
+            bytes = ap (take n) (sym f) ∙ w .front ∙ sym (fits out (captureOf ws es) h .0);
+            behind = ap (drop n) (sym f) ∙ w .behind;
+          }
 
   abbrev capture : List ℕ
   capture = take n (scheduleOutcome ws qs policy out .buffer)

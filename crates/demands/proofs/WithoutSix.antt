@@ -11,13 +11,15 @@ use lib.ListN.{length}
 use borrow.Author.Tests.{eqb-true, ltb-false, not-false}
 use Rattle.reading.specs.Search.{given, orElse}
 use Rattle.reading.specs.Settings.{Settings, settingsCount, settingsOf, outOfRange, Consistent, badSetting}
-use Rattle.reading.specs.Capture.{Event, eventCount, eventsOf, eventBytes, settingWords, lengthFits, headerFits, pinLimit, badEvent}
+use Rattle.reading.specs.Capture.{Event, eventCount, eventsOf, settingWords}
 use Rattle.reading.specs.Part.{start}
 use Rattle.reading.specs.Rules.{aboveSix, placing, rules, placingWithSix, rulesWithSix}
 use Rattle.reading.specs.Verdict.{Verdict, verdictBy, judgedOf}
 use Rattle.reading.specs.Schedule.{Schedule, policyFits, closesRows, badRequest, scheduleBy, captureOf}
-use Rattle.reading.specs.Answers.{Answer, answered, unless, accepted, settingsIn, notClean, cellsIn, fitting, leaves, whenPlanned, verdictIn, judgeAnswer, cellsOutcome, scheduleOutcome}
+use Rattle.reading.specs.Answers.{Answer, answered, unless, settingsIn, notClean, cellsIn, fitting, leaves, whenPlanned, verdictIn, judgeAnswer, cellsOutcome, scheduleOutcome}
 use Rattle.reading.proofs.Six.{same-judged, start-rest}
+use Rattle.capture.specs.Calls.{Accepted}
+use Rattle.capture.proofs.Accepted.{accepted-sound, accepted-alike}
 use Rattle.plan.proofs.Ranged.{fourteen-old, ranged}
 use Rattle.plan.proofs.Ready.{requests-fit}
 use Rattle.plan.proofs.Captured.{settings-fit}
@@ -45,30 +47,16 @@ pub verdicts-agree : (s : Settings) → Consistent s → (es : List Event) → v
 unfolding verdictBy
 verdicts-agree s fits es = same-judged s fits (aboveSix ++ (14 ∷ 15 ∷ [])) (Memᴰ·append-left (14 ∷ 15 ∷ []) ninth) (start s) (start-rest s) 0 es
 
-accepted-alike : {A : Type 0} (capture : List ℕ) (x y : Answer A) → (badSetting (settingWords capture) ≡ none → x ≡ y) →
-    accepted capture x ≡ accepted capture y
-unfolding accepted
-accepted-alike capture x y same =
-    go (given 0 (not (lengthFits capture))) (given 0 (not (headerFits capture))) (badSetting (settingWords capture))
-    (badEvent (pinLimit capture) (eventBytes capture) (eventCount capture)) same
-  where
-    go : (a b c d : Option ℕ) → (c ≡ none → x ≡ y) → unless 1 a (unless 2 b (unless 3 c (unless 4 d x))) ≡ unless 1 a (unless 2 b (unless 3 c (unless 4 d y)))
-    go (some p) b c d f = refl
-    go none (some p) c d f = refl
-    go none none (some p) d f = refl
-    go none none none (some p) f = refl
-    go none none none none f = f refl
-
-agree : (capture : List ℕ) → badSetting (settingWords capture) ≡ none → verdictInBy rulesWithSix capture ≡ verdictInBy rules capture
-agree capture fine = verdicts-agree (settingsIn capture) (short (settingWords capture) fine) (eventsOf capture)
+agree : (capture : List ℕ) → Accepted capture → verdictInBy rulesWithSix capture ≡ verdictInBy rules capture
+agree capture open-to = verdicts-agree (settingsIn capture) (short (settingWords capture) (accepted-sound capture open-to .fine)) (eventsOf capture)
 
 -- Every byte string gets from the judge the answer that it would get with rule 6.
 pub judge-without-six : (capture : List ℕ) → judgeAnswerBy rulesWithSix capture ≡ judgeAnswer capture
 unfolding judgeAnswer verdictIn
 judge-without-six capture =
     accepted-alike capture _ _
-    (λ fine.
-    ap (λ (v : Verdict). answered (record { events = eventCount capture; judged = judgedOf (eventCount capture) v; verdict = v })) (agree capture fine))
+    (λ open-to.
+    ap (λ (v : Verdict). answered (record { events = eventCount capture; judged = judgedOf (eventCount capture) v; verdict = v })) (agree capture open-to))
 
 -- So does every burst list, in answer and buffer.
 pub cells-without-six : (capture out : List ℕ) → cellsOutcomeBy rulesWithSix capture out ≡ cellsOutcome capture out
@@ -76,7 +64,7 @@ unfolding cellsOutcome verdictIn
 cells-without-six capture out =
     ap (λ (a : Answer (List ℕ)). leaves a out)
     (accepted-alike capture _ _
-    (λ fine. ap (λ (v : Verdict). unless 8 (notClean v) (fitting out (cellsIn capture))) (agree capture fine)))
+    (λ open-to. ap (λ (v : Verdict). unless 8 (notClean v) (fitting out (cellsIn capture))) (agree capture open-to)))
 
 -- ---- schedules
 

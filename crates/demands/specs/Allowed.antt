@@ -4,6 +4,7 @@ use mathlib.Core.List.{List}
 use mathlib.Core.Path.{_≡_}
 use Rattle.reading.specs.Answers.{judgeAnswer, cellsOutcome, scheduleOutcome}
 use Rattle.reading.specs.Blank.{blankOutcome}
+use Rattle.capture.specs.Calls.{Meets}
 use Rattle.judge.specs.declared.Verdict.{Verdict}
 use Rattle.judge.specs.declared.Verdict.the-variants as verdict
 use Rattle.judge.specs.Meaning.{means}
@@ -22,16 +23,15 @@ Judges capture r = means r ≡ judgeAnswer capture
 
 -- by `cells::burst_cells`, lent `out`, which holds `left` afterwards
 abbrev pub Lists : List ℕ → List ℕ → Listed → List ℕ → Type 0
-Lists capture out r left = (cells.means r ≡ cellsOutcome capture out .answer) × (left ≡ cellsOutcome capture out .buffer)
+Lists capture out r left = Meets (cells.means r) left (cellsOutcome capture out)
 
 -- by `schedule::schedule`, lent `out`, which holds `left` afterwards
 abbrev pub Schedules : List ℕ → List ℕ → ℕ → List ℕ → Scheduled → List ℕ → Type 0
-Schedules ws qs policy out r left =
-    (schedule.means r ≡ scheduleOutcome ws qs policy out .answer) × (left ≡ scheduleOutcome ws qs policy out .buffer)
+Schedules ws qs policy out r left = Meets (schedule.means r) left (scheduleOutcome ws qs policy out)
 
 -- by `blanks::blank`, lent `out`, which holds `left` afterwards
 abbrev pub Blanks : List ℕ → List ℕ → Blanked → List ℕ → Type 0
-Blanks capture out r left = (blanks.means r ≡ blankOutcome capture out .answer) × (left ≡ blankOutcome capture out .buffer)
+Blanks capture out r left = Meets (blanks.means r) left (blankOutcome capture out)
 
 -- by every call that is asked about a capture: it is refused so, and what was lent is left as it was
 pub record RefusedByAll (capture : List ℕ) (number place : ℕ) : Type 0 where

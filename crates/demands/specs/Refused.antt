@@ -9,16 +9,12 @@ use Rattle.reading.specs.Settings.{settingsOf, badSetting}
 use Rattle.reading.specs.Capture.{Event, eventsOf}
 use Rattle.reading.specs.Part.{start}
 use Rattle.reading.specs.Schedule.{planned, late, badRequest, scheduleOf, captureOf}
-use Rattle.reading.specs.Answers.{Answer, answered, accepted, settingsIn, cellsIn}
+use Rattle.reading.specs.Answers.{settingsIn, cellsIn}
 use Rattle.reading.proofs.Meaning.{Unbroken, BrokenAt}
 use Rattle.demands.specs.Captures.{CaptureRefused}
 
 -- what refusals 1 to 4 say of a capture, and none of them
-abbrev pub opened : List ℕ → Answer (Unit {0})
-opened capture = accepted capture (answered tt)
-
-abbrev pub Accepted : List ℕ → Type 0
-Accepted capture = opened capture ≡ answered tt
+pub use Rattle.capture.specs.Calls.{opened, Accepted}
 
 -- every event, after the events before it, breaks no rule
 abbrev pub Clean : List ℕ → Type 0

@@ -25,7 +25,8 @@ use Rattle.reading.specs.Blank.{blanked, blankOutcome}
 use Rattle.reading.proofs.Meaning.{BrokenAt, verdict-broken}
 use Rattle.reading.proofs.Cuts.{All, nil, cons, Whole, bursts-whole}
 use Rattle.reading.proofs.Laws.{not-given}
-use Rattle.capture.proofs.Accepted.{sized, count-range, words-count, accepted-sound, accepted-rest, refused-rest}
+use Rattle.capture.specs.Calls.{Accepted}
+use Rattle.capture.proofs.Accepted.{sized, count-range, words-count, accepted-sound}
 use Rattle.beats.proofs.Columns.{half-le}
 use Rattle.judge.proofs.Events.{length-count}
 use Rattle.alike.proofs.Blanked.{blanked-length}
@@ -84,9 +85,9 @@ bad-event : (limit : ℕ) (bytes : List ℕ) (n place : ℕ) → n ≤ 8000 → 
 unfolding badEvent
 bad-event limit bytes n place l e = omega (arith, below (λ i. not (eventFits limit bytes i)) n place e)
 
--- what holds of small refusals, and of what follows when there are at most 8,000 events, holds
+-- what holds of small refusals, and of what follows where a capture is accepted, holds
 pub on-accepted : {A : Type 0} (P : Answer A → Type 0) (capture : List ℕ) (rest : Answer A) →
-    ((number place : ℕ) → Number number → Value place → P (refused number place)) → (eventCount capture ≤ 8000 → P rest) → P (accepted capture rest)
+    ((number place : ℕ) → Number number → Value place → P (refused number place)) → (Accepted capture → P rest) → P (accepted capture rest)
 unfolding accepted
 on-accepted {A} P capture rest refusing going-on =
     go (given 0 (not (lengthFits capture))) (given 0 (not (headerFits capture))) (badSetting (settingWords capture)) (badEvent (pinLimit capture) (eventBytes capture) (eventCount capture))
@@ -98,9 +99,12 @@ on-accepted {A} P capture rest refusing going-on =
     go none (some place) c d p q r s = refusing 2 place (omega arith) (at-zero (not (headerFits capture)) place q)
     go none none (some place) d p q r s = refusing 3 place (omega arith) (bad-setting (settingWords capture) place (omega (arith, words-count capture, count-range capture .1)) r)
     go none none none (some place) p q r s = refusing 4 place (omega arith) (bad-event (pinLimit capture) (eventBytes capture) (eventCount capture) place (few capture p q) s)
-    go none none none none p q r s = going-on (few capture p q)
+    go none none none none p q r s = going-on (rw (p, q, r, s))
 
 -- ---- the judge
+
+pub accepted-few : (capture : List ℕ) → Accepted capture → eventCount capture ≤ 8000
+accepted-few capture open-to = accepted-sound capture open-to .sized .few
 
 -- each rule has a number of eight bits
 abbrev Each : List ℕ → Type 0
@@ -147,7 +151,7 @@ pub judge-fits : (capture : List ℕ) → Fits (judgeTold (judgeAnswer capture))
 unfolding judgeAnswer
 judge-fits capture =
     on-accepted (λ (a : Answer Report). Fits (judgeTold a)) capture _ (λ number place n v. (n, v))
-    (λ short. verdict-fits capture short (verdictIn capture) refl)
+    (λ open-to. verdict-fits capture (accepted-few capture open-to) (verdictIn capture) refl)
 
 -- ---- calls that fill a buffer
 
@@ -161,11 +165,6 @@ room buffer out l = go (ltb (length buffer) (length out))
     go : (b : Bool) → Filled buffer (unless 7 (given (length out) b) (answered out))
     go true = (omega arith, l)
     go false = l
-
--- a small refusal
-abbrev Small : Answer (Unit {0}) → Type 0
-Small (refused number place) = Number number × Value place
-Small (answered u) = Unit {0}
 
 -- ---- burst cells: at most 128 a burst, and a burst an event
 
@@ -208,7 +207,7 @@ cells-few capture short =
 pub cells-fits : (capture buffer : List ℕ) → Fits (countTold (cellsOutcome capture buffer .answer))
 unfolding cellsOutcome
 cells-fits capture buffer =
-    on-accepted (Filled buffer) capture _ (λ number place n v. (n, v)) (λ short. go short (notClean (verdictIn capture)) refl)
+    on-accepted (Filled buffer) capture _ (λ number place n v. (n, v)) (λ open-to. go (accepted-few capture open-to) (notClean (verdictIn capture)) refl)
   where
     go : eventCount capture ≤ 8000 → (o : Option ℕ) → notClean (verdictIn capture) ≡ o → Filled buffer (unless 8 o (fitting buffer (cellsIn capture)))
     go short none e = room buffer (cellsIn capture) (cells-few capture short)
@@ -216,24 +215,15 @@ cells-fits capture buffer =
 
 -- ---- captures blanked: at most 64,088 bytes
 
-blanked-few : (capture : List ℕ) → accepted capture (answered (tt {0})) ≡ answered tt → Value (length (blanked capture))
+blanked-few : (capture : List ℕ) → Accepted capture → Value (length (blanked capture))
 blanked-few capture open-to =
     let x = accepted-sound capture open-to .sized in
     omega (arith, blanked-length capture open-to, x .size, x .few, count-range capture .1)
 
 pub blank-fits : (capture buffer : List ℕ) → Fits (countTold (blankOutcome capture buffer .answer))
 unfolding blankOutcome
-blank-fits capture buffer = go (accepted capture (answered (tt {0}))) refl
-  where
-    rest : Answer (List ℕ)
-    rest = fitting buffer (blanked capture)
-
-    small : (x : Answer (Unit {0})) → x ≡ accepted capture (answered tt) → Small x
-    small x e = subst Small (sym e) (on-accepted Small capture (answered tt) (λ number place n v. (n, v)) (λ short. tt))
-
-    go : (x : Answer (Unit {0})) → accepted capture (answered tt) ≡ x → Filled buffer (accepted capture rest)
-    go (refused number place) e = subst (Filled buffer) (sym (refused-rest capture rest e)) (small (refused number place) (sym e))
-    go (answered tt) e = subst (Filled buffer) (sym (accepted-rest capture rest e)) (room buffer (blanked capture) (blanked-few capture e))
+blank-fits capture buffer =
+    on-accepted (Filled buffer) capture _ (λ number place n v. (n, v)) (λ open-to. room buffer (blanked capture) (blanked-few capture open-to))
 
 -- ---- schedules
 

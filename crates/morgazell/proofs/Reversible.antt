@@ -14,7 +14,7 @@ use Rattle.reading.specs.Blank.{blankOutcome}
 use Rattle.reading.proofs.Meaning.{eventOf}
 use Rattle.words.proofs.Counting.{at-count}
 use Rattle.morgazell.specs.Packing.{Told, refusal, count, breach, word, packed, told, numberIn, ruleIn, valueIn, unpacked, verdictTold, judgeTold, countTold, judgeAnswerOf, countAnswerOf}
-use Rattle.morgazell.proofs.Fitting.{Number, Value, Fits, on-accepted, events-length, broken-at, judge-fits, cells-fits, schedule-fits, blank-fits}
+use Rattle.morgazell.proofs.Fitting.{Number, Value, Fits, on-accepted, accepted-few, events-length, broken-at, judge-fits, cells-fits, schedule-fits, blank-fits}
 
 word-back : (number rule value : ℕ) → number < 2 ^ 8 → rule < 2 ^ 8 → Value value → unpacked (word number rule value) ≡ told number rule value
 unfolding unpacked
@@ -64,7 +64,7 @@ told-back : (capture : List ℕ) → judgeAnswerOf capture (judgeTold (judgeAnsw
 unfolding judgeAnswer
 told-back capture =
     on-accepted (λ (a : Answer Report). judgeAnswerOf capture (judgeTold a) ≡ a) capture _ (λ number place n v. refl)
-    (λ short. report-back capture short (verdictIn capture) refl)
+    (λ open-to. report-back capture (accepted-few capture open-to) (verdictIn capture) refl)
 
 -- with the capture at hand nothing at all is lost
 pub judge-back : (capture : List ℕ) → judgeAnswerOf capture (unpacked (packed (judgeTold (judgeAnswer capture)))) ≡ judgeAnswer capture

@@ -8,14 +8,13 @@ use native.Mathlib.Omega.{arith}
 use lib.Dec.{ltb, eqb}
 use lib.ListN.{length, take}
 use lib.Seq.{sets}
-use borrow.Author.Tests.{eqb-true, ltb-false, lt-ltb, le-ltb}
+use borrow.Author.Tests.{eqb-true, ltb-true, ltb-false, lt-ltb, le-ltb}
 use Rattle.reading.specs.Search.{given}
 use Rattle.reading.specs.Words.{bytesOf}
 use Rattle.reading.specs.Settings.{Settings, settingsCount, settingsOf, newer, outOfRange, badSetting}
 use Rattle.reading.specs.Capture.{Event}
 use Rattle.reading.specs.Schedule.{Schedule, planned, late, policyFits, closesRows, badRequest, scheduleOf, eventWords, captureOf}
-use Rattle.reading.specs.Answers.{Answer, refused, answered, unless, Outcome, leaves, whenPlanned, fitting, scheduleOutcome}
-use Rattle.words.proofs.Runs.{front}
+use Rattle.reading.specs.Answers.{Answer, refused, answered, unless, leaves, whenPlanned, fitting, scheduleOutcome}
 use Rattle.words.proofs.Events.{words-length}
 use Rattle.words.specs.Found.{placeOf}
 use Rattle.words.specs.declared.Found.{Found}
@@ -26,6 +25,8 @@ use Rattle.settings.specs.declared.Checked.{Checked}
 use Rattle.settings.specs.declared.Checked.the-variants as check
 use Rattle.settings.proofs.Padded.{padded-settings, padded-range}
 use Rattle.settings.proofs.Fitting.{each-in-range}
+use Rattle.capture.specs.Calls.{Meets}
+use Rattle.capture.proofs.Outcome.{passed, follow, follow-unless, follows-refused, too-long, refused-meets, wrote-meets}
 use Rattle.memory.specs.Serving.{Sized}
 use Rattle.plan.proofs.Captured.{settings-fit}
 use Rattle.plan.proofs.Ranged.{fourteen-old, ranged}
@@ -37,28 +38,9 @@ use Rattle.schedule.specs.declared.Planned.{Planned}
 use Rattle.schedule.specs.declared.Planned.the-variants.{Late, Events}
 use Rattle.schedule.specs.Meaning.{means, planMeans, planAnswer, Noted, Plannable, Writable, size, head, written, writing}
 
--- what a call ends with is document 01's outcome
-abbrev pub Ends : Outcome → Scheduled → List ℕ → Type 0
-Ends o r out = (means r ≡ o .answer) × (out ≡ o .buffer)
-
--- ---- refusals 2 and 3
-
-module _ (x y : Option ℕ) where
-  refused-so : (rest : Answer (List ℕ)) (k p : ℕ) → refused k p ≡ unless 2 x (unless 3 y (answered (tt {0}))) → unless 2 x (unless 3 y rest) ≡ refused k p
-  refused-so rest k p e = go x y e
-    where
-      go : (x y : Option ℕ) → refused k p ≡ unless 2 x (unless 3 y (answered (tt {0}))) → unless 2 x (unless 3 y rest) ≡ refused k p
-      go none none e = let z : _≡_ {A = ℕ} 0 1 = cc in absurd (omega arith)
-      go none (some q) e = cc
-      go (some q) y e = cc
-
-  fine-so : answered tt ≡ unless 2 x (unless 3 y (answered (tt {0}))) → (x ≡ none) × (y ≡ none)
-  fine-so e = go x y e
-    where
-      go : (x y : Option ℕ) → answered tt ≡ unless 2 x (unless 3 y (answered (tt {0}))) → (x ≡ none) × (y ≡ none)
-      go none none e = (refl, refl)
-      go none (some q) e = let z : _≡_ {A = ℕ} 0 1 = cc in absurd (omega arith)
-      go (some q) y e = let z : _≡_ {A = ℕ} 0 1 = cc in absurd (omega arith)
+-- whatever follows refusals 2 and 3
+followed : {A : Type 0} (x y : Option ℕ) (rest : Answer A) → unless 2 x (unless 3 y rest) ≡ follow (unless 2 x (unless 3 y (answered (tt {0})))) rest
+followed x y rest = ap (unless 2 x) (follow-unless 3 y (answered tt) rest) ∙ follow-unless 2 x (unless 3 y (answered tt)) rest
 
 least : (n : ℕ) (l : List ℕ) → length (take n l) ≤ length l
 least zero l = omega arith
@@ -72,14 +54,12 @@ right-count n e = go (eqb n settingsCount) refl e
     go true k e = eqb-true n settingsCount k
     go false k e = let z : _≡_ {A = ℕ} 0 1 = cc in absurd (omega arith)
 
-module _ (ws qs : List ℕ) (policy : ℕ) (out : List ℕ) where
-  unfit : (k p : ℕ) → refused k p ≡ checked ws → scheduleOutcome ws qs policy out ≡ leaves (refused k p) out
-  unfolding scheduleOutcome checked
-  unfit k p e = ap (λ (a : Answer (List ℕ)). leaves a out) (refused-so (given 0 (not (eqb (length ws) settingsCount))) (badSetting ws) _ k p e)
-
-  pub refuses : (r : Checked) → settings.means r ≡ checked ws → {number place : ℕ} → r ≡ check.Refused number place →
-      Ends (scheduleOutcome ws qs policy out) (Refused number place) out
-  refuses r e {number} {place} f = rw (unfit number place (sym (ap settings.means f) ∙ e)) (refl, refl)
+pub refuses : (ws qs : List ℕ) (policy : ℕ) (out : List ℕ) {r : Checked} → settings.means r ≡ checked ws → {number place : ℕ} → r ≡ check.Refused number place →
+    Meets (refused number place) out (scheduleOutcome ws qs policy out)
+unfolding scheduleOutcome checked
+refuses ws qs policy out e f =
+    refused-meets
+    (followed (given 0 (not (eqb (length ws) settingsCount))) (badSetting ws) _ ∙ follows-refused _ (sym e ∙ ap settings.means f))
 
 -- ---- settings that fit
 
@@ -87,11 +67,11 @@ pub record Right (ws : List ℕ) : Type 0 where
   pub count : length ws ≡ settingsCount
   pub each : badSetting ws ≡ none
 
-pub right : (ws : List ℕ) (r : Checked) → settings.means r ≡ checked ws → r ≡ check.Fine → Right ws
+pub right : (ws : List ℕ) {r : Checked} → settings.means r ≡ checked ws → r ≡ check.Fine → Right ws
 unfolding checked
-right ws r e f =
-    let (x, y) = fine-so (given 0 (not (eqb (length ws) settingsCount))) (badSetting ws) (sym (ap settings.means f) ∙ e) in
-    record { count = right-count (length ws) x; each = y }
+right ws e f =
+    let (x, after) = passed 2 (given 0 (not (eqb (length ws) settingsCount))) _ (sym e ∙ ap settings.means f) in
+    record { count = right-count (length ws) x; each = passed 3 (badSetting ws) _ after .0 }
 
 module _ {ws : List ℕ} (fit : Right ws) {s : List ℕ} (loaded : s ≡ padded ws) where
   same : settingsOf s ≡ settingsOf ws
@@ -117,7 +97,7 @@ module _ {ws : List ℕ} (fit : Right ws) {s : List ℕ} (loaded : s ≡ padded 
 
     -- ---- refusal 10
 
-    pub no-policy : 1 < policy → Ends (scheduleOutcome ws qs policy out) (Refused 10 0) out
+    pub no-policy : 1 < policy → Meets (refused 10 0) out (scheduleOutcome ws qs policy out)
     no-policy l = rw (fitted, le-ltb policy 2 l) (refl, refl)
 
     module _ (known : policy ≤ 1) where
@@ -127,7 +107,7 @@ module _ {ws : List ℕ} (fit : Right ws) {s : List ℕ} (loaded : s ≡ padded 
 
       -- ---- refusal 5
 
-      pub unserved : {r : Found} {i : ℕ} → placeOf r ≡ badRequest (settingsOf s) qs → r ≡ At i → Ends (scheduleOutcome ws qs policy out) (Refused 5 i) out
+      pub unserved : {r : Found} {i : ℕ} → placeOf r ≡ badRequest (settingsOf s) qs → r ≡ At i → Meets (refused 5 i) out (scheduleOutcome ws qs policy out)
       unserved {r} {i} e k =
           let b : badRequest (settingsOf ws) qs ≡ some i = sym (ap (λ (x : Settings). badRequest x qs) same) ∙ sym e ∙ ap placeOf k in
           rw (onward, b) (refl, refl)
@@ -147,10 +127,10 @@ module _ {ws : List ℕ} (fit : Right ws) {s : List ℕ} (loaded : s ≡ padded 
           planned-as : planMeans t ≡ planAnswer (scheduleOf (settingsOf ws) policy qs)
           planned-as = plans ∙ ap (λ (x : Settings). planAnswer (scheduleOf x policy qs)) same
 
-          pub too-late : {i : ℕ} → t ≡ Late i → Ends (scheduleOutcome ws qs policy out) (Refused 6 i) out
+          pub too-late : {i : ℕ} → t ≡ Late i → Meets (refused 6 i) out (scheduleOutcome ws qs policy out)
           too-late {i} m = rw (onward, asked-fine) (go (scheduleOf (settingsOf ws) policy qs) (sym (ap planMeans m) ∙ planned-as))
             where
-              go : (x : Schedule) → planMeans (Late i) ≡ planAnswer x → Ends (leaves (whenPlanned x (λ es. fitting out (captureOf ws es))) out) (Refused 6 i) out
+              go : (x : Schedule) → planMeans (Late i) ≡ planAnswer x → Meets (refused 6 i) out (leaves (whenPlanned x (λ es. fitting out (captureOf ws es))) out)
               go (planned es) p = let z : _≡_ {A = ℕ} 0 1 = cc in absurd (omega arith)
               go (late j) p = let z : i ≡ j = cc in rw z (refl, refl)
 
@@ -198,21 +178,16 @@ module _ {ws : List ℕ} (fit : Right ws) {s : List ℕ} (loaded : s ≡ padded 
             whole : bytesOf (head n ++ ws ++ take (2 * n) w) ≡ cap
             whole = (λ i. bytesOf (head (made m .counted i) ++ ws ++ words-back i)) ∙ sym (captured.in-words ws (made m .es) (fit .count))
 
-            outcome-is : scheduleOutcome ws qs policy out ≡ leaves (unless 7 (given (size n) (ltb (length out) (size n))) (answered cap)) out
+            outcome-is : scheduleOutcome ws qs policy out ≡ leaves (fitting out cap) out
             outcome-is =
-                onward
-                ∙ (λ i. leaves (unless 5 (asked-fine i) (whenPlanned (made m .is i) (λ es. fitting out (captureOf ws es)))) out)
-                ∙ (λ i. leaves (unless 7 (given (long i) (ltb (length out) (long i))) (answered cap)) out)
+                onward ∙ (λ i. leaves (unless 5 (asked-fine i) (whenPlanned (made m .is i) (λ es. fitting out (captureOf ws es)))) out)
 
             final : (v : Bool) → ltb (length out) (size n) ≡ v →
-                Ends (leaves (unless 7 (given (size n) v) (answered cap)) out) (cond v (Refused 7 (size n)) (Written (size n))) (cond v out (sets out 0 cap))
-            final true k = (refl, refl)
-            final false k = (ap answered (sym long), front cap out (omega (arith, long, ltb-false (length out) (size n) k)))
+                Meets (means (cond v (Refused 7 (size n)) (Written (size n)))) (cond v out (sets out 0 cap)) (leaves (fitting out cap) out)
+            final true k =
+                refused-meets (too-long out cap (omega (arith, long, ltb-true (length out) (size n) k)) ∙ ap (λ (x : ℕ). refused 7 x) long)
+            final false k = wrote-meets out cap refl (omega (arith, long, ltb-false (length out) (size n) k)) (sym long) refl
 
-            pub ends : {r : Scheduled} {o : List ℕ} → r ≡ written out n → o ≡ writing ws w n out → Ends (scheduleOutcome ws qs policy out) r o
+            pub ends : {r : Scheduled} {o : List ℕ} → r ≡ written out n → o ≡ writing ws w n out → Meets (means r) o (scheduleOutcome ws qs policy out)
             unfolding written writing
-            ends e f =
-                let fin = final (ltb (length out) (size n)) refl in (
-                  ap means e ∙ fin .0 ∙ sym (ap (λ (x : Outcome). x .answer) outcome-is),
-                  f ∙ ap (λ (x : List ℕ). cond (ltb (length out) (size n)) out (sets out 0 x)) whole ∙ fin .1 ∙ sym (ap (λ (x : Outcome). x .buffer) outcome-is),
-                )
+            ends e f = rw (e, f, whole, outcome-is) (final (ltb (length out) (size n)) refl)

@@ -1,10 +1,11 @@
-use Prim.Native.Nat.{ℕ, _<_, _≤_}
+use Prim.Native.Nat.{ℕ}
 use mathlib.Core.List.{List}
 use native.Mathlib.Omega.{arith}
 use borrow.Author.Needs.{needs}
-use lib.ListN.{length}
-use Rattle.reading.specs.Capture.{countIn, eventsStart}
-use Rattle.blanks.proofs.Outcome.{refused-so, few, long, too-short, copies, writable, wrote}
+use denote.Ref.{now}
+use Rattle.capture.specs.Calls.{Accepted}
+use Rattle.capture.proofs.Opened.{Opened, accepted-so, long, opens}
+use Rattle.blanks.proofs.Outcome.{refused-so, few, too-short, copies, writable, wrote}
 use Rattle.blanks.proofs.blank.Statement.{statement}
 use Rattle.blanks.proofs.blank.Tie as tie
 
@@ -15,11 +16,8 @@ capture-of c = c .before .before .before .before .before .args .capture .now
 abbrev out-of : tie.After-enum-told → List ℕ
 out-of c = c .before .before .before .before .before .args .out .now
 
-short : (c : tie.After-enum-told) → length (capture-of c) < 65536
-short c = few (capture-of c) (out-of c) (c .before .before .«open» .result) (c .before .before .«open» .ensures) (c .enum-told .given .1)
-
-holds-settings : (c : tie.After-enum-told) → eventsStart (countIn (capture-of c)) ≤ length (capture-of c)
-holds-settings c = long (capture-of c) (out-of c) (c .before .before .«open» .result) (c .before .before .«open» .ensures) (c .enum-told .given .1)
+accepted : (c : tie.After-enum-told) → Accepted (capture-of c)
+accepted c = accepted-so (capture-of c) (c .before .before .«open» .ensures) (c .enum-told .given .1)
 
 open-requires : tie.Need-open-requires
 open-requires c κs = search needs
@@ -31,61 +29,66 @@ returns : tie.Need-returns
 returns c =
     let opened = c .before .before .before in
     let a = opened .before .before .before .args in
-    refused-so (a .capture .now) (a .out .now) (opened .«open» .result) (opened .«open» .ensures) (c .before .checked .given .1)
+    refused-so (a .capture .now) (a .out .now) (opened .«open» .ensures) (c .before .checked .given .1)
 
 enum-told : tie.Need-enum-told
 enum-told c = search needs
 
 cast-size : tie.Need-cast-size
-cast-size c = omega (arith, short c)
+cast-size c = omega (arith, few (capture-of c) (accepted c))
 
 returns-2 : tie.Need-returns-2
 returns-2 c =
     let told = c .before in
-    let opened = told .before .before .«open» in
-    too-short (capture-of told) (out-of told) (opened .result) (opened .ensures) (told .enum-told .given .1) (c .if1 .taken)
+    too-short (capture-of told) (accepted told) (out-of told) (c .if1 .taken)
 
 settings-in-requires : tie.Need-settings-in-requires
-settings-in-requires c κs = holds-settings (c .before)
+settings-in-requires c κs = long (capture-of (c .before)) (accepted (c .before))
 
 event-count-requires : tie.Need-event-count-requires
-event-count-requires c κs = omega (arith, holds-settings (c .before .before))
+event-count-requires c κs =
+    let told = c .before .before in
+    omega (arith, long (capture-of told) (accepted told))
 
 cast-n : tie.Need-cast-n
 cast-n c = search needs
 
 events-start-requires : tie.Need-events-start-requires
-events-start-requires c κs = omega (arith, holds-settings (c .before .before .before))
+events-start-requires c κs =
+    let told = c .before .before .before in
+    omega (arith, long (capture-of told) (accepted told))
 
 cast-start : tie.Need-cast-start
 cast-start c = search needs
 
 event-bytes-requires : tie.Need-event-bytes-requires
-event-bytes-requires c κs = holds-settings (c .before .before .before .before)
+event-bytes-requires c κs =
+    let told = c .before .before .before .before in
+    long (capture-of told) (accepted told)
+
+-- what was read of it
+opened : (c : tie.After-event-bytes) →
+    let counted = c .before .before in
+    Opened (capture-of (counted .before .before .before)) (counted .before .settings-in .result) (counted .event-count .result) (now (c .event-bytes .result))
+opened c =
+    let counted = c .before .before in
+    let told = counted .before .before .before in
+    opens (capture-of told) (accepted told) (counted .before .settings-in .ensures) (counted .event-count .ensures) (c .event-bytes .ensures)
 
 copy-requires : tie.Need-copy-requires
 copy-requires c κs =
     let given = c .before in
     let started = given .before in
-    let counted = started .before in
-    let loaded = counted .before in
-    let told = loaded .before .before in
-    let opened = told .before .before .«open» in
-    copies (capture-of told) (out-of told) (opened .result) (opened .ensures) (told .enum-told .given .1) (loaded .before .if1 .left)
-    (loaded .settings-in .ensures) (counted .event-count .ensures) (started .events-start .ensures .0) (given .event-bytes .ensures)
+    let roomy = started .before .before .before in
+    copies (opened given) (out-of (roomy .before)) (roomy .if1 .left) (started .events-start .ensures .0)
 
 write-events-requires : tie.Need-write-events-requires
 write-events-requires c κs =
     let copied = c .before .before .before .before in
     let given = copied .before .before in
     let started = given .before in
-    let counted = started .before in
-    let loaded = counted .before in
-    let told = loaded .before .before in
-    let opened = told .before .before .«open» in
-    writable (capture-of told) (out-of told) (opened .result) (opened .ensures) (told .enum-told .given .1) (loaded .before .if1 .left)
-    (loaded .settings-in .ensures) (counted .event-count .ensures) (started .events-start .ensures .0) (given .event-bytes .ensures)
-    (copied .copy .ensures)
+    let roomy = started .before .before .before in
+    writable (opened given) (out-of (roomy .before)) (roomy .if1 .left) (started .events-start .ensures .0) (copied .copy .ensures)
 
 same-length : tie.Need-same-length
 same-length c = search needs
@@ -96,13 +99,9 @@ returns-3 c =
     let copied = written .before .before .before .before .before in
     let given = copied .before .before in
     let started = given .before in
-    let counted = started .before in
-    let loaded = counted .before in
-    let told = loaded .before .before in
-    let opened = told .before .before .«open» in
-    wrote (capture-of told) (out-of told) (opened .result) (opened .ensures) (told .enum-told .given .1) (loaded .before .if1 .left)
-    (loaded .settings-in .ensures) (counted .event-count .ensures) (started .events-start .ensures .0) (given .event-bytes .ensures)
-    (copied .copy .ensures) (written .write-events .ensures)
+    let roomy = started .before .before .before in
+    wrote (opened given) (out-of (roomy .before)) (roomy .if1 .left) (started .events-start .ensures .0) (copied .copy .ensures)
+    (written .write-events .ensures)
 
 pub blank-spec : {M : Type 1} → statement M
 blank-spec =

@@ -1,10 +1,10 @@
-use Prim.Native.Nat.{ℕ, _≤_}
+use Prim.Native.Nat.{ℕ}
 use mathlib.Core.List.{List}
 use native.Mathlib.Omega.{arith}
-use lib.ListN.{length}
 use borrow.Author.Needs.{needs}
-use Rattle.reading.specs.Capture.{countIn, eventsStart}
-use Rattle.judge.proofs.Judging.{long}
+use denote.Ref.{now}
+use Rattle.capture.specs.Calls.{Accepted}
+use Rattle.capture.proofs.Opened.{Opened, accepted-so, long, opens}
 use Rattle.cells.proofs.Listing.{refused-so, listable, listed-so}
 use Rattle.cells.proofs.burst_cells.Statement.{statement}
 use Rattle.cells.proofs.burst_cells.Tie as tie
@@ -13,8 +13,8 @@ use Rattle.cells.proofs.burst_cells.Tie as tie
 abbrev capture-of : tie.After-enum-told → List ℕ
 capture-of c = c .before .before .before .before .before .args .capture .now
 
-holds-settings : (c : tie.After-enum-told) → eventsStart (countIn (capture-of c)) ≤ length (capture-of c)
-holds-settings c = long (capture-of c) (c .before .before .«open» .result) (c .before .before .«open» .ensures) (c .enum-told .given .1)
+accepted : (c : tie.After-enum-told) → Accepted (capture-of c)
+accepted c = accepted-so (capture-of c) (c .before .before .«open» .ensures) (c .enum-told .given .1)
 
 open-requires : tie.Need-open-requires
 open-requires c κs = search needs
@@ -26,28 +26,31 @@ returns : tie.Need-returns
 returns c =
     let opened = c .before .before .before in
     let a = opened .before .before .before .args in
-    refused-so (a .capture .now) (a .out .now) (opened .«open» .result) (opened .«open» .ensures) _ _ (c .before .checked .given .1)
+    refused-so (a .capture .now) (a .out .now) (opened .«open» .ensures) (c .before .checked .given .1)
 
 enum-told : tie.Need-enum-told
 enum-told c = search needs
 
 settings-in-requires : tie.Need-settings-in-requires
-settings-in-requires c κs = holds-settings c
+settings-in-requires c κs = long (capture-of c) (accepted c)
 
 event-count-requires : tie.Need-event-count-requires
-event-count-requires c κs = omega (arith, holds-settings (c .before))
+event-count-requires c κs = omega (arith, long (capture-of (c .before)) (accepted (c .before)))
 
 event-bytes-requires : tie.Need-event-bytes-requires
-event-bytes-requires c κs = holds-settings (c .before .before)
+event-bytes-requires c κs = long (capture-of (c .before .before)) (accepted (c .before .before))
+
+-- what was read of it
+opened : (c : tie.After-event-bytes) →
+    let counted = c .before in
+    Opened (capture-of (counted .before .before)) (counted .before .settings-in .result) (counted .event-count .result) (now (c .event-bytes .result))
+opened c =
+    let counted = c .before in
+    let told = counted .before .before in
+    opens (capture-of told) (accepted told) (counted .before .settings-in .ensures) (counted .event-count .ensures) (c .event-bytes .ensures)
 
 list-requires : tie.Need-list-requires
-list-requires c κs =
-    let given = c .before .before in
-    let counted = given .before in
-    let told = counted .before .before in
-    let opened = told .before .before .«open» in
-    listable (capture-of told) (told .before .before .before .before .before .args .out .now) (opened .result) (opened .ensures)
-    (told .enum-told .given .1) (counted .before .settings-in .ensures) (counted .event-count .ensures) (given .event-bytes .ensures)
+list-requires c κs = listable (opened (c .before .before))
 
 same-length : tie.Need-same-length
 same-length c = search needs
@@ -55,12 +58,8 @@ same-length c = search needs
 returns-2 : tie.Need-returns-2
 returns-2 c =
     let given = c .before .before .before .before .before in
-    let counted = given .before in
-    let told = counted .before .before in
-    let opened = told .before .before .«open» in
-    listed-so (capture-of told) (told .before .before .before .before .before .args .out .now) (opened .result) (opened .ensures)
-    (told .enum-told .given .1) (counted .before .settings-in .ensures) (counted .event-count .ensures) (given .event-bytes .ensures)
-    (c .before .before .list .ensures)
+    let start = given .before .before .before .before .before .before .before .before in
+    listed-so (opened given) (start .args .out .now) (c .before .before .list .ensures)
 
 pub burst-cells-spec : {M : Type 1} → statement M
 burst-cells-spec =

@@ -1,10 +1,11 @@
-use Prim.Native.Nat.{ℕ, _≤_}
+use Prim.Native.Nat.{ℕ}
 use mathlib.Core.List.{List}
 use native.Mathlib.Omega.{arith}
-use lib.ListN.{length}
 use borrow.Author.Needs.{needs}
-use Rattle.reading.specs.Capture.{countIn, eventsStart}
-use Rattle.judge.proofs.Judging.{refused-so, long, fit, judged-so}
+use denote.Ref.{now}
+use Rattle.capture.specs.Calls.{Accepted}
+use Rattle.capture.proofs.Opened.{Opened, accepted-so, long, opens}
+use Rattle.judge.proofs.Judging.{refused-so, fit, judged-so}
 use Rattle.judge.proofs.judge.Statement.{statement}
 use Rattle.judge.proofs.judge.Tie as tie
 
@@ -12,8 +13,8 @@ use Rattle.judge.proofs.judge.Tie as tie
 abbrev capture-of : tie.After-enum-told → List ℕ
 capture-of c = c .before .before .before .before .args .capture .now
 
-holds-settings : (c : tie.After-enum-told) → eventsStart (countIn (capture-of c)) ≤ length (capture-of c)
-holds-settings c = long (capture-of c) (c .before .before .«open» .result) (c .before .before .«open» .ensures) (c .enum-told .given .1)
+accepted : (c : tie.After-enum-told) → Accepted (capture-of c)
+accepted c = accepted-so (capture-of c) (c .before .before .«open» .ensures) (c .enum-told .given .1)
 
 open-requires : tie.Need-open-requires
 open-requires c κs = search needs
@@ -24,16 +25,16 @@ enum-known-checked c = search needs
 returns : tie.Need-returns
 returns c =
     let opened = c .before .before .before in
-    refused-so (opened .before .before .args .capture .now) (opened .«open» .result) (opened .«open» .ensures) _ _ (c .before .checked .given .1)
+    refused-so (opened .before .before .args .capture .now) (opened .«open» .ensures) (c .before .checked .given .1)
 
 enum-told : tie.Need-enum-told
 enum-told c = search needs
 
 settings-in-requires : tie.Need-settings-in-requires
-settings-in-requires c κs = holds-settings c
+settings-in-requires c κs = long (capture-of c) (accepted c)
 
 event-count-requires : tie.Need-event-count-requires
-event-count-requires c κs = omega (arith, holds-settings (c .before))
+event-count-requires c κs = omega (arith, long (capture-of (c .before)) (accepted (c .before)))
 
 start-requires : tie.Need-start-requires
 start-requires c κs = search needs
@@ -45,29 +46,27 @@ pace-requires : tie.Need-pace-requires
 pace-requires c κs = search needs
 
 event-bytes-requires : tie.Need-event-bytes-requires
-event-bytes-requires c κs = holds-settings (c .before .before .before .before .before)
+event-bytes-requires c κs =
+    let told = c .before .before .before .before .before in
+    long (capture-of told) (accepted told)
+
+-- what was read of it
+opened : (c : tie.After-event-bytes) →
+    let counted = c .before .before .before .before in
+    Opened (capture-of (counted .before .before)) (counted .before .settings-in .result) (counted .event-count .result) (now (c .event-bytes .result))
+opened c =
+    let counted = c .before .before .before .before in
+    let told = counted .before .before in
+    opens (capture-of told) (accepted told) (counted .before .settings-in .ensures) (counted .event-count .ensures) (c .event-bytes .ensures)
 
 walk-requires : tie.Need-walk-requires
 walk-requires c κs =
     let given = c .before .before .before in
     let paced = given .before in
-    let counted = paced .before .before .before in
-    let told = counted .before .before in
-    let opened = told .before .before .«open» in (
-      fit (capture-of told) (opened .result) (opened .ensures) (told .enum-told .given .1)
-          (counted .before .settings-in .ensures) (counted .event-count .ensures) (given .event-bytes .ensures),
-      record { deadlines = paced .before .start .ensures; paced = paced .pace .ensures },
-    )
+    (fit (opened given), record { deadlines = paced .before .start .ensures; paced = paced .pace .ensures })
 
 returns-2 : tie.Need-returns-2
-returns-2 c =
-    let given = c .before .before .before .before in
-    let counted = given .before .before .before .before in
-    let told = counted .before .before in
-    let opened = told .before .before .«open» in
-    rw (c .walk .ensures .0)
-    (judged-so (capture-of told) (opened .result) (opened .ensures) (told .enum-told .given .1)
-    (counted .before .settings-in .ensures) (counted .event-count .ensures) (given .event-bytes .ensures))
+returns-2 c = rw (c .walk .ensures .0) (judged-so (opened (c .before .before .before .before)))
 
 pub judge-spec : {M : Type 1} → statement M
 judge-spec =

@@ -9,7 +9,7 @@ use Rattle.schedule.proofs.schedule.Tie as tie
 fit : (c : tie.After-enum-told) → Right (c .before .before .before .before .before .before .args .settings .now)
 fit c =
     let checked = c .before .before in
-    right (checked .before .before .before .before .args .settings .now) (checked .check .result) (checked .check .ensures) (c .enum-told .given .1)
+    right (checked .before .before .before .before .args .settings .now) (checked .check .ensures) (c .enum-told .given .1)
 
 check-requires : tie.Need-check-requires
 check-requires c κs = search needs
@@ -22,7 +22,7 @@ returns c =
     let checked = c .before .before .before in
     let start = checked .before .before .before .before in
     let a = start .args in
-    refuses (a .settings .now) (a .requests .now) (a .policy) (a .out .now) (checked .check .result) (checked .check .ensures) (c .before .checked .given .1)
+    refuses (a .settings .now) (a .requests .now) (a .policy) (a .out .now) (checked .check .ensures) (c .before .checked .given .1)
 
 enum-told : tie.Need-enum-told
 enum-told c = search needs

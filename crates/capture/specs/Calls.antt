@@ -1,0 +1,16 @@
+-- What promises and laws say of calls: whether a capture is accepted, and that an answer and a buffer are those of an outcome.
+use Prim.Native.Nat.{ℕ}
+use mathlib.Core.List.{List}
+use mathlib.Core.Path.{_≡_}
+use Rattle.reading.specs.Answers.{Answer, answered, accepted, Outcome}
+
+-- what refusals 1 to 4 say of a capture, and none of them
+abbrev pub opened : List ℕ → Answer (Unit {0})
+opened capture = accepted capture (answered tt)
+
+abbrev pub Accepted : List ℕ → Type 0
+Accepted capture = opened capture ≡ answered tt
+
+-- a call answers so, and leaves this in the lent buffer
+abbrev pub Meets : Answer ℕ → List ℕ → Outcome → Type 0
+Meets answer left o = (answer ≡ o .answer) × (left ≡ o .buffer)
