@@ -13,12 +13,12 @@ use Rattle.reading.specs.Part.{Part, start, cutBy, burstGiven, burstsAfter, ste
 use Rattle.reading.specs.Cells.{burstsOf, cellsOf}
 use Rattle.reading.proofs.Cuts.{All, nil, cons}
 use Rattle.reading.proofs.Alone.{Stands, standing, standing-pairs, standsAfter, cutAlone}
+use Rattle.capture.proofs.Rising.{Rises}
 use Rattle.pins.specs.Pins.{codeOf, bankOf, addressOf, tenOf}
 use Rattle.pins.proofs.Commands.{write-is}
 use Rattle.beats.specs.Kept.{gives, cutAhead, keptWhole, keptOf}
 use Rattle.beats.specs.Rows.{firstCell, beatCells}
 use Rattle.beats.proofs.Commands.{gives-is}
-use Rattle.beats.proofs.Events.{Rises}
 use Rattle.beats.proofs.Cut.{cutByAll, cut-ahead, auto-kept}
 use Rattle.beats.proofs.Interrupting.{interrupted-ahead}
 use Rattle.beats.proofs.Looking.{kept-nothing}

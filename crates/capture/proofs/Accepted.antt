@@ -65,7 +65,7 @@ pub record Sound (capture : List ℕ) : Type 0 where
   pub events : (i : ℕ) → i < eventCount capture → cycleFits (eventBytes capture) i ≡ true
   pub pins : (i : ℕ) → i < eventCount capture → eventAt (eventBytes capture) i .pins < pinLimit capture
 
-nothing-wrong : (o1 o2 o3 o4 : Option ℕ) →
+pub nothing-wrong : (o1 o2 o3 o4 : Option ℕ) →
     unless 1 o1 (unless 2 o2 (unless 3 o3 (unless 4 o4 (answered (tt {0}))))) ≡ answered tt →
     (o1 ≡ none) × (o2 ≡ none) × (o3 ≡ none) × (o4 ≡ none)
 nothing-wrong none none none none h = (refl, refl, refl, refl)
@@ -74,7 +74,7 @@ nothing-wrong none none (some p) o4 h = let z : _≡_ {A = ℕ} 0 1 = cc in absu
 nothing-wrong none (some p) o3 o4 h = let z : _≡_ {A = ℕ} 0 1 = cc in absurd (omega arith)
 nothing-wrong (some p) o2 o3 o4 h = let z : _≡_ {A = ℕ} 0 1 = cc in absurd (omega arith)
 
-not-given : (b : Bool) → given 0 b ≡ none → b ≡ false
+pub not-given : (b : Bool) → given 0 b ≡ none → b ≡ false
 not-given true h = let z : _≡_ {A = ℕ} 0 1 = cc in absurd (omega arith)
 not-given false h = refl
 

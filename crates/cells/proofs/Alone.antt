@@ -24,8 +24,8 @@ use Rattle.bridge.proofs.Turn.{turned-event, start-sound}
 use Rattle.judge.specs.Meaning.{eventsIn}
 use Rattle.beats.specs.Kept.{Fit, eventsFrom}
 use Rattle.capture.proofs.Accepted.{cycle-fits}
+use Rattle.capture.proofs.Rising.{Rises}
 use Rattle.deadlines.specs.Deadlines.{FAR}
-use Rattle.beats.proofs.Events.{Rises}
 use Rattle.beats.proofs.Ahead.{Told, Alone}
 use Rattle.reading.proofs.Cuts.{All, nil, cons}
 use Rattle.reading.proofs.Alone.{standing, standsAfter, Past, standing-after, given-stands}

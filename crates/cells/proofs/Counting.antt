@@ -13,11 +13,12 @@ use Rattle.reading.specs.Cells.{burstsOf, cellsOf}
 use Rattle.reading.specs.Part.{Part, start, step}
 use Rattle.reading.specs.Verdict.{verdictOf}
 use Rattle.reading.specs.Answers.{notClean}
+use Rattle.capture.proofs.Rising.{Rises}
 use Rattle.judge.specs.Meaning.{eventsIn}
 use Rattle.pins.specs.Pins.{modeAfter}
 use Rattle.beats.specs.Kept as kept
 use Rattle.beats.specs.Kept.{eventsFrom, keptOf}
-use Rattle.beats.proofs.Events.{Rises, next-event, no-event, events-rise}
+use Rattle.beats.proofs.Events.{next-event, no-event, events-rise}
 use Rattle.beats.proofs.Looking.{kept-le}
 use Rattle.beats.proofs.Commands.{mode-is}
 use Rattle.beats.proofs.Storing.{length-cells}

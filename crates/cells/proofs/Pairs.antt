@@ -21,12 +21,12 @@ use Rattle.reading.proofs.Six.{every-bank}
 use Rattle.reading.proofs.Cuts.{All, nil, cons}
 use Rattle.reading.proofs.Alone.{standing, standing-pairs, standsAfter, cutAlone}
 use Rattle.capture.proofs.Accepted.{both}
+use Rattle.capture.proofs.Rising.{Rises}
 use Rattle.bridge.proofs.Bursts.{Given, find-all}
 use Rattle.bridge.proofs.Next.{Sound}
 use Rattle.bridge.proofs.Turn.{turned-event, start-sound}
 use Rattle.beats.specs.Kept.{gives, keptOf}
 use Rattle.beats.proofs.Commands.{gives-is}
-use Rattle.beats.proofs.Events.{Rises}
 use Rattle.beats.proofs.Cut.{cutByAll}
 use Rattle.beats.proofs.Ahead.{Told, leftOf, kept-in-the-end}
 use Rattle.cells.proofs.Alone.{clean-rest, Early, told}

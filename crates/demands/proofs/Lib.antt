@@ -6,6 +6,7 @@ pub mod Scheduling
 pub mod WithoutSix
 pub mod EditionZero
 pub mod Blanking
+pub mod Judged
 mod Finding
 mod Settled
 pub mod AsBefore

@@ -12,8 +12,8 @@ use borrow.Author.Tests.{eqb-true, ltb-false, lt-ltb, le-ltb}
 use Rattle.reading.specs.Search.{given}
 use Rattle.reading.specs.Words.{bytesOf}
 use Rattle.reading.specs.Settings.{Settings, settingsCount, settingsOf, newer, outOfRange, badSetting}
-use Rattle.reading.specs.Capture.{Event}
-use Rattle.reading.specs.Schedule.{Schedule, planned, late, policyFits, closesRows, badRequest, scheduleOf, eventWords, captureOf}
+use Rattle.reading.specs.Capture.{Event, captureSize}
+use Rattle.reading.specs.Schedule.{Schedule, planned, late, policyFits, closesRows, badRequest, scheduleOf, eventWords, headerOf, captureIn, captureOf}
 use Rattle.reading.specs.Answers.{Answer, refused, answered, unless, Outcome, leaves, whenPlanned, fitting, scheduleOutcome}
 use Rattle.words.proofs.Runs.{front}
 use Rattle.words.proofs.Events.{words-length}
@@ -24,18 +24,18 @@ use Rattle.settings.specs.Meaning as settings
 use Rattle.settings.specs.Meaning.{checked, padded}
 use Rattle.settings.specs.declared.Checked.{Checked}
 use Rattle.settings.specs.declared.Checked.the-variants as check
+use Rattle.capture.proofs.Whole as capture
 use Rattle.settings.proofs.Padded.{padded-settings, padded-range}
 use Rattle.settings.proofs.Fitting.{each-in-range}
 use Rattle.memory.specs.Serving.{Sized}
 use Rattle.plan.proofs.Captured.{settings-fit}
 use Rattle.plan.proofs.Ranged.{fourteen-old, ranged}
 use Rattle.plan.proofs.Ready.{few-requests, schedule-planned}
-use Rattle.plan.proofs.Captured as captured
 use Rattle.schedule.specs.declared.Scheduled.{Scheduled}
 use Rattle.schedule.specs.declared.Scheduled.the-variants.{Refused, Written}
 use Rattle.schedule.specs.declared.Planned.{Planned}
 use Rattle.schedule.specs.declared.Planned.the-variants.{Late, Events}
-use Rattle.schedule.specs.Meaning.{means, plannedAs, Noted, Plannable, Writable, size, head, written, writing}
+use Rattle.schedule.specs.Meaning.{means, plannedAs, Noted, Plannable, Writable, size, written, writing}
 
 -- what a call ends with is document 01's outcome
 abbrev pub Ends : Outcome → Scheduled → List ℕ → Type 0
@@ -193,10 +193,12 @@ module _ {ws : List ℕ} (fit : Right ws) {s : List ℕ} (loaded : s ≡ padded 
             cap = captureOf ws (made m .es)
 
             long : length cap ≡ size n
-            long = captured.size ws (made m .es) (fit .count) ∙ ap size (sym (made m .counted))
+            long =
+                capture.size 0 ws (made m .es) ∙ ap (λ (k : ℕ). captureSize k (length (made m .es))) (fit .count) ∙ ap size (sym (made m .counted))
 
-            whole : bytesOf (head n ++ ws ++ take (2 * n) w) ≡ cap
-            whole = (λ i. bytesOf (head (made m .counted i) ++ ws ++ words-back i)) ∙ sym (captured.in-words ws (made m .es) (fit .count))
+            whole : bytesOf (headerOf 0 (length ws) n ++ ws ++ take (2 * n) w) ≡ cap
+            unfolding captureIn
+            whole i = bytesOf (headerOf 0 (length ws) (made m .counted i) ++ ws ++ words-back i)
 
             outcome-is : scheduleOutcome ws qs policy out ≡ leaves (unless 7 (given (size n) (ltb (length out) (size n))) (answered cap)) out
             outcome-is =
