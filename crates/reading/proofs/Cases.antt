@@ -25,6 +25,7 @@ mod Sleeping
 mod Tables
 mod Editions
 mod Blanking
+mod Exports
 
 -- pin words, put together by adding: a command, a bank, A10, column or row pins
 abbrev ACTIVE : ℕ

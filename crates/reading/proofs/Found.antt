@@ -8,6 +8,7 @@ use mathlib.Core.Path.{_≡_, refl, ap, _∙_}
 use native.Mathlib.Decide.{decLt}
 use native.Mathlib.Omega.{arith}
 use lib.Dec.{leb}
+use lib.ListN.{length, getD}
 use borrow.Author.Tests.{leb-true, leb-false}
 use Rattle.reading.specs.Search.{find, later}
 use Rattle.reading.specs.Schedule.{earliest}
@@ -40,6 +41,12 @@ module _ {A : Type 0} (f : A → Bool) where
       go : (b : Bool) → f y ≡ b → cond b (some y) (find f ys) ≡ some x → (find f ys ≡ some x → Has ys x) → Has (y ∷ ys) x
       go true e v ih = let p : x ≡ y = cc in record { member = List·Memᴰ.List·Memᴰ·head p; holds = ap f p ∙ e }
       go false e v ih = record { member = List·Memᴰ.List·Memᴰ·tail (ih v .member); holds = ih v .holds }
+
+-- what stands at a place is in the list
+pub member-at : {A : Type 0} (x : A) (xs : List A) (i : ℕ) → i < length xs → List·Memᴰ (getD xs i x) xs
+member-at x [] i l = absurd (omega arith)
+member-at x (y ∷ ys) zero l = List·Memᴰ.List·Memᴰ·head refl
+member-at x (y ∷ ys) (suc i) l = List·Memᴰ.List·Memᴰ·tail (member-at x ys i (omega arith))
 
 -- ---- lists of numbers that rise
 

@@ -6,3 +6,4 @@ pub mod Counting
 pub mod Events
 pub mod Storing
 pub mod Bytes
+pub mod Halves

@@ -1,9 +1,9 @@
-// Little-endian 32-bit words in a slice of bytes.
+// Little-endian words of 32 bits, and of 16, in a slice of bytes.
 ghost use mathlib.Core.Path.{_≡_};
 ghost use Prim.Native.Nat.{_+_, _*_, _≤_, _<_};
 ghost use lib.ListN.{length, take};
 ghost use lib.Seq.{sets};
-ghost use Rattle.reading.specs.Words.{wordAt, wordBytes, bytesOf};
+ghost use Rattle.reading.specs.Words.{wordAt, wordBytes, bytesOf, halfAt, halfBytes};
 
 // What a search for the lowest number of a kind answers.
 pub enum Found {
@@ -44,4 +44,27 @@ pub fn put_words(out: &mut [u8], at: usize, list: &[u32], n: usize)
     'words: for i in 0..n {
         put_word(out, at + 4 * i, list[i]);
     }
+}
+
+fn half(x: u8) -> u16
+    ensures { λ r. ⌜ (r ≡ x) × (r < 256) ⌝ }
+{
+    x as u16
+}
+
+// The word of 16 bits whose lowest byte stands at `at`.
+pub fn half_at(s: &[u8], at: usize) -> u16
+    requires { ⌜ at + 2 ≤ length (now s) ⌝ }
+    ensures { λ r. ⌜ r ≡ halfAt (now (s .entry)) at ⌝ }
+{
+    half(s[at]) + 256 * half(s[at + 1])
+}
+
+// Stores `w` in the two bytes from `at` on; every other byte stays.
+pub fn put_half(out: &mut [u8], at: usize, w: u16)
+    requires { ⌜ at + 2 ≤ length (now out) ⌝ }
+    ensures { λ _. ⌜ now (out .exit) ≡ sets (now (out .entry)) at (halfBytes w) ⌝ }
+{
+    out[at] = (w % 256) as u8;
+    out[at + 1] = (w / 256 % 256) as u8;
 }
