@@ -14,11 +14,11 @@ use Rattle.reading.specs.Cells.{burstsOf, cellsOf}
 use Rattle.reading.proofs.Cuts.{All, nil, cons}
 use Rattle.reading.proofs.Alone.{Stands, standing, standing-pairs, standsAfter, cutAlone}
 use Rattle.reading.proofs.Beats.{cells-append}
+use Rattle.capture.proofs.Rising.{Rises}
 use Rattle.pins.specs.Pins.{codeOf, bankOf, addressOf, tenOf, gives}
 use Rattle.pins.proofs.Commands.{write-is, gives-is}
 use Rattle.beats.specs.Kept.{cutAhead, keptWhole, keptOf}
 use Rattle.beats.specs.Rows.{firstInRow, beatCells}
-use Rattle.beats.proofs.Events.{Rises}
 use Rattle.beats.proofs.Cut.{cutByAll, cut-ahead, auto-kept}
 use Rattle.beats.proofs.Interrupting.{interrupted-ahead}
 use Rattle.beats.proofs.Looking.{kept-nothing}

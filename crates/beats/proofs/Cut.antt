@@ -15,9 +15,9 @@ use Rattle.reading.specs.Commands.{commandOf}
 use Rattle.reading.specs.Bursts.{Burst, withPairs}
 use Rattle.reading.specs.Part.{atMost}
 use Rattle.reading.proofs.Alone.{Stands, standsAfter, cutAlone}
+use Rattle.capture.proofs.Rising.{Rises}
 use Rattle.pins.specs.Pins.{codeOf, bankOf}
 use Rattle.beats.specs.Kept.{cutsBurst, keptBy, keptAhead}
-use Rattle.beats.proofs.Events.{Rises}
 use Rattle.beats.proofs.Commands.{cuts-is}
 
 -- a burst as the events behind it cut it, each by itself and by what still stands of it

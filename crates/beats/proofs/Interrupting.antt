@@ -17,10 +17,10 @@ use Rattle.reading.specs.Bursts.{Burst, withPairs, wholeEnd}
 use Rattle.reading.specs.Part.{atMost}
 use Rattle.reading.proofs.Alone.{Stands, shuts, ends, standsAfter, cutAlone}
 use Rattle.reading.proofs.Laws.{both, lesser-first, lesser-second, lesser-low}
+use Rattle.capture.proofs.Rising.{Rises}
 use Rattle.pins.specs.Pins.{codeOf}
 use Rattle.pins.proofs.Commands.{active-is, read-is, write-is, precharge-is}
 use Rattle.beats.specs.Kept.{shutsBank, takesBank, nextLeaves, rowLeaves}
-use Rattle.beats.proofs.Events.{Rises}
 use Rattle.beats.proofs.Cut.{cutByAll}
 
 -- ---- the lesser of three

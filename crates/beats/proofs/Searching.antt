@@ -10,9 +10,10 @@ use lib.Dec.{leb, eqb}
 use Rattle.reading.specs.Search.{lesser}
 use Rattle.reading.specs.Settings.{Settings}
 use Rattle.reading.specs.Capture.{Event, eventAt}
+use Rattle.capture.proofs.Rising.{Rises}
 use Rattle.pins.specs.Pins.{codeOf, bankOf, gives}
 use Rattle.beats.specs.Kept.{Fit, eventsFrom, shutsBank, takesBank, nextLeaves, rowLeaves}
-use Rattle.beats.proofs.Events.{Rises, next-event, no-event, rise-behind}
+use Rattle.beats.proofs.Events.{next-event, no-event, rise-behind}
 
 -- what is left where no cycle has gone by
 pub none-before : (pairs t from : ℕ) → t ≤ from → 0 ≡ lesser pairs (t - from)

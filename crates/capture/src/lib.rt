@@ -1,4 +1,6 @@
 // A capture in bytes: whether it is accepted, and its settings and events.
+pub mod front;
+
 use settings::COUNT;
 use settings::Checked;
 use settings::HELD;

@@ -20,6 +20,7 @@ use Rattle.reading.proofs.Meaning.{none-broken}
 use Rattle.reading.proofs.Cuts.{All, nil, cons}
 use Rattle.reading.proofs.Alone.{standing, standing-pairs, standsAfter, cutAlone}
 use Rattle.reading.proofs.Laws.{both, every-bank}
+use Rattle.capture.proofs.Rising.{Rises}
 use Rattle.bridge.proofs.Bursts.{Given, find-all}
 use Rattle.bridge.proofs.Next.{Sound}
 use Rattle.judge.specs.Meaning.{partAt}
@@ -27,7 +28,7 @@ use Rattle.judge.proofs.Events.{part-next}
 use Rattle.pins.specs.Pins.{gives}
 use Rattle.pins.proofs.Commands.{gives-is}
 use Rattle.beats.specs.Kept.{eventsFrom, keptOf}
-use Rattle.beats.proofs.Events.{Rises, next-event, no-event, rise-behind}
+use Rattle.beats.proofs.Events.{next-event, no-event, rise-behind}
 use Rattle.beats.proofs.Cut.{cutByAll}
 use Rattle.beats.proofs.Ahead.{leftOf, kept-in-the-end}
 use Rattle.cells.specs.Meaning.{Listable, KeepsPair, Clean}

@@ -16,7 +16,8 @@ use Rattle.judge.specs.declared.Verdict.{Verdict}
 use Rattle.alike.proofs.Captures.{same-accepted, judged-alike}
 use Rattle.alike.proofs.Pins.{as-made}
 use Rattle.alike.proofs.Blanked.{same-blanked, blanked-length, blanked-pins, blanked-differs, differ-blanked}
-use Rattle.alike.proofs.Bytes.{Bytes, front-bytes, cycle-bytes, pin-bytes, blanked-bytes}
+use Rattle.words.proofs.Bytes.{Bytes}
+use Rattle.alike.proofs.Bytes.{front-bytes, cycle-bytes, pin-bytes, blanked-bytes}
 use Rattle.blanks.specs.declared.Blanked.{Blanked}
 use Rattle.blanks.specs.declared.Blanked.the-variants.{Refused, Written}
 use Rattle.blanks.specs.Meaning.{means}

@@ -8,6 +8,7 @@ pub mod WithoutSix
 pub mod EditionZero
 pub mod Blanking
 pub mod Unaccepted
+pub mod Judged
 mod Finding
 mod Settled
 pub mod AsBefore

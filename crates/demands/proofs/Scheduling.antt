@@ -190,11 +190,11 @@ module _ (ws qs : List ℕ) (policy : ℕ) (out : List ℕ) (n : ℕ) (e : sched
   few = omega (arith, y .few, few-requests (settingsOf ws) qs (written .requests))
 
   outcome-events : eventsOf capture ≡ es
-  outcome-events = rw (written .bytes) (events-back ws es l (written .settings) few (y .rises) (y .early))
+  outcome-events = rw (written .bytes) (events-back ws es l (written .settings) few (y .rises) (y .low) (y .early))
 
   outcome-memory : (r : Run) → replay (settingsIn capture) (eventsOf capture) r ≡ plain (settingsOf ws) qs r
   outcome-memory r =
-      rw (outcome-events, written .bytes, captured-settings ws es l (written .settings) few (y .rises) (y .early))
+      rw (outcome-events, written .bytes, captured-settings ws es l (written .settings) few (y .rises) (y .low) (y .early))
       (schedule-is-plain (ranged ws (settings-fit ws (written .fourteen) (written .settings)) (fourteen-old ws (written .fourteen))) y r)
 
   outcome-reads : (r : Run) → partReads (settingsIn capture) (eventsOf capture) r ≡ plainReads (settingsOf ws) qs r

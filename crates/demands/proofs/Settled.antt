@@ -15,6 +15,7 @@ use Rattle.demands.proofs.Judging as judging
 use Rattle.words.proofs.word_at.Reads as words-word-at
 use Rattle.words.proofs.put_word.Reads as words-put-word
 use Rattle.words.proofs.both.Reads as words-both
+use Rattle.words.proofs.put_words.Reads as words-put-words
 use Rattle.settings.proofs.mode_word.Reads as settings-mode-word
 use Rattle.settings.proofs.mode.burst_length.Reads as settings-mode-burst-length
 use Rattle.settings.proofs.mode.half.Reads as settings-mode-half
@@ -108,6 +109,8 @@ use Rattle.morgazell.proofs.morgazell_blank.Reads as morgazell-morgazell-blank
 use Rattle.morgazell.proofs.version.morgazell_version.Reads as morgazell-version-morgazell-version
 use Rattle.capture.proofs.event_bytes.Reads as capture-event-bytes
 use Rattle.capture.proofs.events_start.Reads as capture-events-start
+use Rattle.capture.proofs.front.size.Reads as capture-front-size
+use Rattle.capture.proofs.front.put.Reads as capture-front-put
 use Rattle.pins.proofs.code.Reads as pins-code
 use Rattle.pins.proofs.bank.Reads as pins-bank
 use Rattle.pins.proofs.address.Reads as pins-address
@@ -127,6 +130,10 @@ words-put-word-settles κs a z z′ e e′ p q = p ∙ sym q
 
 pub words-both-settles : (κs : _) (a : _) (z z′ : _) (e e′ : _) → words-both.Post κs a z e → words-both.Post κs a z′ e′ → z ≡ z′
 words-both-settles κs a z z′ e e′ p q = p ∙ sym q
+
+pub words-put-words-settles : (κs : _) (a : _) (z z′ : _) (e e′ : _) → words-put-words.Post κs a z e → words-put-words.Post κs a z′ e′ →
+    now (e .0) ≡ now (e′ .0)
+words-put-words-settles κs a z z′ e e′ p q = p ∙ sym q
 
 -- ---- settings
 
@@ -183,6 +190,14 @@ capture-event-bytes-settles κs a z z′ e e′ p q = p ∙ sym q
 pub capture-events-start-settles : (κs : _) (a : _) (z z′ : _) (e e′ : _) → capture-events-start.Post κs a z e → capture-events-start.Post κs a z′ e′ →
     z ≡ z′
 capture-events-start-settles κs a z z′ e e′ p q = p .0 ∙ sym (q .0)
+
+pub capture-front-size-settles : (κs : _) (a : _) (z z′ : _) (e e′ : _) → capture-front-size.Post κs a z e → capture-front-size.Post κs a z′ e′ →
+    z ≡ z′
+capture-front-size-settles κs a z z′ e e′ p q = p ∙ sym q
+
+pub capture-front-put-settles : (κs : _) (a : _) (z z′ : _) (e e′ : _) → capture-front-put.Post κs a z e → capture-front-put.Post κs a z′ e′ →
+    now (e .1 .1 .1 .0) ≡ now (e′ .1 .1 .1 .0)
+capture-front-put-settles κs a z z′ e e′ p q = p ∙ sym q
 
 -- ---- deadlines
 

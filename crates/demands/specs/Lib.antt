@@ -1,5 +1,5 @@
--- What the contracts of the public functions allow, when a capture and when a call is refused, what each read returns, answers
--- by other rules, by the reading before there were editions, and by closed rows as they were.
+-- What the contracts of the public functions allow, when a capture and when a call is refused, the first events of a capture, what
+-- each read returns, answers by other rules, by the reading before there were editions, and by closed rows as they were.
 pub mod Allowed
 pub mod Captures
 pub mod Reads
@@ -7,3 +7,4 @@ pub mod Refused
 pub mod ByRules
 pub mod OldEdition
 pub mod ClosedRows
+pub mod Judged

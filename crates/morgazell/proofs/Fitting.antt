@@ -27,12 +27,12 @@ use Rattle.reading.proofs.Cuts.{All, nil, cons, Whole, bursts-whole}
 use Rattle.reading.proofs.Laws.{not-given}
 use Rattle.capture.specs.Calls.{Accepted}
 use Rattle.capture.proofs.Accepted.{sized, count-range, words-count, accepted-sound}
+use Rattle.capture.proofs.Whole.{size}
 use Rattle.beats.proofs.Columns.{half-le}
 use Rattle.judge.proofs.Events.{length-count}
 use Rattle.alike.proofs.Blanked.{blanked-length}
 use Rattle.plan.proofs.Ready.{few-requests}
 use Rattle.plan.proofs.Captured as plan
-use Rattle.plan.proofs.Captured.{size}
 use Rattle.morgazell.specs.Packing.{Told, refusal, count, breach, verdictTold, judgeTold, countTold}
 
 -- a number of eight bits that is not 0, and one of 32
@@ -270,4 +270,4 @@ schedule-fits ws qs policy buffer =
     go none none none none (planned es) p q m r s =
         let l : length ws ≡ 14 = fourteen p in
         room buffer (captureOf ws es)
-        (omega (arith, size ws es l, plan.schedule-fits ws qs l q r policy es s .few, few-requests (settingsOf ws) qs r))
+        (omega (arith, size 0 ws es, plan.schedule-fits ws qs l q r policy es s .few, few-requests (settingsOf ws) qs r))

@@ -1,5 +1,5 @@
 -- A schedule never sleeps: CKE stays high, and the part behind it is awake as at the start.
-use Prim.Native.Nat.{ℕ, suc, _^_, _<_}
+use Prim.Native.Nat.{ℕ, _^_, _<_}
 use mathlib.Core.Bool.{Bool, true, false, cond, not, _&&_, _||_, or-true}
 use mathlib.Core.List.{List, [], _∷_}
 use mathlib.Core.Option.{none}
@@ -15,16 +15,17 @@ use Rattle.reading.specs.Commands.{Command, AUTO-REFRESH, is, quiet, commandOf}
 use Rattle.reading.specs.Sleep.{Sleep, sleepAtStart, inSelfRefresh, sleepAfter, sleepAllows}
 use Rattle.reading.specs.Part.{Part, start, step, run, clockAfter}
 use Rattle.reading.specs.Rules.{rule14, rule15, dataOver}
+use Rattle.capture.proofs.Rising.{Low}
 use Rattle.plan.specs.Behind.{partOf}
-use Rattle.plan.proofs.Reached.{Rises, Reached}
+use Rattle.plan.proofs.Reached.{Reached}
 
 -- bit 20 is above the pins of a schedule
 pub cke-high : (pins : ℕ) → pins < 2 ^ 20 → commandOf pins .low ≡ false
 cke-high pins l = let z : bit 20 pins ≡ 0 = omega arith in ap (λ (b : ℕ). eqb b 1) z
 
-pub all-high : (from : ℕ) (es : List Event) → Rises from es → every (λ e. not (commandOf (e .pins) .low)) es ≡ true
-all-high from [] r = refl
-all-high from (e ∷ es) r = rw (cke-high (e .pins) (r .1)) (all-high (suc (e .cycle)) es (r .2))
+pub all-high : (es : List Event) → Low (2 ^ 20) es → every (λ e. not (commandOf (e .pins) .low)) es ≡ true
+all-high [] r = refl
+all-high (e ∷ es) r = rw (cke-high (e .pins) (r .0)) (all-high es (r .1))
 
 -- a command with CKE high, of a part that never slept
 module _ (s : Settings) (p : Part) (e : p .sleep ≡ sleepAtStart) (t : ℕ) (c : Command) where
@@ -49,13 +50,13 @@ module _ (s : Settings) (p : Part) (e : p .sleep ≡ sleepAtStart) (t : ℕ) (c 
         go true k = let z : _≡_ {A = ℕ} 0 1 = cc in absurd (omega arith)
         go false k = refl
 
-awake-on : (s : Settings) (p : Part) → p .sleep ≡ sleepAtStart → (from : ℕ) (es : List Event) → Rises from es → run s p es .sleep ≡ sleepAtStart
-awake-on s p e from [] r = e
-awake-on s p e from (x ∷ es) r =
-    awake-on s (step s p x) (awake-stays s p e (x .cycle) (commandOf (x .pins)) (cke-high (x .pins) (r .1))) (suc (x .cycle)) es (r .2)
+awake-on : (s : Settings) (p : Part) → p .sleep ≡ sleepAtStart → (es : List Event) → Low (2 ^ 20) es → run s p es .sleep ≡ sleepAtStart
+awake-on s p e [] r = e
+awake-on s p e (x ∷ es) r =
+    awake-on s (step s p x) (awake-stays s p e (x .cycle) (commandOf (x .pins)) (cke-high (x .pins) (r .0))) es (r .1)
 
 pub awake : {s : Settings} {asked : List ℕ} {es : List Event} → Reached s asked es → partOf s es .sleep ≡ sleepAtStart
-awake {s} {es = es} r = awake-on s (start s) refl 0 es (r .rises)
+awake {s} {es = es} r = awake-on s (start s) refl es (r .low)
 
 pub awake-now : {s : Settings} {asked : List ℕ} {es : List Event} → Reached s asked es → partOf s es .sleep .asleep ≡ false
 awake-now r = ap (λ (x : Sleep). x .asleep) (awake r)
@@ -66,4 +67,4 @@ pub record Sleepless (s : Settings) (es : List Event) : Type 0 where
   pub part : partOf s es .sleep ≡ sleepAtStart
 
 pub sleepless : {s : Settings} {asked : List ℕ} {es : List Event} → Reached s asked es → Sleepless s es
-sleepless {s} {es = es} r = record { high = all-high 0 es (r .rises); part = awake r }
+sleepless {s} {es = es} r = record { high = all-high es (r .low); part = awake r }

@@ -1,11 +1,11 @@
 -- What holds behind the events that a schedule sends, whether or not they come in time for rule 14.
-use Prim.Native.Nat.{ℕ, zero, suc, _+_, _*_, _^_, _≤_, _<_}
-use mathlib.Core.Bool.{Bool, true, false, _&&_}
-use mathlib.Core.List.{List, [], _∷_, _++_, map}
+use Prim.Native.Nat.{ℕ, suc, _+_, _*_, _^_, _≤_, _<_}
+use mathlib.Core.Bool.{true, false}
+use mathlib.Core.List.{List, [], _∷_, map}
 use mathlib.Core.Path.{_≡_, refl, sym, ap, _∙_, subst}
 use native.Mathlib.Omega.{arith}
 use lib.ListN.{length, getD, set}
-use Rattle.reading.specs.Search.{every, later}
+use Rattle.reading.specs.Search.{later}
 use Rattle.reading.specs.Settings.{Settings}
 use Rattle.reading.specs.Capture.{Event}
 use Rattle.reading.specs.Commands.{READ, WRITE, MODE-REGISTER-SET, Command, is, among, commandOf}
@@ -13,6 +13,8 @@ use Rattle.reading.specs.Part.{Part, partAfter, cutBy, lastRead, lastWrite}
 use Rattle.reading.specs.Rules.{keepsRule, placing}
 use Rattle.reading.specs.Schedule.{cutsNothing, passes, freeFrom, placed, send}
 use Rattle.reading.proofs.Six.{Rest, start-rest, next-rest}
+use Rattle.words.proofs.Search.{every-at}
+use Rattle.capture.proofs.Rising.{Rises, Low, rises-more, low-more}
 use Rattle.bridge.specs.Summary.{laid, summary}
 use Rattle.bridge.proofs.Next.{Sound}
 use Rattle.bridge.proofs.Kept.{kept-plain}
@@ -20,16 +22,10 @@ use Rattle.bridge.proofs.Turn.{start-laid, start-sound}
 use Rattle.memory.specs.Serving.{nil}
 use Rattle.memory.proofs.Part.{Serving}
 use Rattle.plan.specs.Behind.{partOf, deadlinesOf, FREE, EVENTS, cutEnd, stood, standingOf}
-use Rattle.plan.proofs.Ranged.{Ranged}
 use Rattle.plan.specs.Margin.{waitOf}
 use Rattle.plan.proofs.Near.{Near, longest, near-start}
 use Rattle.plan.proofs.Sending.{free-sent, length-sent, part-sent, Goes, goes-at, goes-free, goes-soon, goes-there}
 use Rattle.plan.proofs.Uncut.{all-stay}
-
--- cycles rise, none before `from`, and pin words have no bit above the pins
-abbrev pub Rises : ℕ → List Event → Type 0
-Rises from [] = Unit {0}
-Rises from (e ∷ es) = (from ≤ e .cycle) × (e .pins < 2 ^ 20) × Rises (suc (e .cycle)) es
 
 -- the bursts are those of some requests, the latest first, each with all its pairs
 pub record Reached (s : Settings) (asked : List ℕ) (es : List Event) : Type 0 where
@@ -38,6 +34,8 @@ pub record Reached (s : Settings) (asked : List ℕ) (es : List Event) : Type 0 
   pub sound : Sound (freeFrom 0 es) (partOf s es)
   pub near : Near s (freeFrom 0 es) (deadlinesOf s es)
   pub rises : Rises 0 es
+  -- no bit above the pins
+  pub low : Low (2 ^ 20) es
   pub early : freeFrom 0 es ≤ suc longest * length es
 
 pub start-reached : (s : Settings) → Reached s [] []
@@ -49,22 +47,9 @@ start-reached s =
       sound = start-sound s;
       near = subst (λ d. Near s 0 d) (start-laid s) (near-start s);
       rises = tt;
+      low = tt;
       early = omega arith;
     }
-
-rises-more : (from : ℕ) (es : List Event) (e : Event) → Rises from es → freeFrom from es ≤ e .cycle → e .pins < 2 ^ 20 → Rises from (es ++ (e ∷ []))
-unfolding freeFrom
-rises-more from [] e r l k = (l, k, tt)
-rises-more from (x ∷ es) e r l k = (r .0, r .1, rises-more (suc (x .cycle)) es e (r .2) l k)
-
-pub every-at : {A : Type 0} (f : A → Bool) (x : A) → f x ≡ true → (xs : List A) → every f xs ≡ true → (i : ℕ) → f (getD xs i x) ≡ true
-every-at f x d [] h i = d
-every-at f x d (y ∷ xs) h i = go (f y) refl h i (every-at f x d xs)
-  where
-    go : (v : Bool) → f y ≡ v → (v && every f xs) ≡ true → (i : ℕ) → (every f xs ≡ true → (j : ℕ) → f (getD xs j x) ≡ true) → f (getD (y ∷ xs) i x) ≡ true
-    go true e k zero ih = e
-    go true e k (suc j) ih = ih k j
-    go false e k j ih = let z : _≡_ {A = ℕ} 0 1 = cc in absurd (omega arith)
 
 -- what passes keeps rule 3, rule 9 and rule 10
 held : (s : Settings) (p : Part) (pins t : ℕ) → passes placing s p pins t ≡ true → (i : ℕ) → keepsRule (getD placing i 0) s p t (commandOf pins) ≡ true
@@ -131,7 +116,8 @@ module _ {s : Settings} {asked : List ℕ} {es : List Event} (r : Reached s aske
               rest = rw part-is (next-rest s (partOf s es) t c (rw (← carried) (held s (partOf s es) pins t (goes-there w .0) 7)) (r .rest));
               sound = rw (free-sent s es pins, part-is) sound;
               near = rw (free-sent s es pins, left) near;
-              rises = rises-more 0 es (record { cycle = t; pins = pins }) (r .rises) (goes-free w) small;
+              rises = rises-more 0 es (record { cycle = t; pins = pins }) (r .rises) (goes-free w);
+              low = low-more (2 ^ 20) es (record { cycle = t; pins = pins }) (r .low) small;
               early = omega (arith, free-sent s es pins, length-sent s es pins, goes-soon w, w .short, r .early);
             };
       }

@@ -1,6 +1,6 @@
 -- A schedule between two requests; the schedule of requests that fit is clean, short, and rises, and its bursts are those of the
 -- requests: by both row policies.
-use Prim.Native.Nat.{ℕ, suc, _+_, _*_, _≤_, _<_}
+use Prim.Native.Nat.{ℕ, suc, _+_, _*_, _^_, _≤_, _<_}
 use mathlib.Core.Bool.{Bool, true, false, cond, not}
 use mathlib.Core.List.{List, [], _∷_, reverseAux}
 use mathlib.Core.Option.{Option, none, some}
@@ -25,10 +25,11 @@ use Rattle.memory.proofs.Same.{serving-bursts, bursts-are-plain}
 use Rattle.words.proofs.Search.{none-below}
 use Rattle.deadlines.specs.Deadlines.{soonest}
 use Rattle.bridge.specs.Summary.{overdueBy}
+use Rattle.capture.proofs.Rising.{Rises, Low}
 use Rattle.plan.specs.Behind.{deadlinesOf}
 use Rattle.plan.specs.Soonest.{refreshSoonest}
 use Rattle.plan.proofs.Ranged.{Ranged}
-use Rattle.plan.proofs.Reached.{Rises, Reached, start-reached}
+use Rattle.plan.proofs.Reached.{Reached, start-reached}
 use Rattle.plan.proofs.Awake.{Sleepless, sleepless}
 use Rattle.plan.proofs.Placed.{refresh-sent}
 use Rattle.plan.proofs.Leading.{overdueOf, requested, Refreshed, refreshedAt, refreshed, in-time}
@@ -131,6 +132,7 @@ pub record Planned (s : Settings) (qs : List ℕ) (es : List Event) : Type 0 whe
   pub judged : verdictOf s es ≡ clean
   pub few : length es ≤ 4 * length qs
   pub rises : Rises 0 es
+  pub low : Low (2 ^ 20) es
   pub early : freeFrom 0 es ≤ lastCycle
   pub never-sleeps : Sleepless s es
   -- burst by burst, what the requests ask for
@@ -163,6 +165,7 @@ module _ (s : Settings) (qs : List ℕ) (good : badRequest s qs ≡ none) where
         judged = y .judged;
         few = omega arith;
         rises = y .reached .rises;
+        low = y .reached .low;
         early = omega (arith, y .reached .early, few-requests);
         never-sleeps = sleepless (y .reached);
         serves = serving-bursts s qs es (y .reached .serving);

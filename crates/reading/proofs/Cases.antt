@@ -10,7 +10,7 @@ use Rattle.reading.specs.Capture.{Event, settingWords, eventsOf, lengthF
 use Rattle.reading.specs.Bursts.{burstCells, beatCell, beatColumn, place}
 use Rattle.reading.specs.Verdict.{Verdict, clean, broken, verdictOf, judgedOf, judgeBy, verdictBy}
 use Rattle.reading.specs.Cells.{burstsOf, cellsOf}
-use Rattle.reading.specs.Schedule.{captureOf, eventWords}
+use Rattle.reading.specs.Schedule.{captureIn, captureOf, eventWords}
 use Rattle.reading.specs.Answers.{Answer, refused, answered, Report, accepted, judgeAnswer, verdictIn, cellsIn}
 mod Document
 mod Readings
@@ -25,6 +25,7 @@ mod Sleeping
 mod Tables
 mod Editions
 mod Blanking
+mod Exports
 
 -- pin words, put together by adding: a command, a bank, A10, column or row pins
 abbrev ACTIVE : ℕ
@@ -101,7 +102,7 @@ answerSaid cells (answered r) = verdictSaid (r .judged) cells (r .verdict)
 
 -- to unfold this is to unfold all that a capture's answers are made of
 said : List ℕ → Said
-unfolding answerSaid verdictSaid captureOf eventWords bytesOf wordBytes wordAt judgeAnswer accepted verdictIn cellsIn settingWords badSetting settingFits eventsOf lengthFits headerFits eventFits badEvent verdictBy judgeBy cellsOf burstsOf burstCells beatCell beatColumn place
+unfolding answerSaid verdictSaid captureIn eventWords bytesOf wordBytes wordAt judgeAnswer accepted verdictIn cellsIn settingWords badSetting settingFits eventsOf lengthFits headerFits eventFits badEvent verdictBy judgeBy cellsOf burstsOf burstCells beatCell beatColumn place
 said capture = answerSaid (cellsIn capture) (judgeAnswer capture)
 
 record Case : Type 0 where

@@ -8,6 +8,7 @@ use mathlib.Core.Path.{_≡_, refl, ap, _∙_}
 use native.Mathlib.Decide.{decLt}
 use native.Mathlib.Omega.{arith}
 use lib.Dec.{eqb}
+use lib.ListN.{length, getD}
 use Rattle.reading.specs.Search.{every, find, orElse}
 use Rattle.reading.specs.Schedule.{earliest}
 use Rattle.reading.proofs.Laws.{both}
@@ -69,6 +70,12 @@ same-found f g ok e (x ∷ xs) a =
 -- a number that is found where it is looked for is in the list
 pub listed : (n : ℕ) (ns : List ℕ) → find (eqb n) ns ≡ some n → List·Memᴰ n ns
 listed n ns e = find-some (eqb n) ns n e .member
+
+-- what stands at a place is in the list
+pub member-at : {A : Type 0} (x : A) (xs : List A) (i : ℕ) → i < length xs → List·Memᴰ (getD xs i x) xs
+member-at x [] i l = absurd (omega arith)
+member-at x (y ∷ ys) zero l = List·Memᴰ.List·Memᴰ·head refl
+member-at x (y ∷ ys) (suc i) l = List·Memᴰ.List·Memᴰ·tail (member-at x ys i (omega arith))
 
 -- ---- lists of numbers that rise
 

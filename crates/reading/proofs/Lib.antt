@@ -8,3 +8,4 @@ pub mod Tables
 pub mod Six
 pub mod Cuts
 pub mod Alone
+pub mod Nops

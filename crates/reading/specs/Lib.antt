@@ -16,3 +16,4 @@ pub mod Schedule
 pub mod Memory
 pub mod Answers
 pub mod Blank
+pub mod Export

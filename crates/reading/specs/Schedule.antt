@@ -159,13 +159,19 @@ module _ (rs : List ℕ) (s : Settings) where
 abbrev pub scheduleOf : Settings → ℕ → List ℕ → Schedule
 scheduleOf s policy = scheduleBy placing s (closesRows policy)
 
--- a whole capture: header, settings, events
+-- ---- a whole capture: header, settings, events
+
 unfoldable pub eventWords : List Event → List ℕ
 eventWords [] = []
 eventWords (e ∷ es) = e .cycle ∷ e .pins ∷ eventWords es
 
-unfoldable pub captureOf : List ℕ → List Event → List ℕ
-captureOf settings es =
-    bytesOf
-    ((captureSize (length settings) (length es)
-    ∷ length settings ∷ settingsStart ∷ length es ∷ eventsStart (length settings) ∷ 0 ∷ []) ++ settings ++ eventWords es)
+-- the header of so many settings and n events
+abbrev pub headerOf : ℕ → ℕ → ℕ → List ℕ
+headerOf edition settings n = captureSize settings n ∷ settings ∷ settingsStart ∷ n ∷ eventsStart settings ∷ edition ∷ []
+
+unfoldable pub captureIn : ℕ → List ℕ → List Event → List ℕ
+captureIn edition settings es = bytesOf (headerOf edition (length settings) (length es) ++ settings ++ eventWords es)
+
+-- that of a schedule, which keeps to the old rules
+abbrev pub captureOf : List ℕ → List Event → List ℕ
+captureOf = captureIn 0

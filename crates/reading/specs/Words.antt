@@ -1,4 +1,4 @@
--- Little-endian 32-bit words in a list of bytes; bits of a word.
+-- Little-endian words of 32 bits, and of 16, in a list of bytes; bits of a word.
 use Prim.Native.Nat.{ℕ, _+_, _*_, _/_, _%_, _^_}
 use mathlib.Core.List.{List, [], _∷_, _++_}
 use lib.ListN.{getD}
@@ -14,6 +14,13 @@ wordBytes w = w % 2 ^ 8 ∷ w / 2 ^ 8 % 2 ^ 8 ∷ w / 2 ^ 16 % 2 ^ 8 ∷ w / 2 ^
 unfoldable pub bytesOf : List ℕ → List ℕ
 bytesOf [] = []
 bytesOf (w ∷ ws) = wordBytes w ++ bytesOf ws
+
+-- the same of 16 bits
+unfoldable pub halfAt : List ℕ → ℕ → ℕ
+halfAt bytes at = getD bytes at 0 + 2 ^ 8 * getD bytes (at + 1) 0
+
+unfoldable pub halfBytes : ℕ → List ℕ
+halfBytes w = w % 2 ^ 8 ∷ w / 2 ^ 8 % 2 ^ 8 ∷ []
 
 abbrev pub bit : ℕ → ℕ → ℕ
 bit i w = w / 2 ^ i % 2

@@ -12,8 +12,8 @@ use borrow.Author.Tests.{eqb-true, ltb-true, ltb-false, lt-ltb, le-ltb}
 use Rattle.reading.specs.Search.{given}
 use Rattle.reading.specs.Words.{bytesOf}
 use Rattle.reading.specs.Settings.{Settings, settingsCount, settingsOf, newer, outOfRange, badSetting}
-use Rattle.reading.specs.Capture.{Event}
-use Rattle.reading.specs.Schedule.{Schedule, planned, late, policyFits, closesRows, badRequest, scheduleOf, eventWords, captureOf}
+use Rattle.reading.specs.Capture.{Event, captureSize}
+use Rattle.reading.specs.Schedule.{Schedule, planned, late, policyFits, closesRows, badRequest, scheduleOf, eventWords, headerOf, captureIn, captureOf}
 use Rattle.reading.specs.Answers.{Answer, refused, answered, unless, leaves, whenPlanned, fitting, scheduleOutcome}
 use Rattle.words.proofs.Events.{words-length}
 use Rattle.words.specs.Found.{placeOf}
@@ -23,6 +23,7 @@ use Rattle.settings.specs.Meaning as settings
 use Rattle.settings.specs.Meaning.{checked, padded}
 use Rattle.settings.specs.declared.Checked.{Checked}
 use Rattle.settings.specs.declared.Checked.the-variants as check
+use Rattle.capture.proofs.Whole as capture
 use Rattle.settings.proofs.Padded.{padded-settings, padded-range}
 use Rattle.settings.proofs.Fitting.{each-in-range}
 use Rattle.capture.specs.Calls.{Meets}
@@ -31,12 +32,11 @@ use Rattle.memory.specs.Serving.{Sized}
 use Rattle.plan.proofs.Captured.{settings-fit}
 use Rattle.plan.proofs.Ranged.{fourteen-old, ranged}
 use Rattle.plan.proofs.Ready.{few-requests, schedule-planned}
-use Rattle.plan.proofs.Captured as captured
 use Rattle.schedule.specs.declared.Scheduled.{Scheduled}
 use Rattle.schedule.specs.declared.Scheduled.the-variants.{Refused, Written}
 use Rattle.schedule.specs.declared.Planned.{Planned}
 use Rattle.schedule.specs.declared.Planned.the-variants.{Late, Events}
-use Rattle.schedule.specs.Meaning.{means, planMeans, planAnswer, Noted, Plannable, Writable, size, head, written, writing}
+use Rattle.schedule.specs.Meaning.{means, planMeans, planAnswer, Noted, Plannable, Writable, size, written, writing}
 
 -- whatever follows refusals 2 and 3
 followed : {A : Type 0} (x y : Option ℕ) (rest : Answer A) → unless 2 x (unless 3 y rest) ≡ follow (unless 2 x (unless 3 y (answered (tt {0})))) rest
@@ -173,10 +173,12 @@ module _ {ws : List ℕ} (fit : Right ws) {s : List ℕ} (loaded : s ≡ padded 
             cap = captureOf ws (made m .es)
 
             long : length cap ≡ size n
-            long = captured.size ws (made m .es) (fit .count) ∙ ap size (sym (made m .counted))
+            long =
+                capture.size 0 ws (made m .es) ∙ ap (λ (k : ℕ). captureSize k (length (made m .es))) (fit .count) ∙ ap size (sym (made m .counted))
 
-            whole : bytesOf (head n ++ ws ++ take (2 * n) w) ≡ cap
-            whole = (λ i. bytesOf (head (made m .counted i) ++ ws ++ words-back i)) ∙ sym (captured.in-words ws (made m .es) (fit .count))
+            whole : bytesOf (headerOf 0 (length ws) n ++ ws ++ take (2 * n) w) ≡ cap
+            unfolding captureIn
+            whole i = bytesOf (headerOf 0 (length ws) (made m .counted i) ++ ws ++ words-back i)
 
             outcome-is : scheduleOutcome ws qs policy out ≡ leaves (fitting out cap) out
             outcome-is =

@@ -1,7 +1,7 @@
 -- What this crate's answers mean in document 01, and what its functions ask of each other.
 use Prim.Native.Nat.{ℕ, _+_, _*_, _≤_}
 use mathlib.Core.Bool.{false, cond}
-use mathlib.Core.List.{List, [], _∷_, _++_}
+use mathlib.Core.List.{List, _++_}
 use mathlib.Core.Option.{none}
 use mathlib.Core.Path.{_≡_}
 use lib.Dec.{ltb}
@@ -9,8 +9,8 @@ use lib.ListN.{length, take}
 use lib.Seq.{sets}
 use Rattle.reading.specs.Words.{bytesOf}
 use Rattle.reading.specs.Settings.{settingsCount, settingsOf, newer, outOfRange}
-use Rattle.reading.specs.Capture.{Event, settingsStart, eventsStart, captureSize}
-use Rattle.reading.specs.Schedule.{Schedule, planned, late, badRequest, eventWords}
+use Rattle.reading.specs.Capture.{Event, captureSize}
+use Rattle.reading.specs.Schedule.{Schedule, planned, late, badRequest, eventWords, headerOf}
 use Rattle.reading.specs.Answers.{Answer, refused, answered}
 use Rattle.schedule.specs.declared.Scheduled.{Scheduled}
 use Rattle.schedule.specs.declared.Scheduled.the-variants.{Refused, Written}
@@ -58,9 +58,6 @@ size n = captureSize settingsCount n
 unfoldable pub written : List ℕ → ℕ → Scheduled
 written out n = cond (ltb (length out) (size n)) (Refused 7 (size n)) (Written (size n))
 
-abbrev pub head : ℕ → List ℕ
-head n = size n ∷ settingsCount ∷ settingsStart ∷ n ∷ eventsStart settingsCount ∷ 0 ∷ []
-
 unfoldable pub writing : List ℕ → List ℕ → ℕ → List ℕ → List ℕ
 writing settings list n out =
-    cond (ltb (length out) (size n)) out (sets out 0 (bytesOf (head n ++ settings ++ take (2 * n) list)))
+    cond (ltb (length out) (size n)) out (sets out 0 (bytesOf (headerOf 0 (length settings) n ++ settings ++ take (2 * n) list)))

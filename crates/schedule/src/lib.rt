@@ -1,4 +1,5 @@
 // The fixed schedule of a list of requests, with rows left open or closed, written as a whole capture.
+use capture::front;
 use deadlines::sums;
 use serving::Turn;
 use settings::COUNT;
@@ -8,10 +9,7 @@ use settings::Settings;
 use settings::places::MODE;
 use words::Found;
 ghost use mathlib.Core.Path.{_≡_};
-ghost use Prim.Native.Nat.{_+_, _*_, _≤_};
-ghost use lib.ListN.{length, take};
-ghost use lib.Seq.{sets};
-ghost use Rattle.reading.specs.Words.{bytesOf};
+ghost use lib.ListN.{length};
 ghost use Rattle.reading.specs.Settings.{settingsCount, settingsOf};
 ghost use Rattle.reading.specs.Rules.{placing};
 ghost use Rattle.reading.specs.Schedule.{scheduleBy};
@@ -40,12 +38,8 @@ pub const CLOSED_ROWS: u32 = 1;
 // for one more: it does not know that behind a refresh no row is open.
 const WORDS: usize = 16_002;
 
-// How many settings there are, where they start and where the events do, as header words.
-const SETTINGS_COUNT: u32 = COUNT as u32;
-
-const SETTINGS: u32 = capture::SETTINGS as u32;
-
-const EVENTS: u32 = capture::EVENTS as u32;
+// The edition that schedules keep to.
+const OLD_EDITION: u32 = 0;
 
 // All settings, of the fourteen words that a schedule takes; those of sleep are 0, and so is the edition.
 fn fourteen(settings: &[u32]) -> Settings
@@ -92,33 +86,21 @@ fn plan(s: &Settings, requests: &[u32], closed: bool, words: &mut [u32]) -> Plan
     Planned::Events(k[soonest::EVENTS] as u32)
 }
 
-// Stores the first n words in a row from byte `at` on.
-fn put_words(out: &mut [u8], at: usize, list: &[u32], n: usize)
-    requires { ⌜ (at + 4 * n ≤ length (now out)) × (n ≤ length (now list)) ⌝ }
-    ensures { λ r. ⌜ now (out .exit) ≡ sets (now (out .entry)) at (bytesOf (take n (now (list .entry)))) ⌝ }
-{
-    'words: for i in 0..n {
-        words::put_word(out, at + 4 * i, list[i]);
-    }
-}
-
 // The capture of n events, if the buffer holds it.
 fn write(settings: &[u32], list: &[u32], n: u32, out: &mut [u8]) -> Scheduled
     requires { ⌜ Writable (now settings) (now list) n ⌝ }
     ensures { λ r. ⌜ r ≡ written (now (out .entry)) n ⌝ }
     ensures { λ r. ⌜ now (out .exit) ≡ writing (now (settings .entry)) (now (list .entry)) n (now (out .entry)) ⌝ }
 {
-    let bytes = EVENTS + 8 * n;
+    let bytes = front::size(n);
     if out.len() < bytes as usize {
         return Scheduled::Refused {
             number: 7,
             place: bytes,
         };
     }
-    let head = [bytes, SETTINGS_COUNT, SETTINGS, n, EVENTS, 0];
-    put_words(out, 0, &head, 6);
-    put_words(out, capture::SETTINGS, settings, COUNT);
-    put_words(out, capture::EVENTS, list, 2 * (n as usize));
+    front::put(settings, OLD_EDITION, n, out);
+    words::put_words(out, capture::EVENTS, list, 2 * (n as usize));
     Scheduled::Written { bytes }
 }
 

@@ -4,3 +4,6 @@ pub mod Words
 pub mod Search
 pub mod Counting
 pub mod Events
+pub mod Storing
+pub mod Bytes
+pub mod Halves

@@ -1,12 +1,14 @@
 -- A search for the lowest number with a property, a turn at a time.
 use Prim.Native.Nat.{ℕ, zero, suc, _+_, _-_, _≤_, _<_}
-use mathlib.Core.Bool.{Bool, true, false, cond}
+use mathlib.Core.Bool.{Bool, true, false, cond, _&&_}
+use mathlib.Core.List.{List, [], _∷_}
 use mathlib.Core.Option.{Option, none, some}
 use mathlib.Core.Path.{_≡_, refl, sym, ap, _∙_}
 use native.Mathlib.Nat.{sub-zero, add-zero, zero-add, add-suc, suc-add}
 use native.Mathlib.Numerals.{add-one}
 use native.Mathlib.Omega.{arith}
-use Rattle.reading.specs.Search.{find, count, lowest}
+use lib.ListN.{getD}
+use Rattle.reading.specs.Search.{every, find, count, lowest}
 
 -- what is found from i on
 unfoldable pub foundFrom : (ℕ → Bool) → ℕ → ℕ → Option ℕ
@@ -60,3 +62,13 @@ none-of f k (suc n) h =
 
 pub nothing-below : (f : ℕ → Bool) (n : ℕ) → ((i : ℕ) → i < n → f i ≡ false) → lowest f n ≡ none
 nothing-below f n h = none-of f 0 n (λ i l. ap f (zero-add i) ∙ h i l)
+
+-- what holds of every element holds at each place
+pub every-at : {A : Type 0} (f : A → Bool) (x : A) → f x ≡ true → (xs : List A) → every f xs ≡ true → (i : ℕ) → f (getD xs i x) ≡ true
+every-at f x d [] h i = d
+every-at f x d (y ∷ xs) h i = go (f y) refl h i (every-at f x d xs)
+  where
+    go : (v : Bool) → f y ≡ v → (v && every f xs) ≡ true → (i : ℕ) → (every f xs ≡ true → (j : ℕ) → f (getD xs j x) ≡ true) → f (getD (y ∷ xs) i x) ≡ true
+    go true e k zero ih = e
+    go true e k (suc j) ih = ih k j
+    go false e k j ih = let z : _≡_ {A = ℕ} 0 1 = cc in absurd (omega arith)

@@ -92,7 +92,7 @@ word-skip b0 b1 b2 b3 l at =
     let e3 : at + 4 + 3 ≡ suc (suc (suc (suc (at + 3)))) = omega arith in
     rw (e1, e2, e3, e0)
 
-first-word : (w : ℕ) (l : List ℕ) → w < 2 ^ 32 → wordAt (wordBytes w ++ l) 0 ≡ w
+pub first-word : (w : ℕ) (l : List ℕ) → w < 2 ^ 32 → wordAt (wordBytes w ++ l) 0 ≡ w
 unfolding wordAt wordBytes
 first-word w l h = digits w h
 

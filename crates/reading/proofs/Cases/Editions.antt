@@ -5,12 +5,12 @@ use mathlib.Core.Path.{refl}
 use lib.ListN.{length, set, replicate}
 use Rattle.reading.specs.Search.{count}
 use Rattle.reading.specs.Capture.{Event}
-use Rattle.reading.specs.Schedule.{captureOf}
+use Rattle.reading.specs.Schedule.{captureIn}
 use Rattle.reading.proofs.Cases.{ACTIVE, READ, WRITE, TERMINATE, PRECHARGE, NOP, A10, LOW, bank, at, usual, sleeping, four, Said, refuses, touches, breaks, said, saidOf, Case, case, bytes, Hold, Line, lineUnder, HoldLines}
 
 -- a capture that names an edition in its sixth header word
 abbrev named : ℕ → List ℕ → List Event → Said → Case
-named edition settings es o = bytes (set (captureOf settings es) 20 edition) o
+named edition settings es o = bytes (captureIn edition settings es) o
 
 abbrev newer : List Event → Said → Case
 newer = named 1 usual

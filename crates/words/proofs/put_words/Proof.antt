@@ -1,8 +1,8 @@
 use native.Mathlib.Omega.{arith}
 use Prim.Native.Nat.{_-_}
-use Rattle.schedule.proofs.Filling.{Storing, stores-none, stores-on, stored-length, stores-all}
-use Rattle.schedule.proofs.put_words.Statement.{statement}
-use Rattle.schedule.proofs.put_words.Tie as tie
+use Rattle.words.proofs.Storing.{Storing, stores-none, stores-on, stored-length, stores-all}
+use Rattle.words.proofs.put_words.Statement.{statement}
+use Rattle.words.proofs.put_words.Tie as tie
 
 abbrev Inv-words : tie.InvT-words
 Inv-words out₀ at list n i₀ out i = Storing out₀ at list n out i
