@@ -80,6 +80,7 @@ pub record Sized (capture : List ℕ) : Type 0 where
 
 pub record Sound (capture : List ℕ) : Type 0 where
   pub sized : Sized capture
+  pub header : headerFits capture ≡ true
   pub fine : badSetting (settingWords capture) ≡ none
   pub settings : (i : ℕ) → i < countIn capture → settingFits i (getD (settingWords capture) i 0) ≡ true
   pub events : (i : ℕ) → i < eventCount capture → cycleFits (eventBytes capture) i ≡ true
@@ -156,6 +157,7 @@ module _ (capture : List ℕ) where
       λ i l. not-false _ (none-below (λ j. not (eventFits limit (eventBytes capture) j)) (eventCount capture) four i l) in
       record {
         sized = sized (not-false _ (not-given 0 _ one)) (not-false _ (not-given 0 _ two));
+        header = not-false _ (not-given 0 _ two);
         fine = three;
         settings = λ i l. in-range (settingWords capture) (length (settingWords capture)) ranges i (omega (arith, words-count));
         events = λ i l. both (ltb (eventAt (eventBytes capture) i .pins) limit) _ (fits i l) .1;

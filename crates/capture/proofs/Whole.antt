@@ -27,7 +27,7 @@ use Rattle.words.proofs.Events.{words-length, cycle-word, pins-word}
 use Rattle.words.proofs.Search.{nothing-below, every-at}
 use Rattle.words.proofs.Words.{bytesOf-length, word-drop, word-fits, word-of-bytes}
 use Rattle.settings.proofs.Fitting.{rowAt, at-most, in-range, each-in-range}
-use Rattle.capture.proofs.Accepted.{Sound, nothing-wrong, not-given, length-count, words-count, accepted-sound, cycle-fits, cycle-rises}
+use Rattle.capture.proofs.Accepted.{Sound, length-count, words-count, accepted-sound, cycle-fits, cycle-rises}
 
 -- ---- what a capture can be made of
 
@@ -304,16 +304,8 @@ module _ (c : List ℕ) (open-to : accepted c (answered (tt {0})) ≡ answered t
   sound : Sound c
   sound = accepted-sound c open-to
 
-  clear : (headerFits c ≡ true) × (badSetting (settingWords c) ≡ none)
-  unfolding accepted
-  clear =
-      let (a, b, d, e) =
-      nothing-wrong (given 0 (not (lengthFits c))) (given 0 (not (headerFits c))) (badSetting (settingWords c))
-      (badEvent (pinLimit c) (eventBytes c) (eventCount c)) open-to in
-      (not-false (headerFits c) (not-given (not (headerFits c)) b), d)
-
   said-so : Said c
-  said-so = header-said c (clear .0)
+  said-so = header-said c (sound .header)
 
   pub events-count : length (eventsOf c) ≡ eventCount c
   unfolding eventsOf
@@ -332,7 +324,7 @@ module _ (c : List ℕ) (open-to : accepted c (answered (tt {0})) ≡ answered t
       record {
         known = said-so .edition;
         all = ap countFor (words-count c ∙ sym (said-so .settings)) ∙ sym (words-count c);
-        right = clear .1;
+        right = sound .fine;
         orderly =
             record {
               few = omega (arith, events-count, said-so .few);

@@ -23,7 +23,8 @@ use Rattle.judge.specs.Meaning.{partAt}
 use Rattle.judge.proofs.Events.{part-next}
 use Rattle.beats.specs.Kept.{eventsFrom, keptOf}
 use Rattle.beats.specs.Rows.{InRow, firstInRow}
-use Rattle.beats.proofs.Events.{Rises, next-event, no-event, events-rise, rise-behind}
+use Rattle.beats.proofs.Events.{next-event, no-event, events-rise, rise-behind}
+use Rattle.capture.proofs.Rising.{Rises}
 use Rattle.beats.proofs.Looking.{kept-le}
 use Rattle.beats.proofs.Ahead.{burstLeft, eventBursts, burstsFrom, bursts-ahead, eventCells, cellsFrom, cells-ahead}
 use Rattle.cells.specs.Meaning.{toldOf, toldBy, givenBy, Listable, Clean, burstsOn, burstAt, At, modeAt, cellsOn}
