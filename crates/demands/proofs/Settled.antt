@@ -97,7 +97,8 @@ use Rattle.morgazell.proofs.morgazell_judge.Reads as morgazell-morgazell-judge
 use Rattle.morgazell.proofs.morgazell_cells.Reads as morgazell-morgazell-cells
 use Rattle.morgazell.proofs.morgazell_schedule.Reads as morgazell-morgazell-schedule
 use Rattle.morgazell.proofs.morgazell_blank.Reads as morgazell-morgazell-blank
-use Rattle.morgazell.proofs.version.morgazell_version.Reads as morgazell-version-morgazell-version
+use Rattle.morgazell.proofs.morgazell_version.Reads as morgazell-morgazell-version
+use Rattle.version.proofs.number.Reads as version-number
 use Rattle.capture.proofs.event_bytes.Reads as capture-event-bytes
 use Rattle.capture.proofs.events_start.Reads as capture-events-start
 use Rattle.pins.proofs.code.Reads as pins-code
@@ -473,6 +474,11 @@ pub morgazell-morgazell-blank-settles : (κs : _) (a : _) (z z′ : _) (e e′ :
     (z ≡ z′) × (now (e .1 .0) ≡ now (e′ .1 .0))
 morgazell-morgazell-blank-settles κs a z z′ e e′ p q = (p .0 ∙ sym (q .0), p .1 ∙ sym (q .1))
 
-pub morgazell-version-morgazell-version-settles : (κs : _) (a : _) (z z′ : _) (e e′ : _) → morgazell-version-morgazell-version.Post κs a z e → morgazell-version-morgazell-version.Post κs a z′ e′ →
+pub morgazell-morgazell-version-settles : (κs : _) (a : _) (z z′ : _) (e e′ : _) → morgazell-morgazell-version.Post κs a z e → morgazell-morgazell-version.Post κs a z′ e′ →
     z ≡ z′
-morgazell-version-morgazell-version-settles κs a z z′ e e′ p q = p ∙ sym q
+morgazell-morgazell-version-settles κs a z z′ e e′ p q = p ∙ sym q
+
+-- ---- version
+
+pub version-number-settles : (κs : _) (a : _) (z z′ : _) (e e′ : _) → version-number.Post κs a z e → version-number.Post κs a z′ e′ → z ≡ z′
+version-number-settles κs a z z′ e e′ p q = p ∙ sym q
