@@ -1,30 +1,34 @@
-// A capture on standard input, the same with its addresses blanked on standard output. What is no capture has no output: a
-// refusal is told on standard error, so that it is never taken for one.
+// A capture with its addresses blanked on standard output. What is no capture has no output: a refusal is told on standard
+// error, so that it is never taken for one.
 use blanks::Blanked;
 use console::Input;
 use console::Out;
 use console::complain;
-use console::complain_number;
-use console::read_input;
+use console::line::put;
+use console::line::put_number;
+use console::program;
 use console::say;
+
+const NAME: [u8; 5] = *b"blank";
 
 // One byte more than the longest capture, so that a longer input is seen to be too long and nothing is blanked in part.
 const ROOM: usize = capture::MOST + 1;
 
 fn refuse(number: u32, place: u32) {
-    complain_number(b"blank: refused ", number);
-    complain_number(b" place ", place);
-    complain(b"; nothing was written\n");
+    let mut line = [0u8; 80];
+    let mut at = put(&mut line, 0, &NAME);
+    at = put(&mut line, at, b": refused ");
+    at = put_number(&mut line, at, number as u64);
+    at = put(&mut line, at, b" place ");
+    at = put_number(&mut line, at, place as u64);
+    at = put(&mut line, at, b"; nothing was written\n");
+    complain(&line[..at]);
 }
 
 fn write(blanked: &[u8]) {
     let mut out: Out = true;
     say(&mut out, blanked);
-    if !out {
-        complain(
-            b"blank: standard output could not be written to its end; what was written is not whole\n",
-        );
-    }
+    program::end(&NAME, out, b"written");
 }
 
 fn blank(capture: &[u8]) {
@@ -38,9 +42,17 @@ fn blank(capture: &[u8]) {
 
 fn main() {
     let mut buffer = [0u8; ROOM];
-    let input = read_input(&mut buffer);
+    let input = program::input(
+        &NAME,
+        b"usage: blank [FILE]
+
+Writes a capture of a Mobile DDR bus to standard output with its row and column addresses blanked, so that it can be
+sent and is judged as before. What is no capture has no output: standard error says `refused NUMBER place PLACE`.
+",
+        b"nothing was written",
+        &mut buffer,
+    );
     let Input::Whole(n) = input else {
-        complain(b"blank: standard input could not be read to its end; nothing was written\n");
         return;
     };
     blank(&buffer[..n]);
