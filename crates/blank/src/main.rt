@@ -1,7 +1,6 @@
 // A capture with its addresses blanked on standard output. What is no capture has no output: a refusal is told on standard
 // error, so that it is never taken for one.
 use blanks::Blanked;
-use console::Input;
 use console::Out;
 use console::complain;
 use console::line::put;
@@ -42,7 +41,7 @@ fn blank(capture: &[u8]) {
 
 fn main() {
     let mut buffer = [0u8; ROOM];
-    let input = program::input(
+    let given = program::input(
         &NAME,
         b"usage: blank [FILE]
 
@@ -52,8 +51,9 @@ sent and is judged as before. What is no capture has no output: standard error s
         b"nothing was written",
         &mut buffer,
     );
-    let Input::Whole(n) = input else {
+    if !given.work {
         return;
-    };
+    }
+    let n = given.size;
     blank(&buffer[..n]);
 }

@@ -20,10 +20,10 @@ const TRIES: u32 = 1_000;
 
 // ---- input
 
-// All bytes up to the end of the input or of the buffer; or nothing to work on, as where a read failed.
+// All bytes up to the end of the input or of the buffer, or a read failed.
 pub enum Input {
     Whole(usize),
-    Nothing,
+    Failed,
 }
 
 // What a read came to; no bytes at the end of the input.
@@ -57,7 +57,7 @@ pub fn read_input(fd: i32, buf: &mut [u8]) -> Input
     while done < buf.len() {
         let piece = read_from(fd, buf, done);
         let Piece::Bytes(n) = piece else {
-            return Input::Nothing;
+            return Input::Failed;
         };
         if n == 0 {
             return Input::Whole(done);

@@ -15,10 +15,21 @@ use libc::EISDIR;
 use libc::ENOENT;
 use libc::STDIN_FILENO;
 ghost use Rattle.io.specs.Counts.{Counts};
-ghost use Rattle.console.specs.Input.{sizeOf};
 
 // Room for the longest name of a file and what is said of it.
 const LINE: usize = 4_500;
+
+// What a program works on: so many bytes at the start of its buffer; or there is nothing to do, since help was asked for or
+// something went wrong, which was told.
+pub struct Given {
+    pub work: bool,
+    pub size: usize,
+}
+
+const NOTHING: Given = Given {
+    work: false,
+    size: 0,
+};
 
 // An input that was opened: its descriptor, and which argument names it, 0 for standard input.
 pub enum Source {
@@ -165,30 +176,28 @@ pub fn open(name: &[u8], place: usize, undone: &[u8]) -> Source {
     Source::Open { fd, place }
 }
 
-// All that argument `place` names.
-pub fn read(name: &[u8], place: usize, undone: &[u8], buf: &mut [u8]) -> Input
-    ensures { λ r. ⌜ Counts (sizeOf r) (now (buf .exit)) ⌝ }
+// All that argument `place` names. It stays open until the program ends.
+pub fn read(name: &[u8], place: usize, undone: &[u8], buf: &mut [u8]) -> Given
+    ensures { λ r. ⌜ Counts (r .size) (now (buf .exit)) ⌝ }
 {
     let source = open(name, place, undone);
     let Source::Open { fd, place: from } = source else {
-        return Input::Nothing;
+        return NOTHING;
     };
     let input = read_input(fd, buf);
-    if let Input::Nothing = input {
+    let Input::Whole(size) = input else {
         complain_unread(name, from, undone);
-    }
-    if from != 0 {
-        libc::close(fd);
-    }
-    input
+        return NOTHING;
+    };
+    Given { work: true, size }
 }
 
 // The input of a program that takes one file, or standard input, and no option.
-pub fn input(name: &[u8], help: &[u8], undone: &[u8], buf: &mut [u8]) -> Input
-    ensures { λ r. ⌜ Counts (sizeOf r) (now (buf .exit)) ⌝ }
+pub fn input(name: &[u8], help: &[u8], undone: &[u8], buf: &mut [u8]) -> Given
+    ensures { λ r. ⌜ Counts (r .size) (now (buf .exit)) ⌝ }
 {
     if !begin(name, help, undone, b"", 1) {
-        return Input::Nothing;
+        return NOTHING;
     }
     read(name, arguments::name(0), undone, buf)
 }

@@ -2,7 +2,6 @@
 // docs/LISTING.md has every line.
 mod events;
 
-use console::Input;
 use console::Out;
 use console::program;
 use judge::Verdict;
@@ -56,7 +55,7 @@ fn list(out: &mut Out, capture: &[u8]) {
 
 fn main() {
     let mut buffer = [0u8; ROOM];
-    let input = program::input(
+    let given = program::input(
         &NAME,
         b"usage: listing [FILE]
 
@@ -66,9 +65,10 @@ broken rule asks; or of what is no capture the refusal and what was refused.
         b"nothing was judged",
         &mut buffer,
     );
-    let Input::Whole(n) = input else {
+    if !given.work {
         return;
-    };
+    }
+    let n = given.size;
     let mut out: Out = true;
     list(&mut out, &buffer[..n]);
     program::end(&NAME, out, b"printed");

@@ -1,5 +1,4 @@
 // The report: what document 01 says of a capture.
-use console::Input;
 use console::Out;
 use console::program;
 use wording::verdict::print_verdict;
@@ -11,7 +10,7 @@ const ROOM: usize = capture::MOST + 1;
 
 fn main() {
     let mut buffer = [0u8; ROOM];
-    let input = program::input(
+    let given = program::input(
         &NAME,
         b"usage: report [FILE]
 
@@ -21,9 +20,10 @@ or of what is no capture `refused NUMBER place PLACE`.
         b"nothing was judged",
         &mut buffer,
     );
-    let Input::Whole(n) = input else {
+    if !given.work {
         return;
-    };
+    }
+    let n = given.size;
     let mut out: Out = true;
     print_verdict(&mut out, judge::judge(&buffer[..n]));
     program::end(&NAME, out, b"printed");
