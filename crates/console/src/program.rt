@@ -78,8 +78,18 @@ pub fn complain_of(name: &[u8], place: usize, what: &[u8], undone: &[u8]) {
 
 fn complain_unopened(name: &[u8], place: usize, error: i32, undone: &[u8]) {
     match error {
-        ENOENT => complain_of(name, place, b" could not be opened: there is no such file", undone),
-        EACCES => complain_of(name, place, b" could not be opened: it may not be read", undone),
+        ENOENT => complain_of(
+            name,
+            place,
+            b" could not be opened: there is no such file",
+            undone,
+        ),
+        EACCES => complain_of(
+            name,
+            place,
+            b" could not be opened: it may not be read",
+            undone,
+        ),
         _ => complain_of(name, place, b" could not be opened", undone),
     }
 }
@@ -211,7 +221,11 @@ pub fn end(name: &[u8], out: Out, done: &[u8]) {
     }
     let mut line = [0u8; 256];
     let mut at = put(&mut line, 0, name);
-    at = put(&mut line, at, b": standard output could not be written to its end; what was ");
+    at = put(
+        &mut line,
+        at,
+        b": standard output could not be written to its end; what was ",
+    );
     at = put(&mut line, at, done);
     at = put(&mut line, at, b" is not whole\n");
     complain(&line[..at]);

@@ -38,7 +38,7 @@ same-length-2 : tie.Need-same-length-2
 same-length-2 c = search needs
 
 returns-3 : tie.Need-returns-3
-returns-3 c = 
+returns-3 c =
     let reading = c .before .before .before .before .before .read-input in
     held (reading .last .1 .0) (c .before .input .given .1) (reading .ensures)
 
