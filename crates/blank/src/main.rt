@@ -1,6 +1,6 @@
 // A capture with its addresses blanked on standard output. What is no capture has no output: a refusal is told on standard
 // error, so that it is never taken for one.
-use blanks::Blanked;
+use hidden::Blanked;
 use console::Out;
 use console::complain;
 use console::line::put;
@@ -32,7 +32,7 @@ fn write(blanked: &[u8]) {
 
 fn blank(capture: &[u8]) {
     let mut room = [0u8; capture::MOST];
-    let blanked = blanks::blank(capture, &mut room);
+    let blanked = hidden::blank(capture, &mut room);
     match blanked {
         Blanked::Refused { number, place } => refuse(number, place),
         Blanked::Written { bytes } => write(&room[..bytes as usize]),
@@ -45,8 +45,9 @@ fn main() {
         &NAME,
         b"usage: blank [FILE]
 
-Writes a capture of a Mobile DDR bus to standard output with its row and column addresses blanked, so that it can be
-sent and is judged as before. What is no capture has no output: standard error says `refused NUMBER place PLACE`.
+Writes a capture of a Mobile DDR bus to standard output, its row and column
+addresses blanked; it is judged like the original. What is no capture has no
+output, and standard error says `refused NUMBER place PLACE`.
 ",
         b"nothing was written",
         &mut buffer,

@@ -124,9 +124,10 @@ fn print_help(out: &mut Out, help: &[u8]) {
     say(
         out,
         b"
-FILE is read to its end; without one, or where it is -, standard input is. A file whose name begins with - is named by ./ before it.
---help prints this text and --version the version; each stands alone.
-What goes wrong is told by a line on standard error. There is no exit status.
+Where no FILE is named, or -, standard input is read. A FILE that begins with -
+is named with ./ before it. --help prints this text and --version the version;
+each stands alone. What goes wrong is told by a line on standard error, and
+there is no exit status.
 ",
     );
 }

@@ -10,8 +10,8 @@ use Rattle.cells.specs.declared.Listed.{Listed}
 use Rattle.cells.specs.Meaning as cells
 use Rattle.schedule.specs.declared.Scheduled.{Scheduled}
 use Rattle.schedule.specs.Meaning as schedule
-use Rattle.blanks.specs.declared.Blanked.{Blanked}
-use Rattle.blanks.specs.Meaning as blanks
+use Rattle.hidden.specs.declared.Blanked.{Blanked}
+use Rattle.hidden.specs.Meaning as hidden
 
 -- by `judge::judge`
 abbrev pub Judges : List ℕ → Verdict → Type 0
@@ -26,6 +26,6 @@ abbrev pub Schedules : List ℕ → List ℕ → ℕ → List ℕ → Scheduled 
 Schedules ws qs policy out r left =
     (schedule.means r ≡ scheduleOutcome ws qs policy out .answer) × (left ≡ scheduleOutcome ws qs policy out .buffer)
 
--- by `blanks::blank`, lent `out`, which holds `left` afterwards
+-- by `hidden::blank`, lent `out`, which holds `left` afterwards
 abbrev pub Blanks : List ℕ → List ℕ → Blanked → List ℕ → Type 0
-Blanks capture out r left = (blanks.means r ≡ blankOutcome capture out .answer) × (left ≡ blankOutcome capture out .buffer)
+Blanks capture out r left = (hidden.means r ≡ blankOutcome capture out .answer) × (left ≡ blankOutcome capture out .buffer)

@@ -59,8 +59,9 @@ fn main() {
         &NAME,
         b"usage: listing [FILE]
 
-Judges a capture of a Mobile DDR bus. Prints its settings, the verdict, the events around the broken one and what the
-broken rule asks; or of what is no capture the refusal and what was refused.
+Judges a capture of a Mobile DDR bus. Prints its settings, the verdict, the
+events around the broken one and what the broken rule asks; of what is no
+capture the refusal and what was refused.
 ",
         b"nothing was judged",
         &mut buffer,

@@ -1,5 +1,5 @@
 // The calls for C and Rust programs. Each answers one number, whose bits `specs/Packing` and include/morgazell.h describe.
-use blanks::Blanked;
+use hidden::Blanked;
 use cells::Listed;
 use judge::Verdict;
 use schedule::Scheduled;
@@ -71,7 +71,7 @@ pub extern "C" fn morgazell_blank(capture: &[u8], out: &mut [u8]) -> u64
     ensures { λ r. ⌜ r ≡ packed (countTold (blankOutcome (now (capture .entry)) (now (out .entry)) .answer)) ⌝ }
     ensures { λ _. ⌜ now (out .exit) ≡ blankOutcome (now (capture .entry)) (now (out .entry)) .buffer ⌝ }
 {
-    let blanked = blanks::blank(capture, out);
+    let blanked = hidden::blank(capture, out);
     match blanked {
         Blanked::Refused { number, place } => pack(number, 0, place),
         Blanked::Written { bytes } => pack(0, 0, bytes),

@@ -14,8 +14,9 @@ fn main() {
         &NAME,
         b"usage: report [FILE]
 
-Judges a capture of a Mobile DDR bus. Prints `events N`, `judged J`, and `clean` or `broken rule R event E cycle T`;
-or of what is no capture `refused NUMBER place PLACE`.
+Judges a capture of a Mobile DDR bus. Prints `events N`, `judged J` and `clean`
+or `broken rule R event E cycle T`, a line each; of what is no capture
+`refused NUMBER place PLACE`.
 ",
         b"nothing was judged",
         &mut buffer,
