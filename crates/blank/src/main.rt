@@ -1,12 +1,12 @@
 // A capture with its addresses blanked on standard output. What is no capture has no output: a refusal is told on standard
 // error, so that it is never taken for one.
-use hidden::Blanked;
 use console::Out;
 use console::complain;
 use console::line::put;
 use console::line::put_number;
 use console::program;
 use console::say;
+use hidden::Blanked;
 
 const NAME: [u8; 5] = *b"blank";
 

@@ -1,6 +1,6 @@
 // The calls for C and Rust programs. Each answers one number, whose bits `specs/Packing` and include/morgazell.h describe.
-use hidden::Blanked;
 use cells::Listed;
+use hidden::Blanked;
 use judge::Verdict;
 use schedule::Scheduled;
 ghost use mathlib.Core.Path.{_≡_};

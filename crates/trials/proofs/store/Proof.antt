@@ -11,7 +11,7 @@ add-if1 : tie.Need-add-if1
 add-if1 c = search needs
 
 returns : tie.Need-returns
-returns c = 
+returns c =
     let start = c .before .before in
     simp (lt-ltb (length (start .args .out .now)) (start .args .at + 4) (omega (arith, c .if1 .taken)))
 
@@ -22,7 +22,7 @@ same-length : tie.Need-same-length
 same-length c = search needs
 
 returns-2 : tie.Need-returns-2
-returns-2 c = 
+returns-2 c =
     let tested = c .before .before .before .before in
     let start = tested .before .before in
     simp (le-ltb (length (start .args .out .now)) (start .args .at + 4) (omega (arith, tested .if1 .left))) (c .before .before .put-word .ensures)
