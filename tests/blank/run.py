@@ -7,6 +7,7 @@ import os
 import sys
 
 sys.path.insert(0, os.path.join(os.path.dirname(os.path.abspath(__file__)), ".."))
+from arguments import tried
 from captures import (A10, ACTIVE, ADDRESS, AUTO_REFRESH, BURST_TERMINATE, DESELECT, LOW, MODE_REGISTER_SET, NOP, PRECHARGE,
                       READ, SLEEPY, USUAL, WRITE, bank, blanked, capture, quiet, setting)
 from running import from_file, from_pipe, unreadable
@@ -68,6 +69,7 @@ def captures():
 
 
 def main():
+    global wrong
     count = 0
     for name, data, expected in captures():
         count += 1
@@ -89,7 +91,10 @@ def main():
         else:
             hold(path, from_file("blank", data), blanked(data))
             hold(path + ", the report", from_file("report", blanked(data)), said)
-    print(f"blank: {count} captures, {len(REFUSED)} refused, {len(samples)} samples, {wrong} wrong")
+    data, other = capture([(0, ACTIVE | 77), (3, READ | 5)]), capture([(0, ACTIVE | 78)])
+    lines, badly = tried("blank", "nothing was written", data, blanked(data), other, blanked(other))
+    wrong += badly
+    print(f"blank: {count} captures, {len(REFUSED)} refused, {len(samples)} samples, {lines} lines of arguments, {wrong} wrong")
     return 1 if wrong else 0
 
 

@@ -25,6 +25,9 @@ LENDING = [
     ("inside a struct", "pub fn lend(to: Writer<'_>) -> u8 { 0 }\n", "inside to: Writer<'_>"),
 ]
 
+# The first has no law, since what is printed is no value; the second wants one.
+PRINTED = "pub fn print(out: &mut Out, x: u32) { }\npub fn word(x: u32) -> u32 { x }\n"
+
 
 def replaced(text, old, new):
     assert text.count(old) == 1, old
@@ -53,4 +56,6 @@ def made(texts, laws):
         yield name, said, texts, changed
     for name, text, said in UNPROVED + LENDING:
         yield "a public function " + name, said, texts + [("words", [], text)], laws
+    yield "one that prints nothing beside those that do", "wording.proofs.word.Reads", texts + [("wording", [], PRINTED)], laws
+    yield "one that is lent an output, elsewhere", "words.proofs.print.Reads", texts + [("words", [], PRINTED)], laws
     yield "a module of a folder", "words.proofs.a.b.word.Reads", texts + [("words", ["a", "b"], "pub fn word(x: u32) -> u32 { x }")], laws

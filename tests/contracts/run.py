@@ -14,8 +14,10 @@ import faults
 ROOT = os.path.join(os.path.dirname(os.path.abspath(__file__)), "..", "..")
 LAWS = os.path.join("crates", "demands", "proofs", "Settled.antt")
 
-# They print for the programs.
-PRINTING = ("console", "wording")
+# They read and print for the programs: all of `console`, and of `wording` what is lent the mark of an output.
+READING = "console"
+PRINTING = "wording"
+MARK = re.compile(r"&mut Out\b")
 
 # What the laws and their proofs are written with.
 BROUGHT = """\
@@ -27,7 +29,7 @@ use Rattle.cells.proofs.Unique as cells
 use Rattle.drafts.proofs.Unique as drafts
 use Rattle.serving.proofs.Unique as serving
 use Rattle.schedule.proofs.Unique as schedule
-use Rattle.blanks.proofs.Unique as blanks
+use Rattle.hidden.proofs.Unique as hidden
 use Rattle.demands.proofs.Finding as finding
 use Rattle.demands.proofs.Judging as judging
 """.splitlines()
@@ -55,7 +57,7 @@ def read(*path):
 def libraries():
     for line in read("crates.txt").splitlines():
         crate = line.split("#")[0].split(":")[0].strip()
-        if crate not in PRINTING and os.path.exists(os.path.join(ROOT, "crates", crate, "src", "lib.rt")):
+        if crate != READING and os.path.exists(os.path.join(ROOT, "crates", crate, "src", "lib.rt")):
             yield crate
 
 
@@ -81,7 +83,8 @@ def functions(crate, module, text):
         else:
             path = module + [block for block in blocks if block] + [piece["name"]]
             parameters = [" ".join(p.split()) for p in re.split(r",(?![^<]*>)", piece["parameters"]) if p.strip()]
-            yield Function(crate, path, parameters, piece["answers"])
+            if crate != PRINTING or not any(MARK.search(p) for p in parameters):
+                yield Function(crate, path, parameters, piece["answers"])
 
 
 def claims(function):

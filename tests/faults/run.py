@@ -1,9 +1,9 @@
 #!/usr/bin/env python3
-"""Runs the report, the listing and blank with reads and writes that fail. Where all can be read and written, they have to
-print the right text, or write the right capture, and no complaint; where standard input fails, nothing and a complaint;
-where standard output fails, what is right up to some byte, and a complaint.
+"""Runs the report, the listing and blank with opens, reads and writes that fail. Where all can be read and written, they have
+to print the right text, or write the right capture, and no complaint; where standard input or the file that was named
+fails, nothing and a complaint; where standard output fails, what is right up to some byte, and a complaint.
 
-`stub.c` fails each read and each write in turn, in every way; the rest are failures that systems have: a connection that is
+`stub.c` fails each open, read and write in turn, in every way; the rest are failures that systems have: a connection that is
 reset, a pipe that is nearly full, a disk that is, and streams that are closed."""
 import errno
 import fcntl
@@ -23,7 +23,7 @@ from captures import ACTIVE, LOW, NOP, READ, SLEEPY, USUAL, blanked, capture, se
 from running import program
 
 STUB = os.path.join(ROOT, "target", "faults", "stub.so")
-INPUT, OUTPUT, ERRORS = 0, 1, 2
+INPUT, OUTPUT, ERRORS, FILE_READ, FILE_OPENED = 0, 1, 2, 3, 4
 
 CLEAN = [(0, ACTIVE), (3, READ)]
 BROKEN = [(12, ACTIVE), (13, READ), (20, NOP)]
@@ -55,6 +55,17 @@ WAYS = [
     ("one byte", 0, 1, True),
 ]
 
+# How an open fails, and what is said of it. Descriptors that are used up and a device that is not there are other errors.
+OPENS = [
+    (errno.ENOENT, 1, "could not be opened: there is no such file"),
+    (errno.EACCES, 1, "could not be opened: it may not be read"),
+    (errno.EMFILE, 1, "could not be opened"),
+    (errno.ENXIO, 1, "could not be opened"),
+    (errno.EINTR, 1 << 30, "could not be opened"),
+    (errno.EINTR, 1, None),
+    (errno.EINTR, 999, None),
+]
+
 held = []
 
 
@@ -64,10 +75,11 @@ def expect(holds, what, run):
         print(f"WRONG {what}: {run.stdout!r} {run.stderr!r}")
 
 
-def complaint(name, descriptor):
-    judged, printed = DONE[name]
-    if descriptor == INPUT:
-        return f"{name}: standard input could not be read to its end; nothing was {judged}\n".encode()
+def unread(name, source, said="could not be read to its end"):
+    return f"{name}: {source} {said}; nothing was {DONE[name][0]}\n".encode()
+
+
+def unwritten(name, printed):
     return f"{name}: standard output could not be written to its end; what was {printed} is not whole\n".encode()
 
 
@@ -75,14 +87,14 @@ def expect_right(what, text, run):
     expect(run.stdout == text and run.stderr == b"", what, run)
 
 
-def expect_nothing(what, name, run):
-    expect(run.stdout == b"" and run.stderr == complaint(name, INPUT), what, run)
+def expect_nothing(what, complaint, run):
+    expect(run.stdout == b"" and run.stderr == complaint, what, run)
 
 
-def expect_start(what, name, text, run):
+def expect_start(what, name, text, run, printed=None):
     """Some of the text and not all."""
     starts = run.stdout != text and text.startswith(run.stdout)
-    expect(starts and run.stderr == complaint(name, OUTPUT), what, run)
+    expect(starts and run.stderr == unwritten(name, printed or DONE[name][1]), what, run)
 
 
 def expect_start_or_all(what, name, text, run):
@@ -108,12 +120,12 @@ def given(words, source, **streams):
     return subprocess.run(words, stdin=source, stderr=subprocess.PIPE, timeout=60, **streams)
 
 
-def changed(name, source, descriptor, at, error, times, piece=0):
+def changed(name, source, descriptor, at, error, times, piece=0, arguments=()):
     """A run with the stub, and how many calls it changed."""
     noted, note = os.pipe()
     asked = {"FD": descriptor, "AT": at, "ERRNO": error, "TIMES": times, "PIECE": piece, "NOTE": note}
     environment = dict(os.environ, **{"FAULT_" + key: str(value) for key, value in asked.items()})
-    run = given(command(name, STUB), source, env=environment, pass_fds=[note])
+    run = given([*command(name, STUB), *arguments], source, env=environment, pass_fds=[note])
     os.close(note)
     with open(noted, "rb") as notes:
         return run, len(notes.read())
@@ -126,31 +138,44 @@ def printed(run, reading):
 
 # ---- every call in turn
 
-def every_read(name, source, size, text):
-    """Pieces of 40 bytes: a read fails before the first, between two, and in place of the end."""
+def every_read(name, source, size, text, path=None):
+    """Of standard input, or of the file that is named, while another capture stands on standard input. Pieces of 40 bytes: a
+    read fails before the first, between two, and in place of the end."""
+    arguments, descriptor = ([path], FILE_READ) if path else ([], INPUT)
     for way, error, times, goes_on in WAYS:
         at, count = 0, 1
         while count:
-            run, count = changed(name, source, INPUT, at, error, times, piece=40)
-            what = f"{name}, read {at} of {size} bytes, {way}"
+            run, count = changed(name, source, descriptor, at, error, times, 40, arguments)
+            what = f"{name}, read {at} of {size} bytes{' of a file' if path else ''}, {way}"
             if goes_on or not count:
                 expect_right(what, text, run)
             else:
-                expect_nothing(what, name, run)
+                expect_nothing(what, unread(name, path or "standard input"), run)
             at += 1
         expect(at - 1 > size / 40, f"{name}, {way}: {at - 1} reads of {size} bytes", run)
 
 
-def every_write(name, source, text, piece):
+def every_open(name, source, text, path):
+    for error, times, said in OPENS:
+        run, count = changed(name, source, FILE_OPENED, 0, error, times, arguments=[path])
+        what = f"{name}, an open that fails with {error}, {times} times"
+        if said:
+            expect_nothing(what, unread(name, path, said), run)
+        else:
+            expect_right(what, text, run)
+        expect(count == min(times, 1000 if error == errno.EINTR else 1), f"{what}: {count} calls changed", run)
+
+
+def every_write(name, source, text, piece, arguments=(), printed=None):
     for way, error, times, goes_on in WAYS:
         at, count, before = 0, 1, -1
         while count:
-            run, count = changed(name, source, OUTPUT, at, error, times, piece)
+            run, count = changed(name, source, OUTPUT, at, error, times, piece, arguments)
             what = f"{name}, write {at} of {text.splitlines()[-1]!r}, {way}"
             if goes_on or not count:
                 expect_right(what, text, run)
             else:
-                expect_start(what, name, text, run)
+                expect_start(what, name, text, run, printed)
                 expect(before < len(run.stdout), what + ": no more than before", run)
                 before = len(run.stdout)
             at += 1
@@ -163,7 +188,7 @@ def complaint_goes_on(name):
     for way, error, times, goes_on in WAYS:
         if goes_on:
             run, count = changed(name, folder, ERRORS, 0, error, times)
-            expect_nothing(f"{name}, the complaint, {way}", name, run)
+            expect_nothing(f"{name}, the complaint, {way}", unread(name, "standard input"), run)
             expect(count == 1, f"{name}, the complaint, {way}: {count} calls changed", run)
     os.close(folder)
 
@@ -179,7 +204,7 @@ def reset(name, data, pair, kind):
     ours.close()
     run = subprocess.run(command(name), stdin=theirs, capture_output=True, timeout=60)
     theirs.close()
-    expect_nothing(f"{name}, {kind} reset behind {len(data)} bytes", name, run)
+    expect_nothing(f"{name}, {kind} reset behind {len(data)} bytes", unread(name, "standard input"), run)
 
 
 def connection():
@@ -237,6 +262,21 @@ def everything(name, data, text):
         full_and_closed(name, source, text)
 
 
+def named(name, data, text):
+    """The file that is named, with another capture on standard input; and what --help and --version print."""
+    with tempfile.NamedTemporaryFile() as f, tempfile.TemporaryFile() as other:
+        f.write(data)
+        f.flush()
+        other.write(capture(ASLEEP[:1], SLEEPY))
+        other.flush()
+        source = other.fileno()
+        every_read(name, source, len(data), text, f.name)
+        every_open(name, source, text, f.name)
+        for option, piece in (("--help", 50), ("--version", 1)):
+            said = given([*command(name), option], source).stdout
+            every_write(name, source, said, piece, [option], "printed")
+
+
 def main():
     os.makedirs(os.path.dirname(STUB), exist_ok=True)
     subprocess.run([os.path.join(ROOT, "tests", "x86"), "library", "-o", STUB, os.path.join(HERE, "stub.c")], check=True)
@@ -244,6 +284,7 @@ def main():
         everything(name, data, text)
     for name in DONE:
         complaint_goes_on(name)
+        named(*next(run for run in RUNS if run[0] == name))
     print(f"faults: {len(held)} expectations, {held.count(False)} wrong")
     return 0 if all(held) else 1
 

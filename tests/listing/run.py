@@ -8,6 +8,7 @@ import sys
 HERE = os.path.dirname(os.path.abspath(__file__))
 sys.path.insert(0, os.path.join(HERE, ".."))
 import rendering
+from arguments import tried
 from captures import (A10, ACTIVE, AUTO_REFRESH, BURST_TERMINATE, DESELECT, LOW, MODE_REGISTER_SET, NOP, PRECHARGE, READ,
                       SLEEPY, USUAL, WRITE, bank, capture, column, mode_word, nine_owed, quiet, setting)
 from running import from_file, from_pipe, unreadable
@@ -275,7 +276,10 @@ def main():
         if run.stdout or b"nothing was judged" not in run.stderr:
             wrong += 1
             print(f"WRONG {name}: {run.stdout!r} {run.stderr!r}")
-    print(f"listing: {len(cases)} captures, {wrong} wrong")
+    (data, said), (other, said_of_other) = cases[:2]
+    count, badly = tried("listing", "nothing was judged", data, said.encode(), other, said_of_other.encode())
+    wrong += badly
+    print(f"listing: {len(cases)} captures, {count} lines of arguments, {wrong} wrong")
     return 1 if wrong else 0
 
 

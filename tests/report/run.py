@@ -5,6 +5,7 @@ import os
 import sys
 
 sys.path.insert(0, os.path.join(os.path.dirname(os.path.abspath(__file__)), ".."))
+from arguments import tried
 from captures import ACTIVE, AUTO_REFRESH, LOW, NOP, PRECHARGE, READ, SLEEPY, WRITE, capture, quiet, setting, with_edition
 from running import from_file, from_pipe, unreadable
 
@@ -87,7 +88,10 @@ def main():
         if run.stdout or b"nothing was judged" not in run.stderr:
             wrong += 1
             print(f"WRONG {name}: {run.stdout!r} {run.stderr!r}")
-    print(f"report: {len(CASES)} captures, {wrong} wrong")
+    (_, data, said), (_, other, said_of_other) = CASES[:2]
+    count, badly = tried("report", "nothing was judged", data, said.encode(), other, said_of_other.encode())
+    wrong += badly
+    print(f"report: {len(CASES)} captures, {count} lines of arguments, {wrong} wrong")
     return 1 if wrong else 0
 
 

@@ -1,35 +1,38 @@
-// A capture on standard input, the same with its addresses blanked on standard output. What is no capture has no output: a
-// refusal is told on standard error, so that it is never taken for one.
-use blanks::Blanked;
-use console::Input;
+// A capture with its addresses blanked on standard output. What is no capture has no output: a refusal is told on standard
+// error, so that it is never taken for one.
 use console::Out;
 use console::complain;
-use console::complain_number;
-use console::read_input;
+use console::line::put;
+use console::line::put_number;
+use console::program;
 use console::say;
+use hidden::Blanked;
+
+const NAME: [u8; 5] = *b"blank";
 
 // One byte more than the longest capture, so that a longer input is seen to be too long and nothing is blanked in part.
 const ROOM: usize = capture::MOST + 1;
 
 fn refuse(number: u32, place: u32) {
-    complain_number(b"blank: refused ", number);
-    complain_number(b" place ", place);
-    complain(b"; nothing was written\n");
+    let mut line = [0u8; 80];
+    let mut at = put(&mut line, 0, &NAME);
+    at = put(&mut line, at, b": refused ");
+    at = put_number(&mut line, at, number as u64);
+    at = put(&mut line, at, b" place ");
+    at = put_number(&mut line, at, place as u64);
+    at = put(&mut line, at, b"; nothing was written\n");
+    complain(&line[..at]);
 }
 
 fn write(blanked: &[u8]) {
     let mut out: Out = true;
     say(&mut out, blanked);
-    if !out {
-        complain(
-            b"blank: standard output could not be written to its end; what was written is not whole\n",
-        );
-    }
+    program::end(&NAME, out, b"written");
 }
 
 fn blank(capture: &[u8]) {
     let mut room = [0u8; capture::MOST];
-    let blanked = blanks::blank(capture, &mut room);
+    let blanked = hidden::blank(capture, &mut room);
     match blanked {
         Blanked::Refused { number, place } => refuse(number, place),
         Blanked::Written { bytes } => write(&room[..bytes as usize]),
@@ -38,10 +41,20 @@ fn blank(capture: &[u8]) {
 
 fn main() {
     let mut buffer = [0u8; ROOM];
-    let input = read_input(&mut buffer);
-    let Input::Whole(n) = input else {
-        complain(b"blank: standard input could not be read to its end; nothing was written\n");
+    let given = program::input(
+        &NAME,
+        b"usage: blank [FILE]
+
+Writes a capture of a Mobile DDR bus to standard output, its row and column
+addresses blanked; it is judged like the original. What is no capture has no
+output, and standard error says `refused NUMBER place PLACE`.
+",
+        b"nothing was written",
+        &mut buffer,
+    );
+    if !given.work {
         return;
-    };
+    }
+    let n = given.size;
     blank(&buffer[..n]);
 }

@@ -3,6 +3,8 @@
 use cells::Listed;
 use console::plain::print;
 use console::plain::say;
+use trials::store;
+use trials::store_settings;
 ghost use Prim.Native.Nat.{_≤_};
 
 // The settings of 01's cases; the mode word is setting 3, at byte 36.
@@ -22,25 +24,6 @@ const READ: u32 = 0x000A_0000;
 
 // ---- captures
 
-fn store(capture: &mut [u8], at: u32, word: u32) {
-    let place = at as usize;
-    if capture.len() < 4 {
-        return;
-    }
-    if capture.len() - 4 < place {
-        return;
-    }
-    words::put_word(capture, place, word);
-}
-
-fn store_settings(capture: &mut [u8]) {
-    let mut at = 24;
-    for i in 0..14 {
-        store(capture, at, SETTINGS[i]);
-        at += 4;
-    }
-}
-
 fn store_event(capture: &mut [u8], at: u32, cycle: u32, pins: u32)
     requires { ⌜ at ≤ 96 ⌝ }
 {
@@ -55,7 +38,7 @@ fn store_capture(capture: &mut [u8], total: u32, n: u32, mode: u32, cycle: u32, 
     store(capture, 8, 24);
     store(capture, 12, n);
     store(capture, 16, 80);
-    store_settings(capture);
+    store_settings(capture, &SETTINGS);
     store(capture, MODE, mode);
     store_event(capture, 80, 0, ACTIVE);
     store_event(capture, 88, cycle, READ | column);

@@ -1,10 +1,12 @@
-// Standard input to its end, or that it could not be read; and text on standard output, of which all is written up to
-// the first byte that cannot be, and nothing behind it.
+// What every program has around its work: its arguments, an input read to its end, complaints, and text on standard output,
+// of which all is written up to the first byte that cannot be, and nothing behind it.
+pub mod arguments;
+pub mod line;
 pub mod plain;
+pub mod program;
 
 use libc::EINTR;
 use libc::STDERR_FILENO;
-use libc::STDIN_FILENO;
 use libc::STDOUT_FILENO;
 ghost use mathlib.Core.Path.{_≡_};
 ghost use Prim.Native.Nat.{_+_, _≤_};
@@ -16,7 +18,7 @@ ghost use Rattle.console.specs.Output.{Stays};
 // How often a call that signals interrupt is made before it counts as failed: every loop has to end.
 const TRIES: u32 = 1_000;
 
-// ---- standard input
+// ---- input
 
 // All bytes up to the end of the input or of the buffer, or a read failed.
 pub enum Input {
@@ -31,12 +33,12 @@ enum Piece {
 }
 
 // A read into buf from index `done` on.
-fn read_from(buf: &mut [u8], done: usize) -> Piece
+fn read_from(fd: i32, buf: &mut [u8], done: usize) -> Piece
     requires { ⌜ done ≤ length (now buf) ⌝ }
     ensures { λ r. ⌜ done + cameIn r ≤ length (now (buf .entry)) ⌝ }
 {
     for tried in 0..TRIES {
-        let got = libc::read(STDIN_FILENO, &mut buf[done..]);
+        let got = libc::read(fd, &mut buf[done..]);
         if 0 <= got {
             return Piece::Bytes(io::count(got, &buf[done..]));
         }
@@ -48,12 +50,12 @@ fn read_from(buf: &mut [u8], done: usize) -> Piece
 }
 
 // A read that fails settles it, whatever a later one would say.
-pub fn read_input(buf: &mut [u8]) -> Input
+pub fn read_input(fd: i32, buf: &mut [u8]) -> Input
     ensures { λ r. ⌜ Counts (sizeOf r) (now (buf .exit)) ⌝ }
 {
     let mut done: usize = 0;
     while done < buf.len() {
-        let piece = read_from(buf, done);
+        let piece = read_from(fd, buf, done);
         let Piece::Bytes(n) = piece else {
             return Input::Failed;
         };
@@ -104,12 +106,9 @@ pub fn complain(text: &[u8]) {
     write_whole(STDERR_FILENO, text);
 }
 
-// With a number behind it.
-pub fn complain_number(text: &[u8], n: u32) {
-    let mut digits = [0u8; 20];
-    let size = io::decimal(n as u64, &mut digits);
-    complain(text);
-    complain(&digits[..size]);
+// Whether a person may be looking at standard error.
+pub fn watched() -> bool {
+    libc::isatty(STDERR_FILENO) == 1
 }
 
 // A text behind one that was not written would be read as something else, so it is not written either.

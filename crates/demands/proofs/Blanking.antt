@@ -1,4 +1,4 @@
--- Captures that differ only in addresses, and what `blanks::blank` writes: about whatever the contracts allow.
+-- Captures that differ only in addresses, and what `hidden::blank` writes: about whatever the contracts allow.
 use Prim.Native.Nat.{ℕ, _+_, _*_, _<_}
 use mathlib.Core.Bool.{false}
 use mathlib.Core.List.{List}
@@ -18,10 +18,10 @@ use Rattle.alike.proofs.Pins.{as-made}
 use Rattle.alike.proofs.Blanked.{same-blanked, blanked-length, blanked-pins, blanked-differs, differ-blanked}
 use Rattle.words.proofs.Bytes.{Bytes}
 use Rattle.alike.proofs.Bytes.{front-bytes, cycle-bytes, pin-bytes, blanked-bytes}
-use Rattle.blanks.specs.declared.Blanked.{Blanked}
-use Rattle.blanks.specs.declared.Blanked.the-variants.{Refused, Written}
-use Rattle.blanks.specs.Meaning.{means}
-use Rattle.blanks.proofs.Unique as one-blank
+use Rattle.hidden.specs.declared.Blanked.{Blanked}
+use Rattle.hidden.specs.declared.Blanked.the-variants.{Refused, Written}
+use Rattle.hidden.specs.Meaning.{means}
+use Rattle.hidden.proofs.Unique as one-blank
 use Rattle.demands.specs.Allowed.{Judges, Blanks}
 use Rattle.demands.specs.Refused.{opened, Accepted, BlankRefused, unopened, scant}
 use Rattle.demands.proofs.Judging.{one-answer}

@@ -9,7 +9,7 @@ use Rattle.cells.proofs.Unique as cells
 use Rattle.drafts.proofs.Unique as drafts
 use Rattle.serving.proofs.Unique as serving
 use Rattle.schedule.proofs.Unique as schedule
-use Rattle.blanks.proofs.Unique as blanks
+use Rattle.hidden.proofs.Unique as hidden
 use Rattle.demands.proofs.Finding as finding
 use Rattle.demands.proofs.Judging as judging
 use Rattle.words.proofs.word_at.Reads as words-word-at
@@ -67,7 +67,7 @@ use Rattle.effects.proofs.leave_after.Reads as effects-leave-after
 use Rattle.part.proofs.step.Reads as part-step
 use Rattle.judge.proofs.walk.Reads as judge-walk
 use Rattle.judge.proofs.judge.Reads as judge-judge
-use Rattle.blanks.proofs.blank.Reads as blanks-blank
+use Rattle.hidden.proofs.blank.Reads as hidden-blank
 use Rattle.requests.proofs.asks_write.Reads as requests-asks-write
 use Rattle.requests.proofs.bank.Reads as requests-bank
 use Rattle.requests.proofs.row.Reads as requests-row
@@ -106,7 +106,13 @@ use Rattle.morgazell.proofs.morgazell_judge.Reads as morgazell-morgazell-judge
 use Rattle.morgazell.proofs.morgazell_cells.Reads as morgazell-morgazell-cells
 use Rattle.morgazell.proofs.morgazell_schedule.Reads as morgazell-morgazell-schedule
 use Rattle.morgazell.proofs.morgazell_blank.Reads as morgazell-morgazell-blank
-use Rattle.morgazell.proofs.version.morgazell_version.Reads as morgazell-version-morgazell-version
+use Rattle.morgazell.proofs.morgazell_version.Reads as morgazell-morgazell-version
+use Rattle.version.proofs.number.Reads as version-number
+use Rattle.wording.proofs.values.settings_of.Reads as wording-values-settings-of
+use Rattle.wording.proofs.values.sleeps.Reads as wording-values-sleeps
+use Rattle.wording.proofs.values.newer.Reads as wording-values-newer
+use Rattle.trials.proofs.store.Reads as trials-store
+use Rattle.trials.proofs.store_settings.Reads as trials-store-settings
 use Rattle.capture.proofs.event_bytes.Reads as capture-event-bytes
 use Rattle.capture.proofs.events_start.Reads as capture-events-start
 use Rattle.capture.proofs.front.size.Reads as capture-front-size
@@ -502,11 +508,11 @@ pub cells-burst-cells-settles : (κs : _) (a : _) (z z′ : _) (e e′ : _) → 
     (z ≡ z′) × (now (e .1 .0) ≡ now (e′ .1 .0))
 cells-burst-cells-settles κs a z z′ e e′ p q = (cells.one-answer z z′ (p .0 ∙ sym (q .0)), p .1 ∙ sym (q .1))
 
--- ---- blanks
+-- ---- hidden
 
-pub blanks-blank-settles : (κs : _) (a : _) (z z′ : _) (e e′ : _) → blanks-blank.Post κs a z e → blanks-blank.Post κs a z′ e′ →
+pub hidden-blank-settles : (κs : _) (a : _) (z z′ : _) (e e′ : _) → hidden-blank.Post κs a z e → hidden-blank.Post κs a z′ e′ →
     (z ≡ z′) × (now (e .1 .0) ≡ now (e′ .1 .0))
-blanks-blank-settles κs a z z′ e e′ p q = (blanks.one-answer z z′ (p .0 ∙ sym (q .0)), p .1 ∙ sym (q .1))
+hidden-blank-settles κs a z z′ e e′ p q = (hidden.one-answer z z′ (p .0 ∙ sym (q .0)), p .1 ∙ sym (q .1))
 
 -- ---- morgazell
 
@@ -525,6 +531,30 @@ pub morgazell-morgazell-blank-settles : (κs : _) (a : _) (z z′ : _) (e e′ :
     (z ≡ z′) × (now (e .1 .0) ≡ now (e′ .1 .0))
 morgazell-morgazell-blank-settles κs a z z′ e e′ p q = (p .0 ∙ sym (q .0), p .1 ∙ sym (q .1))
 
-pub morgazell-version-morgazell-version-settles : (κs : _) (a : _) (z z′ : _) (e e′ : _) → morgazell-version-morgazell-version.Post κs a z e → morgazell-version-morgazell-version.Post κs a z′ e′ →
+pub morgazell-morgazell-version-settles : (κs : _) (a : _) (z z′ : _) (e e′ : _) → morgazell-morgazell-version.Post κs a z e → morgazell-morgazell-version.Post κs a z′ e′ →
     z ≡ z′
-morgazell-version-morgazell-version-settles κs a z z′ e e′ p q = p ∙ sym q
+morgazell-morgazell-version-settles κs a z z′ e e′ p q = p ∙ sym q
+
+-- ---- version
+
+pub version-number-settles : (κs : _) (a : _) (z z′ : _) (e e′ : _) → version-number.Post κs a z e → version-number.Post κs a z′ e′ → z ≡ z′
+version-number-settles κs a z z′ e e′ p q = p ∙ sym q
+
+-- ---- wording
+
+pub wording-values-settings-of-settles : (κs : _) (a : _) (z z′ : _) (e e′ : _) → wording-values-settings-of.Post κs a z e → wording-values-settings-of.Post κs a z′ e′ → z ≡ z′
+wording-values-settings-of-settles κs a z z′ e e′ p q = p ∙ sym q
+
+pub wording-values-sleeps-settles : (κs : _) (a : _) (z z′ : _) (e e′ : _) → wording-values-sleeps.Post κs a z e → wording-values-sleeps.Post κs a z′ e′ → z ≡ z′
+wording-values-sleeps-settles κs a z z′ e e′ p q = p ∙ sym q
+
+pub wording-values-newer-settles : (κs : _) (a : _) (z z′ : _) (e e′ : _) → wording-values-newer.Post κs a z e → wording-values-newer.Post κs a z′ e′ → z ≡ z′
+wording-values-newer-settles κs a z z′ e e′ p q = p ∙ sym q
+
+-- ---- trials
+
+pub trials-store-settles : (κs : _) (a : _) (z z′ : _) (e e′ : _) → trials-store.Post κs a z e → trials-store.Post κs a z′ e′ → now (e .0) ≡ now (e′ .0)
+trials-store-settles κs a z z′ e e′ p q = p ∙ sym q
+
+pub trials-store-settings-settles : (κs : _) (a : _) (z z′ : _) (e e′ : _) → trials-store-settings.Post κs a z e → trials-store-settings.Post κs a z′ e′ → now (e .0) ≡ now (e′ .0)
+trials-store-settings-settles κs a z z′ e e′ p q = p ∙ sym q

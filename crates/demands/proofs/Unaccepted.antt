@@ -10,7 +10,7 @@ use lib.Dec.{eqb}
 use lib.ListN.{length}
 use Rattle.reading.specs.Capture.{headerWord}
 use Rattle.cells.specs.declared.Listed.{Listed}
-use Rattle.blanks.specs.declared.Blanked.{Blanked}
+use Rattle.hidden.specs.declared.Blanked.{Blanked}
 use Rattle.demands.specs.Allowed.{Lists, Blanks, RefusedByAll}
 use Rattle.demands.specs.Captures.{mostBytes, BadLength, CaptureRefused}
 use Rattle.demands.specs.Captures as case

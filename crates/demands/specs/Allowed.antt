@@ -13,9 +13,9 @@ use Rattle.cells.specs.declared.Listed.the-variants as listed
 use Rattle.cells.specs.Meaning as cells
 use Rattle.schedule.specs.declared.Scheduled.{Scheduled}
 use Rattle.schedule.specs.Meaning as schedule
-use Rattle.blanks.specs.declared.Blanked.{Blanked}
-use Rattle.blanks.specs.declared.Blanked.the-variants as blanked
-use Rattle.blanks.specs.Meaning as blanks
+use Rattle.hidden.specs.declared.Blanked.{Blanked}
+use Rattle.hidden.specs.declared.Blanked.the-variants as blanked
+use Rattle.hidden.specs.Meaning as hidden
 
 -- by `judge::judge`
 abbrev pub Judges : List ℕ → Verdict → Type 0
@@ -29,9 +29,9 @@ Lists capture out r left = Meets (cells.means r) left (cellsOutcome capture out)
 abbrev pub Schedules : List ℕ → List ℕ → ℕ → List ℕ → Scheduled → List ℕ → Type 0
 Schedules ws qs policy out r left = Meets (schedule.means r) left (scheduleOutcome ws qs policy out)
 
--- by `blanks::blank`, lent `out`, which holds `left` afterwards
+-- by `hidden::blank`, lent `out`, which holds `left` afterwards
 abbrev pub Blanks : List ℕ → List ℕ → Blanked → List ℕ → Type 0
-Blanks capture out r left = Meets (blanks.means r) left (blankOutcome capture out)
+Blanks capture out r left = Meets (hidden.means r) left (blankOutcome capture out)
 
 -- by every call that is asked about a capture: it is refused so, and what was lent is left as it was
 pub record RefusedByAll (capture : List ℕ) (number place : ℕ) : Type 0 where

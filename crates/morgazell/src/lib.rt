@@ -1,14 +1,13 @@
 // The calls for C and Rust programs. Each answers one number, whose bits `specs/Packing` and include/morgazell.h describe.
-pub mod version;
-
-use blanks::Blanked;
 use cells::Listed;
+use hidden::Blanked;
 use judge::Verdict;
 use schedule::Scheduled;
 ghost use mathlib.Core.Path.{_≡_};
 ghost use Prim.Native.Nat.{_<_};
 ghost use Rattle.reading.specs.Answers.{judgeAnswer, cellsOutcome, scheduleOutcome};
 ghost use Rattle.reading.specs.Blank.{blankOutcome};
+ghost use Rattle.version.specs.Version.{version};
 ghost use Rattle.morgazell.specs.Packing.{word, packed, judgeTold, countTold};
 
 const REFUSAL: u64 = 0x100_0000_0000_0000;
@@ -72,9 +71,17 @@ pub extern "C" fn morgazell_blank(capture: &[u8], out: &mut [u8]) -> u64
     ensures { λ r. ⌜ r ≡ packed (countTold (blankOutcome (now (capture .entry)) (now (out .entry)) .answer)) ⌝ }
     ensures { λ _. ⌜ now (out .exit) ≡ blankOutcome (now (capture .entry)) (now (out .entry)) .buffer ⌝ }
 {
-    let blanked = blanks::blank(capture, out);
+    let blanked = hidden::blank(capture, out);
     match blanked {
         Blanked::Refused { number, place } => pack(number, 0, place),
         Blanked::Written { bytes } => pack(0, 0, bytes),
     }
+}
+
+// 10203 for version 1.2.3.
+#[no_mangle]
+pub extern "C" fn morgazell_version() -> u32
+    ensures { λ r. ⌜ r ≡ version ⌝ }
+{
+    version::number()
 }

@@ -23,6 +23,11 @@ fn ask(out: &mut Out, before: &[u8], setting: u32, after: &[u8]) {
     say(out, after);
 }
 
+// Of a number that no rule has.
+fn ask_nothing(out: &mut Out) {
+    say(out, b"nothing is asked by this number");
+}
+
 fn ask_after_refresh_and_mode_set(out: &mut Out, settings: &Settings) {
     if sleeps(settings) {
         ask(
@@ -141,12 +146,13 @@ fn ask_of_rows(out: &mut Out, settings: &Settings, rule: u32) {
             settings[T_RP],
             b") cycles after its bank's precharge; AUTO REFRESH and MODE REGISTER SET after every bank's",
         ),
-        _ => ask(
+        7 => ask(
             out,
             b"ACTIVE at least tRRD (",
             settings[T_RRD],
             b") cycles after the last ACTIVE of another bank",
         ),
+        _ => ask_nothing(out),
     }
 }
 
@@ -175,7 +181,8 @@ fn ask_of_bursts(out: &mut Out, settings: &Settings, rule: u32) {
             b"READ does not cut a read with auto precharge, WRITE not a write with auto precharge, BURST TERMINATE neither such a read nor any write",
         ),
         14 => ask_of_refresh(out, settings),
-        _ => ask_of_sleep(out, settings),
+        15 => ask_of_sleep(out, settings),
+        _ => ask_nothing(out),
     }
 }
 

@@ -15,7 +15,8 @@ use settings::places::T_RP;
 use settings::places::T_XP;
 ghost use mathlib.Core.Path.{_≡_};
 ghost use Prim.Native.Nat.{_≤_};
-ghost use Rattle.wording.specs.Values.{shown};
+ghost use Rattle.reading.specs.Settings.{settingsOf, newer as isNewer};
+ghost use Rattle.wording.specs.Values.{shown, isSleeping};
 
 const MODE: u32 = settings::places::MODE as u32;
 
@@ -83,12 +84,16 @@ fn print_setting(out: &mut Out, i: u32, word: u32) {
 }
 
 // No capture with sleep has a tXP of 0.
-pub fn sleeps(settings: &Settings) -> bool {
+pub fn sleeps(settings: &Settings) -> bool
+    ensures { λ r. ⌜ r ≡ isSleeping (settingsOf (now (settings .entry))) ⌝ }
+{
     settings[T_XP] != 0
 }
 
 // The edition of the newer sheets.
-pub fn newer(settings: &Settings) -> bool {
+pub fn newer(settings: &Settings) -> bool
+    ensures { λ r. ⌜ r ≡ isNewer (settingsOf (now (settings .entry))) ⌝ }
+{
     settings[EDITION] == 1
 }
 

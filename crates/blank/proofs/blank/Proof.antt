@@ -2,9 +2,9 @@ use Prim.Native.Nat.{ℕ, _≤_}
 use mathlib.Core.Path.{_≡_, sym, ap, _∙_}
 use native.Mathlib.Omega.{arith}
 use lib.ListN.{length, length-take}
-use Rattle.blanks.specs.declared.Blanked.the-variants.{Written}
-use Rattle.blanks.specs.Meaning.{means}
-use Rattle.blanks.proofs.Outcome.{written-within}
+use Rattle.hidden.specs.declared.Blanked.the-variants.{Written}
+use Rattle.hidden.specs.Meaning.{means}
+use Rattle.hidden.proofs.Outcome.{written-within}
 use borrow.Author.Needs.{needs}
 use Rattle.blank.proofs.blank.Statement.{statement}
 use Rattle.blank.proofs.blank.Tie as tie

@@ -6,10 +6,10 @@ use Rattle.console.proofs.read_from.Statement.{statement}
 use Rattle.console.proofs.read_from.Tie as tie
 
 abbrev Inv-loop : tie.InvT-loop
-Inv-loop buf₀ done tried₀ buf tried = (tried ≤ 1000) × (length buf ≡ length buf₀)
+Inv-loop fd buf₀ done tried₀ buf tried = (tried ≤ 1000) × (length buf ≡ length buf₀)
 
 abbrev μ-loop : tie.MeasureT-loop
-μ-loop buf₀ done tried₀ buf tried = 1000 - tried
+μ-loop fd buf₀ done tried₀ buf tried = 1000 - tried
 
 loop-holds : tie.Need-loop-holds Inv-loop μ-loop
 loop-holds c = search needs

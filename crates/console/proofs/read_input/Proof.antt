@@ -9,10 +9,10 @@ use Rattle.console.proofs.read_input.Statement.{statement}
 use Rattle.console.proofs.read_input.Tie as tie
 
 abbrev Inv-loop : tie.InvT-loop
-Inv-loop buf₀ done₀ buf done = (done ≤ length buf) × (length buf ≡ length buf₀)
+Inv-loop fd buf₀ done₀ buf done = (done ≤ length buf) × (length buf ≡ length buf₀)
 
 abbrev μ-loop : tie.MeasureT-loop
-μ-loop buf₀ done₀ buf done = length buf - done
+μ-loop fd buf₀ done₀ buf done = length buf - done
 
 loop-holds : tie.Need-loop-holds Inv-loop μ-loop
 loop-holds c = search needs
@@ -36,7 +36,7 @@ same-length-2 : tie.Need-same-length-2 Inv-loop μ-loop
 same-length-2 c = search needs
 
 returns-2 : tie.Need-returns-2 Inv-loop μ-loop
-returns-2 c = counts _ (c .before .before .before .before .before .before .read-from .last .0) (omega arith)
+returns-2 c = counts _ (c .before .before .before .before .before .before .read-from .last .1 .0) (omega arith)
 
 add-done : tie.Need-add-done Inv-loop μ-loop
 add-done c = omega (arith, ap cameIn (c .before .before .piece .given .1))

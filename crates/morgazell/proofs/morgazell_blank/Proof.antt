@@ -1,7 +1,7 @@
 use mathlib.Core.Path.{_∙_}
 use native.Mathlib.Omega.{arith}
 use borrow.Author.Needs.{needs}
-use Rattle.blanks.specs.Meaning.{means}
+use Rattle.hidden.specs.Meaning.{means}
 use Rattle.morgazell.proofs.Fitting.{blank-fits}
 use Rattle.morgazell.proofs.Saying.{count-fits, count-packed}
 use Rattle.morgazell.proofs.morgazell_blank.Statement.{statement}
