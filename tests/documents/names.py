@@ -76,16 +76,27 @@ def tests():
 
 
 @functools.cache
+def programs():
+    """Words with lines between them that are no laws: tools, samples, and what the scripts name."""
+    scripts = [read(path) for folder in (".ci", "tools", "tests") for path in files(folder) if is_source(path) and not path.endswith(".rs")]
+    found = {word for text in scripts for word in re.findall(r"\b[a-z]\w*(?:-\w+)+", text)}
+    return frozenset(found | {os.path.splitext(os.path.basename(path))[0] for path in files("tools") + files("samples")})
+
+
+def is_source(path):
+    """Documents and this test name what is not there; captures are bytes."""
+    return not path.endswith((".md", ".capture", ".pyc")) and not path.startswith((os.path.join(ROOT, "docs"), os.path.join(ROOT, "tests", "documents")))
+
+
+@functools.cache
 def words():
     """Every word of the sources, file names included."""
     found = set()
     for folder in FOLDERS:
-        for path in files(folder):
-            if folder == "docs" or path.endswith((".md", ".capture", ".pyc")):
-                continue
+        for path in filter(is_source, files(folder)):
             found.update(re.split(r"\W+", os.path.relpath(path, ROOT)))
-            with open(path, encoding="utf-8") as file:
-                found.update(re.split(r"[^\w]+", file.read()))
+            with open(path, encoding="utf-8", errors="replace") as file:
+                found.update(re.split(r"\W+", file.read()))
     return frozenset(found | set(crates()) | KIT)
 
 
@@ -98,6 +109,6 @@ def expanded(path):
 
 
 def exists(path):
-    """A file or folder; a word in capitals stands for any name, and the ending of definitions may be left out."""
+    """A file or folder; a word in capitals stands for any name, and the ending of definitions and edits may be left out."""
     pattern = re.sub(r"(?<![A-Za-z0-9_.])[A-Z]{2,}(?![A-Za-z0-9])", "*", path) if not os.path.exists(os.path.join(ROOT, path)) else path
-    return all(glob.glob(os.path.join(ROOT, name)) or glob.glob(os.path.join(ROOT, name + ".antt")) for name in expanded(pattern))
+    return all(any(glob.glob(os.path.join(ROOT, name + ending)) for ending in ("", ".antt", ".edit")) for name in expanded(pattern))
