@@ -14,6 +14,7 @@ FAULTS = [
     ("an edit that is not there", "there is no edit judge/clean_to_some", "docs/IMPOSTORS.md", "`judge/clean_to_all`", "`judge/clean_to_some`"),
     ("a test that is not there", "tests/run has no listings", "docs/PROMISES.md", "`tests/run report listing blank`", "`tests/run report listings blank`"),
     ("a decision that is not there", "there is no decision C99999", "docs/STATUS.md", "C19", "C99999"),
+    ("a decision that sources name, dropped", "it names C14, which is not there", "docs/DECISIONS.md", "\n**C14. ", "\n**C1414. "),
     ("a decision that stands twice", "two decisions have the number C19", "docs/DECISIONS.md", "\n**C20. ", "\n**C19. "),
     ("a decision without its line in the index", "the index is not that", "docs/DECISIONS.md", "  - C20 ", "  - C21 "),
     ("a section that is not there", "RULES.md has no section 4.7", "docs/PROMISES.md", "sections 4.2 and 6", "sections 4.7 and 6"),

@@ -5,6 +5,7 @@ on purpose (faults.py) are then each told of.
 
     tests/documents/run.py            says what is wrong
     tests/documents/run.py --write    puts counts and the index of decisions in, then says what is wrong"""
+import functools
 import glob
 import os
 import re
@@ -26,6 +27,7 @@ CODE = re.compile(r"^    .*$", re.M)
 PATH = re.compile(r"(?<![\w/.<-])((?:%s)/[\w./*{},-]*[\w*}/])" % "|".join(map(re.escape, names.FOLDERS)))
 PAGE = re.compile(r"(?<![\w/.])([A-Z]+\.md)\b")
 INSIDE = re.compile(r"(\w+)/((?:specs|proofs|src|must-fail)(?:/[\w./{},*-]+)?)")
+CITED = re.compile(r"DECISIONS\.md, ((?:[RCD]\d+(?:, | and )?)+)")
 DECISION = re.compile(r"(?<![\w-])([RCD]\d+)(?![\w-])")
 SECTIONS = re.compile(r"(?:docs/)?([A-Z]+)\.md, sections? ([\d.]*\d)(?: (?:and|to) ([\d.]*\d))?")
 HEADED = re.compile(r'(?:docs/)?([A-Z]+)\.md, "([^"]+)"')
@@ -158,6 +160,26 @@ def wrong_index(text):
         yield "two decisions have the number " + number
 
 
+@functools.cache
+def cited():
+    """Decisions and pages that sources name: (file, number or page)."""
+    found = set()
+    for path in (path for folder in names.FOLDERS for path in names.files(folder) if names.is_source(path)):
+        with open(path, encoding="utf-8", errors="replace") as file:
+            text = file.read()
+        for numbers in CITED.findall(text):
+            found.update((os.path.relpath(path, ROOT), number) for number in DECISION.findall(numbers))
+        found.update((os.path.relpath(path, ROOT), page) for page in re.findall(r"\bdocs/[\w/]+\.md\b", text))
+    return found
+
+
+def wrong_citations(pages):
+    there = set(decided(pages))
+    for path, name in sorted(cited()):
+        if not (os.path.exists(os.path.join(ROOT, name)) if name.endswith(".md") else name in there):
+            yield path, "it names %s, which is not there" % name
+
+
 # ---- counts
 
 def wrong_counts(pages):
@@ -196,6 +218,7 @@ def wrong(pages, requests):
     yield from (("docs/PROMISES.md", line) for line in wrong_theorems(pages["docs/PROMISES.md"]))
     yield from (("docs/DECISIONS.md", line) for line in wrong_index(pages["docs/DECISIONS.md"]))
     yield from (("README.md", line) for line in install.wrong(pages["README.md"]))
+    yield from wrong_citations(pages)
     yield from wrong_counts(pages)
 
 
