@@ -6,7 +6,7 @@ ghost use Rattle.morgazell.specs.Version.{numbered};
 
 #[no_mangle]
 pub extern "C" fn morgazell_version() -> u32
-    ensures { λ r. ⌜ r ≡ numbered 4 0 2 ⌝ }
+    ensures { λ r. ⌜ r ≡ numbered 4 0 1 ⌝ }
 {
-    4_00_02
+    4_00_01
 }
