@@ -1,5 +1,5 @@
-/* judge_files FILE ..: a line a file, saying in words what Morgazell says of it as a capture. For a nightly job, which logs
- * what judged by judge_files --version.
+/* judge_files FILE ..: a line a file, saying in words what Morgazell says of it as a capture; - is standard input. For a
+ * nightly job, which logs what judged by judge_files --version. judge_files --help says how it is used.
  *
  * In the folder that was sent:
  *
@@ -8,7 +8,9 @@
  *     ./judge_files FILE ..
  *
  * It ends with the worst of all files: 0 clean, 1 a rule is broken, 2 refused, 3 a file cannot be read, or a line cannot be
- * written. A file is judged as a whole or not at all: one that changes while it is read is refused. */
+ * written. A file is judged as a whole or not at all: one that changes while it is read is refused. A line begins with the
+ * file's name, in which control characters, line breaks and backslashes are written as \x and two digits a byte: so a line
+ * is what this program says, whatever the name. */
 #define _POSIX_C_SOURCE 200809L
 #include <errno.h>
 #include <fcntl.h>
@@ -23,7 +25,12 @@
 enum { CLEAN, BROKEN, REFUSED, UNREADABLE };
 
 /* One byte more than the longest capture: a longer file is seen to be too long. */
-#define ROOM 64089
+#define ROOM (MORGAZELL_LONGEST_CAPTURE + 1)
+
+static const char USAGE[] = "usage: judge_files FILE ..      a line a file; - is standard input\n"
+                            "       judge_files --version    the version that judges\n"
+                            "       judge_files --help       these lines\n"
+                            "ends with 0 clean, 1 a rule is broken, 2 refused, 3 something cannot be read or written\n";
 
 static uint8_t capture[ROOM];
 
@@ -54,44 +61,66 @@ static uint32_t cycle_of(uint32_t event)
     return word_at(24 + 4 * (size_t)word_at(4) + 8 * (size_t)event);
 }
 
-static int say_refused(const char *name, unsigned number, uint32_t place)
+/* How many bytes here are a control character, a line break or a backslash, in ASCII or UTF-8; 0 if none. */
+static int unseen(const unsigned char *at)
+{
+    if (at[0] < 0x20 || at[0] == 0x7f || at[0] == '\\')
+        return 1;
+    if (at[0] == 0xc2 && at[1] >= 0x80 && at[1] < 0xa0)
+        return 2;
+    return at[0] == 0xe2 && at[1] == 0x80 && (at[2] == 0xa8 || at[2] == 0xa9) ? 3 : 0;
+}
+
+static void say_name(const char *name)
+{
+    const unsigned char *at = (const unsigned char *)name;
+    while (*at != '\0') {
+        int escaped = unseen(at);
+        if (escaped == 0)
+            putchar(*at++);
+        for (; escaped > 0; escaped--)
+            printf("\\x%02x", (unsigned)*at++);
+    }
+    printf(": ");
+}
+
+static int say_refused(unsigned number, uint32_t place)
 {
     switch (number) {
-    case 1:
-        printf("%s: refused (1): it is not as long as it says, or no capture is so long\n", name);
+    case MORGAZELL_REFUSED_LENGTH:
+        printf("refused (1): it is not as long as it says, or no capture is so long\n");
         break;
-    case 2:
-        printf("%s: refused (2): its header is wrong\n", name);
+    case MORGAZELL_REFUSED_HEADER:
+        printf("refused (2): its header is wrong\n");
         break;
-    case 3:
-        printf("%s: refused (3): setting %" PRIu32 ", %s, is out of its range%s\n", name, place, SETTINGS[place],
+    case MORGAZELL_REFUSED_SETTING:
+        printf("refused (3): setting %" PRIu32 ", %s, is out of its range%s\n", place, SETTINGS[place],
                place == T_RC ? " or above tRAS + tRP" : "");
         break;
     default:
-        printf("%s: refused (4): event %" PRIu32 " has pins that do not exist, or a cycle that is too large or does not rise\n",
-               name, place);
+        printf("refused (4): event %" PRIu32 " has pins that do not exist, or a cycle that is too large or does not rise\n",
+               place);
     }
     return REFUSED;
 }
 
-static int say(const char *name, uint64_t answer)
+static int say(uint64_t answer)
 {
     uint32_t value = morgazell_value(answer);
     unsigned rule = morgazell_rule(answer);
     if (morgazell_refusal(answer) != 0)
-        return say_refused(name, morgazell_refusal(answer), value);
+        return say_refused(morgazell_refusal(answer), value);
     if (rule != 0) {
-        printf("%s: breaks rule %u at event %" PRIu32 ", cycle %" PRIu32 ": %s\n", name, rule, value, cycle_of(value),
-               RULES[rule]);
+        printf("breaks rule %u at event %" PRIu32 ", cycle %" PRIu32 ": %s\n", rule, value, cycle_of(value), RULES[rule]);
         return BROKEN;
     }
-    printf("%s: clean, %" PRIu32 " events judged\n", name, value);
+    printf("clean, %" PRIu32 " events judged\n", value);
     return CLEAN;
 }
 
-static int unreadable(const char *name, const char *why)
+static int unreadable(int why)
 {
-    printf("%s: cannot be read: %s\n", name, why);
+    printf("cannot be read: %s\n", strerror(why));
     return UNREADABLE;
 }
 
@@ -121,28 +150,32 @@ static int is_whole(const struct stat *before, const struct stat *after, long le
            && before->st_mtim.tv_sec == after->st_mtim.tv_sec && before->st_mtim.tv_nsec == after->st_mtim.tv_nsec;
 }
 
-static int judge_open(const char *name, int file)
+static int judge_open(int file)
 {
     struct stat before, after;
     if (fstat(file, &before) != 0)
-        return unreadable(name, strerror(errno));
+        return unreadable(errno);
     long len = read_whole(file);
     if (len < 0 || fstat(file, &after) != 0)
-        return unreadable(name, strerror(errno));
+        return unreadable(errno);
     if (!is_whole(&before, &after, len)) {
-        printf("%s: refused: it changed while it was read\n", name);
+        printf("refused: it changed while it was read\n");
         return REFUSED;
     }
-    return say(name, morgazell_judge(capture, (size_t)len));
+    return say(morgazell_judge(capture, (size_t)len));
 }
 
 static int judge(const char *name)
 {
-    int file = open(name, O_RDONLY);
+    int is_input = strcmp(name, "-") == 0;
+    int file = is_input ? STDIN_FILENO : open(name, O_RDONLY);
+    int why = errno;
+    say_name(name);
     if (file < 0)
-        return unreadable(name, strerror(errno));
-    int status = judge_open(name, file);
-    close(file);
+        return unreadable(why);
+    int status = judge_open(file);
+    if (!is_input)
+        close(file);
     return status;
 }
 
@@ -164,13 +197,21 @@ static int say_version(void)
     return CLEAN;
 }
 
+static int say_usage(void)
+{
+    fputs(USAGE, stdout);
+    return CLEAN;
+}
+
 int main(int argc, char **argv)
 {
     if (argc < 2) {
-        fprintf(stderr, "usage: judge_files FILE .. | judge_files --version\n");
+        fputs(USAGE, stderr);
         return UNREADABLE;
     }
-    int worst = strcmp(argv[1], "--version") == 0 ? say_version() : judge_all(argv + 1);
+    int worst = strcmp(argv[1], "--version") == 0 ? say_version()
+                : strcmp(argv[1], "--help") == 0  ? say_usage()
+                                                  : judge_all(argv + 1);
     if (fflush(stdout) != 0 || ferror(stdout)) {
         fprintf(stderr, "judge_files: standard output could not be written to its end; what was printed is not whole\n");
         return UNREADABLE;

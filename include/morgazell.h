@@ -88,6 +88,29 @@
 extern "C" {
 #endif
 
+/* The version of this header, in the form of morgazell_version: a program that was compiled with one version and linked with
+ * another can see it. */
+#define MORGAZELL_VERSION @NUMBER@
+
+/* The refusals by name. */
+#define MORGAZELL_REFUSED_LENGTH 1
+#define MORGAZELL_REFUSED_HEADER 2
+#define MORGAZELL_REFUSED_SETTING 3
+#define MORGAZELL_REFUSED_EVENT 4
+#define MORGAZELL_REFUSED_REQUEST 5
+#define MORGAZELL_REFUSED_REFRESH 6
+#define MORGAZELL_REFUSED_BUFFER 7
+#define MORGAZELL_REFUSED_BROKEN 8
+#define MORGAZELL_REFUSED_POLICY 10
+
+/* The most that there can be: events and bytes of a capture, bytes of a schedule, cells of a burst list, requests. A buffer
+ * of that many bytes or cells is never too short. */
+#define MORGAZELL_MOST_EVENTS 8000
+#define MORGAZELL_LONGEST_CAPTURE 64088
+#define MORGAZELL_LONGEST_SCHEDULE 64080
+#define MORGAZELL_MOST_CELLS 128000
+#define MORGAZELL_MOST_REQUESTS 2000
+
 /* What judges: 10000 * the first number of the version + 100 * the second + the third; 10203 for 1.2.3. */
 uint32_t morgazell_version(void);
 
@@ -95,7 +118,7 @@ uint32_t morgazell_version(void);
 uint64_t morgazell_judge(const uint8_t *capture, size_t len);
 
 /* The cell numbers of every kept beat of a clean capture, in event order, from out[0] on; what lies behind them in the
- * buffer stays. 128,000 elements are always enough. */
+ * buffer stays. MORGAZELL_MOST_CELLS elements are always enough. */
 uint64_t morgazell_cells(const uint8_t *capture, size_t len, uint32_t *out, size_t out_len);
 
 /* Row policies: a row stays open behind its burst, until another row of its bank is asked for or a refresh is due; or
@@ -103,15 +126,15 @@ uint64_t morgazell_cells(const uint8_t *capture, size_t len, uint32_t *out, size
 #define MORGAZELL_OPEN_ROWS 0
 #define MORGAZELL_CLOSED_ROWS 1
 
-/* The schedule of the requests, as a whole capture from out[0] on; bytes behind it stay. 64,080 bytes are always
- * enough. The settings are the first fourteen: a schedule never sleeps. Its edition is 0. A request has bit 31 set for a
+/* The schedule of the requests, as a whole capture from out[0] on; bytes behind it stay. MORGAZELL_LONGEST_SCHEDULE
+ * bytes are always enough. The settings are the first fourteen: a schedule never sleeps. Its edition is 0. A request has bit 31 set for a
  * write, and in bits 0-26 the cell where its burst starts. */
 uint64_t morgazell_schedule(const uint32_t *settings, size_t settings_len,
                             const uint32_t *requests, size_t requests_len, uint32_t policy,
                             uint8_t *out, size_t out_len);
 
-/* The capture with its addresses blanked, from out[0] on, as long as it was; bytes behind it stay. 64,088 bytes are always
- * enough. At 0 are A0-A9 and A11-A13 of READ and WRITE, and A0-A13 of an ACTIVE whose row is one of the part's, with CKE
+/* The capture with its addresses blanked, from out[0] on, as long as it was; bytes behind it stay.
+ * MORGAZELL_LONGEST_CAPTURE bytes are always enough. At 0 are A0-A9 and A11-A13 of READ and WRITE, and A0-A13 of an ACTIVE whose row is one of the part's, with CKE
  * high or low; all else is as it was: A10, banks, cycles, settings, rows that the part lacks, and all pins of every other
  * event, whatever stands on them. morgazell_judge says of what was written what it says of the capture. */
 uint64_t morgazell_blank(const uint8_t *capture, size_t len, uint8_t *out, size_t out_len);

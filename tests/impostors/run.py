@@ -1,5 +1,5 @@
 #!/usr/bin/env python3
-"""The tables under "Impostors" in docs/PROMISES.md are held to what the check said of each wrong program: every edit of
+"""The tables of docs/IMPOSTORS.md are held to what the check said of each wrong program: every edit of
 crates/*/must-fail has one row, and the row's last column is where the first error in its log stands. A log that shows
 that the stored proof has other parts than the edited code (docs/DECISIONS.md, C14), or that the edited code is none, says
 nothing about a contract and is wrong too. The logs are those that `rt ci` or `rt must-fail` left.
@@ -43,7 +43,7 @@ def edits(crates):
 
 def rows(crates):
     """The last column of each row, by the edit that the row names."""
-    text = read(os.path.join(ROOT, "docs", "PROMISES.md")).split("## Impostors")[1].split("\n## ")[0]
+    text = read(os.path.join(ROOT, "docs", "IMPOSTORS.md")).split("\n## ", 1)[1]
     table = collections.defaultdict(list)
     for line in text.splitlines():
         row = ROW.fullmatch(line)
@@ -117,7 +117,7 @@ def wrong_with(edit, told):
     """What is wrong with an edit, its row or its log, if anything."""
     folder = os.path.realpath(os.path.join(ROOT, "target", "must-fail", *edit.split("/")))
     if len(told) != 1:
-        return "%d rows in docs/PROMISES.md" % len(told)
+        return "%d rows in docs/IMPOSTORS.md" % len(told)
     if not os.path.exists(os.path.join(folder, ".log")):
         return "no log"
     if not is_present(edit, folder):

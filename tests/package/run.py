@@ -12,6 +12,7 @@ there by its pkg-config file, in C99 and in C++17 with warnings as errors.
 import glob
 import hashlib
 import os
+import pty
 import re
 import shutil
 import subprocess
@@ -86,6 +87,27 @@ def hold_version(folder, program):
     hold("the example's version", output(program, ["--version"]), (0, "morgazell %s\n" % version, ""))
 
 
+# Constants of the header, by the letter of document 01 and of the requests.
+CONSTANTS = {"REFUSED_LENGTH": 1, "REFUSED_HEADER": 2, "REFUSED_SETTING": 3, "REFUSED_EVENT": 4, "REFUSED_REQUEST": 5,
+             "REFUSED_REFRESH": 6, "REFUSED_BUFFER": 7, "REFUSED_BROKEN": 8, "REFUSED_POLICY": 10, "OPEN_ROWS": 0, "CLOSED_ROWS": 1,
+             "MOST_EVENTS": 8000, "LONGEST_CAPTURE": 88 + 8 * 8000, "LONGEST_SCHEDULE": 80 + 8 * 8000, "MOST_CELLS": 16 * 8000,
+             "MOST_REQUESTS": 2000}
+
+
+def hold_constants(folder, out):
+    """The header's constants, and that its version is the archive's, told by a program."""
+    named = set(re.findall(r"^#define MORGAZELL_(\w+) ", read(folder, "include", "morgazell.h"), re.M)) - {"VERSION"}
+    hold("the constants of the header", named, set(CONSTANTS))
+    lines = "".join('    printf("%%ld\\n", (long)MORGAZELL_%s);\n' % name for name in sorted(named))
+    source = os.path.join(out, "constants.c")
+    with open(source, "w", encoding="utf-8") as file:
+        file.write("#include <stdio.h>\n#include <morgazell.h>\nint main(void)\n{\n%s    return morgazell_version() != MORGAZELL_VERSION;\n}\n" % lines)
+    program = os.path.join(out, "constants")
+    subprocess.run([X86, "cc", *STRICT, *pkg_config(folder, "--cflags"), "-o", program, source, *pkg_config(folder, "--libs")], check=True)
+    told = "".join("%d\n" % CONSTANTS[name] for name in sorted(named & set(CONSTANTS)))
+    hold("what they are, and the header's version", output(program, []), (0, told, ""))
+
+
 # ---- 2: header, manual page, archive
 
 def hold_header(folder):
@@ -138,6 +160,11 @@ CASES = [
 
 TOO_LONG = "refused (1): it is not as long as it says, or no capture is so long"
 
+# Names that would say something of their own, and what is printed of each.
+NAMES = {"a\nforged.capture: clean, 2 events judged": r"a\x0aforged.capture: clean, 2 events judged", "a\rb": r"a\x0db",
+         "a\x1b[2Kb": r"a\x1b[2Kb", "a\x7fb": r"a\x7fb", "a\\x0ab": r"a\x5cx0ab", "a\u0085b": r"a\xc2\x85b", "a\u2028b": r"a\xe2\x80\xa8b",
+         "caf\u00e9 2": "caf\u00e9 2"}
+
 
 def compiled(folder, compiler, example, out, *more):
     """The example as a client compiles it, by what pkg-config says."""
@@ -173,10 +200,23 @@ def hold_cases(program, folder):
     with open(names[0], "rb") as file:
         piped = subprocess.run(["sh", "-c", 'cat | exec "$0" "$@"', X86, "run", program, "/dev/stdin"], stdin=file, capture_output=True, text=True)
     hold("through a pipe", (piped.returncode, piped.stdout), (0, "/dev/stdin: clean, 2 events judged\n"))
-    hold("no files", output(program, [])[0], 3)
+    with open(names[0], "rb") as file:
+        hold("standard input by its name", output(program, [names[5], "-"], stdin=file), (1, lines[5] + "-: clean, 2 events judged\n", ""))
+    asked = output(program, ["--help"])
+    hold("what is asked for help", (asked[0], asked[1].startswith("usage: judge_files FILE .."), asked[2]), (0, True, ""))
+    hold("no files", output(program, []), (3, "", asked[1]))
     full = subprocess.run(["sh", "-c", '"$0" "$@" >/dev/full', X86, "run", program, names[0]], capture_output=True, text=True)
     complaint = "judge_files: standard output could not be written to its end; what was printed is not whole\n"
     hold("a full disk", (full.returncode, full.stderr), (3, complaint))
+
+
+def hold_names(program, folder):
+    """A name is told so that it cannot be taken for what the program says."""
+    for name, told in NAMES.items():
+        path = os.path.join(folder, name)
+        with open(path, "wb") as file:
+            file.write(CASES[5][1])
+        hold("a file of the name %r" % name, output(program, [path]), (1, "%s: %s\n" % (os.path.join(folder, told), CASES[5][3]), ""))
 
 
 def said_of_samples():
@@ -223,35 +263,62 @@ NO_REQUEST = "schedule_requests: line %d is neither `read CELL` nor `write CELL`
 NO_SCHEDULES = [
     ("thirteen settings", USUAL[:13], "", 2, "refused (2): a schedule takes fourteen settings\n"),
     ("sixteen settings", SLEEPY, "", 2, "refused (2): a schedule takes fourteen settings\n"),
-    ("tRC 11 beside tRAS 7 and tRP 3", setting(7, 11), "", 2,
-     "refused (3): setting 7 is out of its range, or it is tRC and above tRAS + tRP\n"),
+    ("tRC 11 beside tRAS 7 and tRP 3", setting(7, 11), "", 2, "refused (3): setting 7, tRC, is out of its range or above tRAS + tRP\n"),
+    ("tREFI 0", setting(13, 0), "", 2, "refused (3): setting 13, tREFI, is out of its range\n"),
     ("a cell that the part lacks", USUAL, "read 5\nread 33554432\n", 2,
      "refused (5): request 1 asks for a cell that the part lacks, or is one too many\n"),
     ("2,001 requests", USUAL, "read 5\n" * 2001, 2,
      "refused (5): request 2000 asks for a cell that the part lacks, or is one too many\n"),
     ("tREFI 2, nine times", setting(13, 2), "read 5\n" * 9, 2, "refused (6): refresh cannot be kept at request 5\n"),
     ("another word", USUAL, "read 5\nerase 5\n", 3, NO_REQUEST % 2),
-    ("an empty line", USUAL, "read 5\n\n", 3, NO_REQUEST % 2),
+    ("another word behind empty lines and a comment", USUAL, "\n# read 5\nread 5\n\nerase 5\n", 3, NO_REQUEST % 5),
     ("a cell of 32 bits", USUAL, "read 2147483648\n", 3, NO_REQUEST % 1),
-    ("a long line", USUAL, "read 5" + " " * 99 + "\n", 3, NO_REQUEST % 1),
+    ("a long line", USUAL, "read 5" + " " * 99 + "6\n", 3, NO_REQUEST % 1),
     ("a byte 0", USUAL, "read 5\0\n", 3, NO_REQUEST % 1),
-    ("a setting that is none", ["one"] + USUAL[1:], "", 3, "schedule_requests: a setting is not a number\n"),
+    ("a return within a line", USUAL, "read\r5\n", 3, NO_REQUEST % 1),
+    ("a setting that is none", ["one"] + USUAL[1:], "", 3, "schedule_requests: setting 0, lane code, is not a number\n"),
+    ("a time that is none", USUAL[:6] + ["7ns"] + USUAL[7:], "", 3, "schedule_requests: setting 6, tRAS, is not a number\n"),
+    ("a line in place of tRP", USUAL[:5] + ["-"] + USUAL[6:], "", 3, "schedule_requests: setting 5, tRP, is not a number\n"),
 ]
 
 
-def scheduled(program, policy, settings, lines):
-    run = subprocess.run([X86, "run", program, policy, *map(str, settings)], input=lines.encode(), capture_output=True)
+def run_of(program, words, **more):
+    run = subprocess.run([X86, "run", program, *map(str, words)], capture_output=True, **more)
     return run.returncode, run.stdout, run.stderr.decode()
+
+
+def scheduled(program, policy, settings, lines):
+    return run_of(program, [policy, *settings], input=lines.encode())
+
+
+def hold_terminal(program):
+    """No bytes go to a terminal."""
+    own, shown = pty.openpty()
+    run = subprocess.run([X86, "run", program, "open", *map(str, USUAL)], input=b"", stdout=shown, stderr=subprocess.PIPE)
+    os.close(shown)
+    complaint = b"schedule_requests: a capture is bytes, and standard output is a terminal; send it to a file\n"
+    hold("a terminal", (run.returncode, run.stderr), (3, complaint))
+    try:
+        hold("what the terminal got", os.read(own, 1), b"")
+    except OSError:  # nothing is there, and nobody is left to write
+        pass
+    os.close(own)
 
 
 def hold_schedules(program):
     hold("case m, open rows", scheduled(program, "open", USUAL, LIST_M), (0, capture(OPEN_M), ""))
     hold("case m, closed rows", scheduled(program, "closed", USUAL, LIST_M), (0, capture(CLOSED_M), ""))
+    hold("standard input by its name", scheduled(program, "open", USUAL + ["-"], LIST_M), (0, capture(OPEN_M), ""))
+    written = "# case m\r\n\r\n" + LIST_M.replace("\n", "  # " + "as it stands there " * 9 + "\r\n \t\r\n") + " " * 99 + "\r\n"
+    hold("case m with comments, empty lines and lines of Windows", scheduled(program, "open", USUAL, written), (0, capture(OPEN_M), ""))
     hold("no requests", scheduled(program, "open", USUAL, ""), (0, capture([]), ""))
     hold("the longest list", len(scheduled(program, "closed", USUAL, "read 5\n" * 2000)[1]) > 80 + 8 * 4000, True)
     for name, settings, lines, status, said in NO_SCHEDULES:
         hold(name, scheduled(program, "open", settings, lines), (status, b"", said))
-    hold("a row policy that is none", scheduled(program, "half", USUAL, "")[:2], (3, b""))
+    status, asked, complaint = run_of(program, ["--help"])
+    hold("what is asked for help", (status, asked.startswith(b"usage: schedule_requests open|closed"), complaint), (0, True, ""))
+    hold("a row policy that is none", scheduled(program, "half", USUAL, ""), (3, b"", asked.decode()))
+    hold_terminal(program)
     full = subprocess.run(["sh", "-c", '"$0" "$@" >/dev/full', X86, "run", program, "open", *map(str, USUAL)], input=b"", capture_output=True)
     complaint = b"schedule_requests: standard output could not be written to its end; what was written is not whole\n"
     hold("a schedule on a full disk", (full.returncode, full.stderr), (3, complaint))
@@ -289,10 +356,12 @@ def main():
             folder = unpacked(name, empty)
             hold_folder(folder)
             hold_header(folder)
+            hold_constants(folder, out)
             for compiler in LANGUAGES:
                 program = compiled(folder, compiler, "judge_files", os.path.join(out, "judge_files"))
                 hold_version(folder, program)
                 hold_cases(program, out)
+                hold_names(program, out)
                 hold_samples(program)
                 hold_schedules(compiled(folder, compiler, "schedule_requests", os.path.join(out, "schedule_requests")))
             grows = os.path.join(out, "grow.o")

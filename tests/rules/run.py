@@ -17,7 +17,8 @@ from running import from_file
 
 NAMES = ["tRCD", "tRP", "tRAS", "tRC", "tRRD", "tWR", "tWTR", "tRFC", "tMRD", "tREFI", "tXP", "tXSR"]
 
-EXAMPLE = re.compile(r"`([^`]*@\d+)` (?:is (clean)|breaks rule (\d+)|is refusal (\d+), place (\d+))")
+# In a sentence, or in a row of a table.
+EXAMPLE = re.compile(r"`([^`]*@\d+)` (?:is |\| )?(?:(clean)|breaks rule (\d+)|refusal (\d+), place (\d+))")
 
 # The command, what it names in this order, whether CKE is low, and its cycle.
 EVENT = re.compile(r"([A-Z]+(?: [A-Z]+)*)(?: register ([01]{2}))?(?: bank (\d))?(?: row (\d+))?(?: column (\d+))?"
@@ -111,7 +112,7 @@ def main():
         if said != expected:
             wrong.append(f"{text}: {said!r}, not {expected!r}")
     # An example that the pattern misses would not be tried.
-    written = len(re.findall(r"@\d+` (?:is|breaks)\b", page))
+    written = len(re.findall(r"@\d+` (?:is|breaks|\|)", page))
     if not tried or written != len(tried):
         wrong.append(f"{written} examples are written and {len(tried)} were tried")
     for line in wrong:

@@ -1,0 +1,140 @@
+"""What stands in a document and can be counted: where it stands, and what it is. A pattern has the group `n` around the
+number, or around several."""
+import glob
+import os
+import re
+
+import names
+from names import ROOT, files, read
+
+
+def with_commas(number):
+    return "{:,}".format(number)
+
+
+def lines(*paths):
+    return sum(open(path, encoding="utf-8").read().count("\n") for path in paths)
+
+
+def sizes():
+    """Lines of code, of definitions and of proofs."""
+    definitions = [path for path in files("crates", ".antt") if "/specs/" in path]
+    proofs = [path for path in files("crates", ".antt") if "/proofs/" in path]
+    return ", ".join(with_commas(lines(*paths)) for paths in (files("crates", ".rt"), definitions, proofs))
+
+
+def long_lines():
+    proofs = [path for path in files("crates", ".antt") if "/proofs/" in path]
+    return sum(len(line) > 200 for path in proofs for line in read(path).splitlines() if not line.startswith("use "))
+
+
+def libraries():
+    """Crates with code, but for programs and those that print."""
+    return [crate for crate in names.crates() if crate not in ("console", "wording") and os.path.exists(os.path.join(ROOT, "crates", crate, "src", "lib.rt"))]
+
+
+def public_functions():
+    """The heads of the public functions of the libraries, each up to its body."""
+    for crate in libraries():
+        for path in files(os.path.join("crates", crate, "src"), ".rt"):
+            text = re.sub(r"//[^\n]*", "", read(path))
+            for found in re.finditer(r'\bpub\s+(?:extern\s+"C"\s+)?fn\s+\w+', text):
+                yield re.split(r"\n\s*\{\s*\n|\)[^\n{]*\{\s*\n|-> [^\n{]*\{\n", text[found.start():], maxsplit=1)[0]
+
+
+def functions():
+    return sum(1 for _ in public_functions())
+
+
+def asking():
+    return sum("requires {" in head for head in public_functions())
+
+
+def changes():
+    return len(re.findall(r"^\[\w+\] ", read("tests", "mutants", "table"), re.M))
+
+
+def unchanging():
+    return len(re.findall(r"^same:", read("tests", "mutants", "table"), re.M))
+
+
+def samples():
+    return len(glob.glob(os.path.join(ROOT, "samples", "*.capture")))
+
+
+def edits():
+    return len(names.edits())
+
+
+def gate():
+    """Every crate, and every edit."""
+    return len(names.crates()) + edits()
+
+
+def examples():
+    return re.findall(r"`([^`]*@\d+)` (?:is |\| )?(?:clean|breaks rule \d+|refusal \d+, place \d+)", read("docs", "RULES.md"))
+
+
+def sleeping_examples():
+    return sum(" low @" in text or "tXP " in text or "tXSR " in text for text in examples())
+
+
+def newer_examples():
+    return sum(text.startswith("edition 1") for text in examples())
+
+
+def second_tests():
+    return sum(len(re.findall(r"^\s*#\[test\]", read(path), re.M)) for path in files("tests/second", ".rs"))
+
+
+def version():
+    """The version, from the file in which tools/archive reads it."""
+    place = re.search(r"^version=.* (crates/\S+)\)$", read("tools", "archive"), re.M).group(1)
+    return ".".join(re.search(r"numbered (\d+) (\d+) (\d+)", read(place)).groups())
+
+
+def last_reading():
+    return max(int(number) for number in re.findall(r"^\*\*R(\d+)\. ", read("docs", "DECISIONS.md"), re.M))
+
+
+def minutes():
+    """The gate's minutes, as docs/STATUS.md has them."""
+    return re.search(r"in (\d+) minutes \d+ seconds", read("docs", "STATUS.md")).group(1)
+
+
+def more(crate, than):
+    return lambda: len(names.rests_on(crate) - names.rests_on(than))
+
+
+def rests(crate):
+    return lambda: len(names.rests_on(crate))
+
+
+COUNTS = [
+    ("README.md", r"of the (?P<n>\d+) captures in `samples/`", samples),
+    ("README.md", r"\| (?P<n>\d+) crates, then \d+ samples \|", rests("report")),
+    ("README.md", r"crates, then (?P<n>\d+) samples \|", samples),
+    ("README.md", r"`rt check listing` \| (?P<n>\d+) crates? more", more("listing", "report")),
+    ("README.md", r"the (?P<n>\d+) libraries of the archive", rests("morgazell")),
+    ("README.md", r"\| (?P<n>\d+) minutes on two cores \(docs/STATUS.md\)", minutes),
+    ("CONTRIBUTING.md", r"It proves (?P<n>\d+) crates, builds the report", rests("report")),
+    ("CHANGELOG.md", r"\n## (?P<n>\d+\.\d+\.\d+)\n", version),
+    ("docs/PROMISES.md", r"Between the crates (?P<n>\d+) public functions ask", asking),
+    ("docs/PROMISES.md", r"a law for each of the (?P<n>\d+) public functions", functions),
+    ("docs/RULES.md", r"R1 to R(?P<n>\d+); such a number", last_reading),
+    ("docs/DECISIONS.md", r"\(R1 to R(?P<n>\d+)\)", last_reading),
+    ("docs/STATUS.md", r"\| (?P<n>\d+) passed, 0 failed", gate),
+    ("docs/STATUS.md", r"lines of code, definitions, proofs \| (?P<n>[\d, ]+) \|", sizes),
+    ("docs/STATUS.md", r"law that its contract settles its answer \| (?P<n>\d+) \|", functions),
+    ("docs/STATUS.md", r"edits that must fail \| (?P<n>\d+) \|", edits),
+    ("docs/STATUS.md", r"definitions that are tried \| (?P<n>\d+), of which", changes),
+    ("docs/STATUS.md", r"of which (?P<n>\d+) alter no answer", unchanging),
+    ("docs/STATUS.md", r"samples \| (?P<n>\d+) \|", samples),
+    ("docs/STATUS.md", r"lines of proof over 200 characters, imports apart \| (?P<n>\d+) \|", long_lines),
+    ("docs/TESTING.md", r"one place at a time, (?P<n>\d+) changes in all", changes),
+    ("docs/TESTING.md", r"(?P<n>\d+) of the changes alter no answer", unchanging),
+    ("docs/TESTING.md", r"its (?P<n>\d+) examples, \d+ of them of sixteen", lambda: len(examples())),
+    ("docs/TESTING.md", r"examples, (?P<n>\d+) of them of sixteen", sleeping_examples),
+    ("docs/TESTING.md", r"and (?P<n>\d+) of edition 1, are held to the report", newer_examples),
+    ("docs/TESTING.md", r"its (?P<n>\d+) tests: cases", second_tests),
+]
