@@ -6,7 +6,7 @@ use mathlib.Core.Option.{none}
 use mathlib.Core.Path.{_≡_, refl, sym, ap, _∙_}
 use native.Mathlib.Omega.{arith}
 use lib.Dec.{eqb}
-use lib.ListN.{length, getD, take, drop, length-append}
+use lib.ListN.{length, take, drop, length-append}
 use borrow.Author.Tests.{eqb-true, not-false}
 use Rattle.reading.specs.Search.{given, every}
 use Rattle.reading.specs.Mode.{BL}
@@ -220,12 +220,11 @@ pub schedule-is-memory : (ws qs : List ℕ) (policy : ℕ) (out left : List ℕ)
 schedule-is-memory ws qs policy out left n allowed r =
     ap (λ b. replay (settingsIn (take n b)) (eventsOf (take n b)) r) (allowed .1) ∙ outcome-memory ws qs policy out n (sym (allowed .0)) r
 
--- Read by read: the words of its i-th read are those of the plain memory's i-th read.
+-- Read by read: it has as many reads as the plain memory, and the words of the i-th are those of the plain memory's i-th.
 pub schedule-reads-alike : (ws qs : List ℕ) (policy : ℕ) (out left : List ℕ) (n : ℕ) → Schedules ws qs policy out (said.Written n) left →
-    (r : Run) (i : ℕ) → getD (partReads (settingsIn (take n left)) (eventsOf (take n left)) r) i [] ≡ getD (plainReads (settingsOf ws) qs r) i []
-schedule-reads-alike ws qs policy out left n allowed r i =
-    ap (λ b. getD (partReads (settingsIn (take n b)) (eventsOf (take n b)) r) i []) (allowed .1)
-    ∙ ap (λ (words : List (List ℕ)). getD words i []) (outcome-reads ws qs policy out n (sym (allowed .0)) r)
+    (r : Run) → partReads (settingsIn (take n left)) (eventsOf (take n left)) r ≡ plainReads (settingsOf ws) qs r
+schedule-reads-alike ws qs policy out left n allowed r =
+    ap (λ b. partReads (settingsIn (take n b)) (eventsOf (take n b)) r) (allowed .1) ∙ outcome-reads ws qs policy out n (sym (allowed .0)) r
 
 -- A schedule has at most four events a request.
 pub schedule-is-short : (ws qs : List ℕ) (policy : ℕ) (out left : List ℕ) (n : ℕ) → Schedules ws qs policy out (said.Written n) left →
