@@ -1,6 +1,8 @@
 """What stands in a document and can be counted: where it stands, and what it is. A pattern has the group `n` around the
 number, or around several."""
+import functools
 import glob
+import importlib.util
 import os
 import re
 
@@ -28,18 +30,21 @@ def long_lines():
     return sum(len(line) > 200 for path in proofs for line in read(path).splitlines() if not line.startswith("use "))
 
 
-def libraries():
-    """Crates with code, but for programs and those that print."""
-    return [crate for crate in names.crates() if crate not in ("console", "wording") and os.path.exists(os.path.join(ROOT, "crates", crate, "src", "lib.rt"))]
+@functools.cache
+def contracts():
+    """tests/contracts, which knows the public functions that have a law."""
+    spec = importlib.util.spec_from_file_location("contracts", os.path.join(ROOT, "tests", "contracts", "run.py"))
+    module = importlib.util.module_from_spec(spec)
+    spec.loader.exec_module(module)
+    return module
 
 
 def public_functions():
-    """The heads of the public functions of the libraries, each up to its body."""
-    for crate in libraries():
-        for path in files(os.path.join("crates", crate, "src"), ".rt"):
-            text = re.sub(r"//[^\n]*", "", read(path))
-            for found in re.finditer(r'\bpub\s+(?:extern\s+"C"\s+)?fn\s+\w+', text):
-                yield re.split(r"\n\s*\{\s*\n|\)[^\n{]*\{\s*\n|-> [^\n{]*\{\n", text[found.start():], maxsplit=1)[0]
+    """Each with the text of its source from its name on."""
+    for source in contracts().sources():
+        text = contracts().QUIET.sub("", source[-1])
+        for function in contracts().functions(*source):
+            yield function, text[re.search(r"\bpub\b[^;{}]*\bfn\s+%s\b" % function.path[-1], text).end():]
 
 
 def functions():
@@ -47,7 +52,8 @@ def functions():
 
 
 def asking():
-    return sum("requires {" in head for head in public_functions())
+    """Those with a `requires` before their body."""
+    return sum("requires {" in re.split(r"\n\s*\{\s*\n|\{\n", text, maxsplit=1)[0] for _, text in public_functions())
 
 
 def changes():

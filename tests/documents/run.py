@@ -182,13 +182,18 @@ def wrong_citations(pages):
 
 # ---- counts
 
+@functools.cache
+def counted(count):
+    return str(count())
+
+
 def wrong_counts(pages):
     for page, pattern, count in counts.COUNTS:
         found = re.search(pattern, pages[page])
         if not found:
             yield page, "a count is missing: " + pattern
-        elif found["n"] != str(count()):
-            yield page, "it says %s, counted are %s: %s" % (found["n"], count(), found.group(0).strip())
+        elif found["n"] != counted(count):
+            yield page, "it says %s, counted are %s: %s" % (found["n"], counted(count), found.group(0).strip())
 
 
 def write():
@@ -196,7 +201,7 @@ def write():
         text = read(page)
         found = re.search(pattern, text)
         if found:
-            save(page, text[:found.start("n")] + str(count()) + text[found.end("n"):])
+            save(page, text[:found.start("n")] + counted(count) + text[found.end("n"):])
     text = read("docs/DECISIONS.md")
     save("docs/DECISIONS.md", INDEX.sub(lambda _: index(text), text))
 
