@@ -26,6 +26,7 @@ mod Tables
 mod Editions
 mod Blanking
 mod Exports
+mod Opened
 
 -- pin words, put together by adding: a command, a bank, A10, column or row pins
 abbrev ACTIVE : ℕ

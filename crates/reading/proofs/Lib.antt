@@ -9,3 +9,7 @@ pub mod Six
 pub mod Cuts
 pub mod Alone
 pub mod Nops
+pub mod Ordered
+pub mod OpenRows
+pub mod CleanRows
+pub mod Index

@@ -17,3 +17,5 @@ pub mod Memory
 pub mod Answers
 pub mod Blank
 pub mod Export
+pub mod Openings
+pub mod OpenRow
