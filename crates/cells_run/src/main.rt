@@ -31,13 +31,17 @@ fn store_event(capture: &mut [u8], at: u32, cycle: u32, pins: u32)
     store(capture, at + 4, pins);
 }
 
-// ACTIVE at 0 and a READ; a capture of `total` bytes and n events.
-fn store_capture(capture: &mut [u8], total: u32, n: u32, mode: u32, cycle: u32, column: u32) {
+fn store_header(capture: &mut [u8], total: u32, n: u32) {
     store(capture, 0, total);
     store(capture, 4, 14);
     store(capture, 8, 24);
     store(capture, 12, n);
     store(capture, 16, 80);
+}
+
+// ACTIVE at 0 and a READ; a capture of `total` bytes and n events.
+fn store_capture(capture: &mut [u8], total: u32, n: u32, mode: u32, cycle: u32, column: u32) {
+    store_header(capture, total, n);
     store_settings(capture, &SETTINGS);
     store(capture, MODE, mode);
     store_event(capture, 80, 0, ACTIVE);

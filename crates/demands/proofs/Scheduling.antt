@@ -2,7 +2,7 @@
 use Prim.Native.Nat.{ℕ, suc, _+_, _*_, _≤_}
 use mathlib.Core.Bool.{Bool, true, false, cond, not}
 use mathlib.Core.List.{List, [], _∷_, _++_, append-nil, append-assoc}
-use mathlib.Core.Option.{none}
+use mathlib.Core.Option.{Option, none, some}
 use mathlib.Core.Path.{_≡_, refl, sym, ap, _∙_}
 use native.Mathlib.Omega.{arith}
 use lib.Dec.{eqb}
@@ -152,7 +152,7 @@ module _ (ws qs : List ℕ) (policy : ℕ) (out : List ℕ) (n : ℕ) (e : sched
       let (each, rest-3) = passed 3 (badSetting ws) _ rest-2 in
       let (known, rest-10) = passed 10 (given 0 (not (policyFits policy))) _ rest-3 in
       let (asked, rest-5) = passed 5 (badRequest (settingsOf ws) qs) _ rest-10 in
-      let l : length ws ≡ 14 = eqb-true (length ws) 14 (not-false (eqb (length ws) 14) (not-given _ count)) in
+      let l : length ws ≡ 14 = eqb-true (length ws) 14 (not-false (eqb (length ws) 14) (not-given 0 _ count)) in
       go l each asked w (scheduleOf (settingsOf ws) policy qs) refl rest-5 refl
     where
       go : {x : Answer (List ℕ)} → length ws ≡ 14 → badSetting ws ≡ none → badRequest (settingsOf ws) qs ≡ none → (w : Wrote x out n) →

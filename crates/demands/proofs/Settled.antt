@@ -498,7 +498,7 @@ pub cells-kept-beats-settles : (κs : _) (a : _) (z z′ : _) (e e′ : _) → c
 cells-kept-beats-settles κs a z z′ e e′ p q = cells.one-count z z′ (p .0 ∙ sym (q .0)) (p .1 ∙ sym (q .1))
 
 pub cells-burst-at-settles : (κs : _) (a : _) (z z′ : _) (e e′ : _) → cells-burst-at.Post κs a z e → cells-burst-at.Post κs a z′ e′ → z ≡ z′
-cells-burst-at-settles κs a z z′ e e′ p q = p ∙ sym q
+cells-burst-at-settles κs a z z′ e e′ p q = cells.one-given z z′ (p ∙ sym q)
 
 pub cells-passed-settles : (κs : _) (a : _) (z z′ : _) (e e′ : _) → cells-passed.Post κs a z e → cells-passed.Post κs a z′ e′ →
     (z ≡ z′) × (now (e .1 .1 .1 .0) ≡ now (e′ .1 .1 .1 .0))

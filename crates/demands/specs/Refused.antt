@@ -12,7 +12,6 @@ use Rattle.reading.specs.Schedule.{planned, late, badRequest, scheduleOf, captu
 use Rattle.reading.specs.Answers.{settingsIn, cellsIn}
 use Rattle.reading.proofs.Meaning.{Unbroken, BrokenAt}
 use Rattle.demands.specs.Captures.{CaptureRefused}
-
 -- what refusals 1 to 4 say of a capture, and none of them
 pub use Rattle.capture.specs.Calls.{opened, Accepted}
 
