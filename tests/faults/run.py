@@ -238,11 +238,13 @@ def nearly_full_disk(name, source, text, room):
     expect(len(run.stdout) == room, what + ": not all that it takes", run)
 
 
-def full_and_closed(name, source, text):
+def full_and_closed(name, source, text, arguments=()):
+    """Where standard output is closed, a file that is named may be opened in its place; it is not written."""
+    words = [*command(name), *arguments]
     with open("/dev/full", "wb") as full:
-        run = given(command(name), source, stdout=full)
+        run = given(words, source, stdout=full)
     expect_start(f"{name}, /dev/full", name, text, printed(run, b""))
-    run = given(["sh", "-c", 'exec "$0" "$@" >&-'] + command(name), source)
+    run = given(["sh", "-c", 'exec "$0" "$@" >&-'] + words, source)
     expect_start(f"{name}, standard output closed", name, text, run)
 
 
@@ -272,6 +274,11 @@ def named(name, data, text):
         source = other.fileno()
         every_read(name, source, len(data), text, f.name)
         every_open(name, source, text, f.name)
+        full_and_closed(name, source, text, [f.name])
+        run = given(["sh", "-c", 'exec "$0" "$@" <&-'] + command(name) + [f.name], source)
+        expect_right(f"{name}, a file while standard input is closed", text, run)
+        f.seek(0)
+        expect(f.read() == data, f"{name}, the file is as it was", run)
         for option, piece in (("--help", 50), ("--version", 1)):
             said = given([*command(name), option], source).stdout
             every_write(name, source, said, piece, [option], "printed")
