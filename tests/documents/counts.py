@@ -122,6 +122,19 @@ def events_of(sample):
         return int.from_bytes(file.read(16)[12:], "little")
 
 
+def landed():
+    """The customer requests that have a page, runs of three or more as one."""
+    numbers = sorted(int(re.search(r"K(\d+)", path).group(1)) for path in glob.glob(os.path.join(ROOT, "docs", "requests", "K*.md")))
+    runs = []
+    for number in numbers:
+        if runs and number == runs[-1][-1] + 1:
+            runs[-1].append(number)
+        else:
+            runs.append([number])
+    told = [text for run in runs for text in (["K%d to K%d" % (run[0], run[-1])] if len(run) > 2 else ["K%d" % number for number in run])]
+    return " and ".join(filter(None, [", ".join(told[:-1]), told[-1]]))
+
+
 def minutes():
     """The gate's minutes, as docs/STATUS.md has them."""
     return re.search(r"in (\d+) minutes \d+ seconds", read("docs", "STATUS.md")).group(1)
@@ -150,6 +163,7 @@ COUNTS = [
     ("docs/RULES.md", r"R1 to R(?P<n>\d+); such a number", last_reading),
     ("docs/DECISIONS.md", r"\(R1 to R(?P<n>\d+)\)", last_reading),
     ("docs/DECISIONS.md", r"Of the (?P<n>\d+) rows of `tests/data/part-settings.csv`", parts),
+    ("docs/STATUS.md", r"The landed requests are (?P<n>[^(]*) \(", landed),
     ("docs/STATUS.md", r"\| (?P<n>\d+) passed, 0 failed", gate),
     ("docs/STATUS.md", r"lines of code, definitions, proofs \| (?P<n>[\d, ]+) \|", sizes),
     ("docs/STATUS.md", r"law that its contract settles its answer \| (?P<n>\d+) \|", functions),

@@ -6,6 +6,8 @@ FAULTS = [
     ("a path that is not there", "there is no tools/judge-all", "README.md", "tools/judge-samples", "tools/judge-all"),
     ("a page that is not there", "there is no page CHANGES.md", "README.md", "CHANGELOG.md", "CHANGES.md"),
     ("a crate that is not there", "nothing has the name turnings", "docs/ARCHITECTURE.md", "| `serving` |", "| `turnings` |"),
+    ("a crate left out", "no row has the crate serving", "docs/ARCHITECTURE.md", "| `serving` |", "| `schedule` |"),
+    ("a test left out", "it leaves out tests/run lint", "docs/TESTING.md", "`tests/run lint`", "`tests/run format`"),
     ("a function that is not there", "there is no judge::judges", "docs/PROMISES.md", "`judge::judge`", "`judge::judges`"),
     ("a law that is not there", "no law has the name one-answers", "docs/PROMISES.md", "`one-answer`", "`one-answers`"),
     ("a law in another file", "Refusing has no one-answer", "docs/PROMISES.md", "`one-answer` | Judging", "`one-answer` | Refusing"),

@@ -124,6 +124,18 @@ def wrong_rows(text):
     yield from ("two rows have the edit " + edit for edit in sorted(set(edit for edit in rows if rows.count(edit) > 1)))
 
 
+def left_out(pages):
+    """Every crate has its row in docs/ARCHITECTURE.md, and every test in both pages on tests."""
+    table = pages["docs/ARCHITECTURE.md"].split("\n## Crates\n")[1].split("\n##")[0]
+    rows = {name for line in table.splitlines() if line.startswith("| `") for name in QUOTED.findall(line.split(" | ")[0])}
+    yield from (("docs/ARCHITECTURE.md", "no row has the crate " + crate) for crate in sorted(set(names.crates()) - rows))
+    for test in sorted(names.tests()):
+        if not re.search(r"`tests/run (?:[a-z]+ )*%s\b" % test, pages["docs/TESTING.md"]):
+            yield "docs/TESTING.md", "it leaves out tests/run " + test
+        if "| `%s` |" % test not in pages["tests/README.md"]:
+            yield "tests/README.md", "no row has the test " + test
+
+
 def headings(pages, page):
     text = pages.get("docs/%s.md" % page, pages.get(page + ".md", ""))
     return re.findall(r"^#+ (.*)$", text, re.M)
@@ -234,6 +246,7 @@ def wrong(pages, requests):
     yield from (("docs/IMPOSTORS.md", line) for line in wrong_rows(pages["docs/IMPOSTORS.md"]))
     yield from (("docs/DECISIONS.md", line) for line in wrong_index(pages["docs/DECISIONS.md"]))
     yield from (("README.md", line) for line in install.wrong(pages["README.md"]))
+    yield from left_out(pages)
     yield from wrong_citations(pages)
     yield from wrong_counts(pages)
 
