@@ -199,7 +199,7 @@ module _ (ws qs : List ℕ) (policy : ℕ) (out : List ℕ) (n : ℕ) (e : sched
 
   outcome-reads : (r : Run) → partReads (settingsIn capture) (eventsOf capture) r ≡ plainReads (settingsOf ws) qs r
   outcome-reads r =
-      rw (outcome-events, written .bytes, captured-settings ws es l (written .settings) few (y .rises) (y .early))
+      rw (outcome-events, written .bytes, captured-settings ws es l (written .settings) few (y .rises) (y .low) (y .early))
       (serves-reads (settingsOf ws) (ranged ws (settings-fit ws (written .fourteen) (written .settings)) (fourteen-old ws (written .fourteen)) .sized) (y .serves) r)
 
   outcome-awake : every (λ x. not (commandOf (x .pins) .low)) (eventsOf capture) ≡ true

@@ -16,6 +16,8 @@ use Rattle.words.proofs.word_at.Reads as words-word-at
 use Rattle.words.proofs.put_word.Reads as words-put-word
 use Rattle.words.proofs.both.Reads as words-both
 use Rattle.words.proofs.put_words.Reads as words-put-words
+use Rattle.words.proofs.half_at.Reads as words-half-at
+use Rattle.words.proofs.put_half.Reads as words-put-half
 use Rattle.settings.proofs.mode_word.Reads as settings-mode-word
 use Rattle.settings.proofs.mode.burst_length.Reads as settings-mode-burst-length
 use Rattle.settings.proofs.mode.half.Reads as settings-mode-half
@@ -140,6 +142,13 @@ words-both-settles κs a z z′ e e′ p q = p ∙ sym q
 pub words-put-words-settles : (κs : _) (a : _) (z z′ : _) (e e′ : _) → words-put-words.Post κs a z e → words-put-words.Post κs a z′ e′ →
     now (e .0) ≡ now (e′ .0)
 words-put-words-settles κs a z z′ e e′ p q = p ∙ sym q
+
+pub words-half-at-settles : (κs : _) (a : _) (z z′ : _) (e e′ : _) → words-half-at.Post κs a z e → words-half-at.Post κs a z′ e′ → z ≡ z′
+words-half-at-settles κs a z z′ e e′ p q = p ∙ sym q
+
+pub words-put-half-settles : (κs : _) (a : _) (z z′ : _) (e e′ : _) → words-put-half.Post κs a z e → words-put-half.Post κs a z′ e′ →
+    now (e .0) ≡ now (e′ .0)
+words-put-half-settles κs a z z′ e e′ p q = p ∙ sym q
 
 -- ---- settings
 
