@@ -103,6 +103,38 @@ def last_reading():
     return max(int(number) for number in re.findall(r"^\*\*R(\d+)\. ", read("docs", "DECISIONS.md"), re.M))
 
 
+def parts():
+    """The rows of the table of real parts."""
+    return lines(os.path.join(ROOT, "tests", "data", "part-settings.csv")) - 1
+
+
+def published_rows():
+    return sum(lines(path) - 1 for path in files("tests/data/burst-tables", ".csv"))
+
+
+def inputs(build):
+    """How many the gate's differential run has."""
+    return lambda: with_commas(int(re.search(r"tests/differential (\d+) \d+%s(?: |$)" % build, read("tests", "run"), re.M).group(1)))
+
+
+def events_of(sample):
+    with open(os.path.join(ROOT, "samples", sample), "rb") as file:
+        return int.from_bytes(file.read(16)[12:], "little")
+
+
+def landed():
+    """The customer requests that have a page, runs of three or more as one."""
+    numbers = sorted(int(re.search(r"K(\d+)", path).group(1)) for path in glob.glob(os.path.join(ROOT, "docs", "requests", "K*.md")))
+    runs = []
+    for number in numbers:
+        if runs and number == runs[-1][-1] + 1:
+            runs[-1].append(number)
+        else:
+            runs.append([number])
+    told = [text for run in runs for text in (["K%d to K%d" % (run[0], run[-1])] if len(run) > 2 else ["K%d" % number for number in run])]
+    return " and ".join(filter(None, [", ".join(told[:-1]), told[-1]]))
+
+
 def minutes():
     """The gate's minutes, as docs/STATUS.md has them."""
     return re.search(r"in (\d+) minutes \d+ seconds", read("docs", "STATUS.md")).group(1)
@@ -127,8 +159,11 @@ COUNTS = [
     ("CHANGELOG.md", r"\n## (?P<n>\d+\.\d+\.\d+)\n", version),
     ("docs/PROMISES.md", r"Between the crates (?P<n>\d+) public functions ask", asking),
     ("docs/PROMISES.md", r"a law for each of the (?P<n>\d+) public functions", functions),
+    ("docs/PROMISES.md", r"with tWTR 1 typed for 2 it is clean, all (?P<n>\d+) events judged", lambda: events_of("tWTR.capture")),
     ("docs/RULES.md", r"R1 to R(?P<n>\d+); such a number", last_reading),
     ("docs/DECISIONS.md", r"\(R1 to R(?P<n>\d+)\)", last_reading),
+    ("docs/DECISIONS.md", r"Of the (?P<n>\d+) rows of `tests/data/part-settings.csv`", parts),
+    ("docs/STATUS.md", r"The landed requests are (?P<n>[^(]*) \(", landed),
     ("docs/STATUS.md", r"\| (?P<n>\d+) passed, 0 failed", gate),
     ("docs/STATUS.md", r"lines of code, definitions, proofs \| (?P<n>[\d, ]+) \|", sizes),
     ("docs/STATUS.md", r"law that its contract settles its answer \| (?P<n>\d+) \|", functions),
@@ -143,4 +178,8 @@ COUNTS = [
     ("docs/TESTING.md", r"examples, (?P<n>\d+) of them of sixteen", sleeping_examples),
     ("docs/TESTING.md", r"and (?P<n>\d+) of edition 1, are held to the report", newer_examples),
     ("docs/TESTING.md", r"its (?P<n>\d+) tests: cases", second_tests),
+    ("docs/TESTING.md", r"requests, (?P<n>\d+) published burst rows", published_rows),
+    ("docs/TESTING.md", r"each of the (?P<n>\d+) rows asked of both builds", published_rows),
+    ("docs/TESTING.md", r"\| (?P<n>[\d,]+) generated inputs against the second", inputs("")),
+    ("docs/TESTING.md", r"; then (?P<n>[\d,]+) of the smallest build", inputs(" smallest")),
 ]

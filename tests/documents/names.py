@@ -13,7 +13,6 @@ KIT = {"io", "libc", "os", "std"}
 
 LAW = re.compile(r"^\s*(?:(?:abbrev|unfoldable|pub|data|record)\s+)*([^\s:(){}]+)\s*:", re.M)
 ITEM = re.compile(r"\b(?:fn|struct|enum|const|static|mod|type)\s+(\w+)")
-PUBLIC = re.compile(r"^[ \t]*pub (?:extern \"C\" )?fn (\w+)[^{]*?(?=^\{|^\s*\{$|\{$)", re.M | re.S)
 
 
 def read(*path):

@@ -33,6 +33,8 @@ SECTIONS = re.compile(r"(?:docs/)?([A-Z]+)\.md, sections? ([\d.]*\d)(?: (?:and|t
 HEADED = re.compile(r'(?:docs/)?([A-Z]+)\.md, "([^"]+)"')
 THEOREM = re.compile(r"^\| .* \| (`[\w-]+`(?:, `[\w-]+`)*) \| (`?[\w/]+`?) \|$", re.M)
 
+IMPOSTOR = re.compile(r"\|(?: `(?P<crate>\w+)` \| .* \(`(?P<label>\w+)`\)| .* \| `(?P<edit>\w+/\w+)`) \| .* \|")
+
 # A language, not a decision; a law whose name stands for many.
 NOT_DECISIONS = {"C99"}
 NOT_NAMES = {"CRATE-PATH-settles", "ruleN", "rule-N"}
@@ -112,6 +114,26 @@ def wrong_theorems(text):
         for theorem in QUOTED.findall(theorems):
             if theorem not in NOT_NAMES and theorem not in names.laws(path):
                 yield "%s has no %s" % (place, theorem)
+
+
+def wrong_rows(text):
+    """Every edit has one row among the impostors, and every row an edit."""
+    rows = [row["edit"] or "%s/%s" % (row["crate"], row["label"]) for row in map(IMPOSTOR.fullmatch, text.splitlines()) if row]
+    yield from ("no row has the edit " + edit for edit in sorted(names.edits() - set(rows)))
+    yield from ("a row has %s, which is no edit" % edit for edit in sorted(set(rows) - names.edits()))
+    yield from ("two rows have the edit " + edit for edit in sorted(set(edit for edit in rows if rows.count(edit) > 1)))
+
+
+def left_out(pages):
+    """Every crate has its row in docs/ARCHITECTURE.md, and every test in both pages on tests."""
+    table = pages["docs/ARCHITECTURE.md"].split("\n## Crates\n")[1].split("\n##")[0]
+    rows = {name for line in table.splitlines() if line.startswith("| `") for name in QUOTED.findall(line.split(" | ")[0])}
+    yield from (("docs/ARCHITECTURE.md", "no row has the crate " + crate) for crate in sorted(set(names.crates()) - rows))
+    for test in sorted(names.tests()):
+        if not re.search(r"`tests/run (?:[a-z]+ )*%s\b" % test, pages["docs/TESTING.md"]):
+            yield "docs/TESTING.md", "it leaves out tests/run " + test
+        if "| `%s` |" % test not in pages["tests/README.md"]:
+            yield "tests/README.md", "no row has the test " + test
 
 
 def headings(pages, page):
@@ -221,8 +243,10 @@ def wrong(pages, requests):
     for page, text in requests.items():
         yield from ((page, line) for line in wrong_decisions(pages, text))
     yield from (("docs/PROMISES.md", line) for line in wrong_theorems(pages["docs/PROMISES.md"]))
+    yield from (("docs/IMPOSTORS.md", line) for line in wrong_rows(pages["docs/IMPOSTORS.md"]))
     yield from (("docs/DECISIONS.md", line) for line in wrong_index(pages["docs/DECISIONS.md"]))
     yield from (("README.md", line) for line in install.wrong(pages["README.md"]))
+    yield from left_out(pages)
     yield from wrong_citations(pages)
     yield from wrong_counts(pages)
 
