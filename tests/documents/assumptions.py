@@ -13,20 +13,30 @@ from names import ROOT, read
 
 ROW = re.compile(r"^\| `(\w+)` \| (\d+) \| (.*) \|$", re.M)
 REST = re.compile(r"^\| each library, the archive for C among them \| 0 \| none \|$", re.M)
+LINE = re.compile(r"^axioms \w+: (.*) \((\d+) of the \d+ declared\)", re.M)
 WORDS = re.compile(r"^\| `([\w:]+)` \| (.+) \|$", re.M)
 
 
 def printed(crate):
-    """How many assumptions the check counted in a crate, and which; None without a log."""
+    """How many assumptions the check counted in a crate, and of each library (names, how many); None without a log. The check
+    names three of a library, and behind more of them dots."""
     path = os.path.join(ROOT, "target", "log", crate + ".say")
-    if not os.path.exists(path):
-        return None
-    log = read(path)
+    log = read(path) if os.path.exists(path) else ""
     verdict = re.search(r"^logic=proved functions=\d+(?: foreign=\S+)?(?: axioms=(\d+))? .*$", log, re.M)
     if not verdict:
         return None
-    named = [name for line in re.findall(r"^axioms \w+: (.*) \(\d+ of", log, re.M) for name in line.split(", ")]
-    return int(verdict.group(1) or 0), named
+    return int(verdict.group(1) or 0), [(line.split(", "), int(count)) for line, count in LINE.findall(log)]
+
+
+def agrees(row, found):
+    """Whether a row has what the check printed."""
+    count, which = row
+    total, libraries = found
+    for shown, reached in libraries:
+        told = [name for name in which if name.split("::")[0] == shown[0].split("::")[0]]
+        if len(told) != reached or not set(shown) - {"..."} <= set(told):
+            return False
+    return count == total == len(which)
 
 
 def wrong_crates(section):
@@ -37,8 +47,8 @@ def wrong_crates(section):
         found = printed(crate)
         if found is None:
             yield "%s: no log of a check; run rt check %s" % (crate, crate)
-        elif found != rows.get(crate, (0, [])):
-            yield "%s: the row is | `%s` | %d | %s |" % (crate, crate, found[0], ", ".join("`%s`" % name for name in found[1]))
+        elif not agrees(rows.get(crate, (0, [])), found):
+            yield "%s: the check counted %d: %s" % (crate, found[0], "; ".join("%s (%d)" % (", ".join(shown), reached) for shown, reached in found[1]))
     yield from ("%s is no crate" % crate for crate in rows if crate not in names.crates())
     used = {name for _, which in rows.values() for name in which}
     told = {name for name, words in WORDS.findall(section) if "::" in name}
