@@ -18,6 +18,7 @@ pub mod rules;
 pub mod schedule;
 pub mod sleep;
 pub mod verdict;
+pub mod why;
 
 pub use blank::blank;
 pub use capture::Refusal;
@@ -26,3 +27,4 @@ pub use month::month;
 pub use play::play;
 pub use schedule::schedule;
 pub use verdict::{cells, judge, Answer};
+pub use why::{kept, why};
