@@ -1,4 +1,4 @@
-//! A second implementation of document 01 and of the customer requests that have landed,
+//! A second implementation of document 01 and of the customer requests, ahead of the library for some,
 //! written from their words alone and slow on purpose, to hold the verified one against.
 //! The C next door answers the same questions at speed.
 
