@@ -9,6 +9,8 @@ pub mod EditionZero
 pub mod Blanking
 pub mod Unaccepted
 pub mod Judged
+pub mod OpenRow
 mod Finding
 mod Settled
+mod Held
 pub mod AsBefore

@@ -1,9 +1,10 @@
 -- What the contracts of the public functions allow: a result and, where a buffer is lent, its contents afterwards.
 use Prim.Native.Nat.{ℕ}
-use mathlib.Core.List.{List}
+use mathlib.Core.List.{List, map}
 use mathlib.Core.Path.{_≡_}
 use Rattle.reading.specs.Answers.{judgeAnswer, cellsOutcome, scheduleOutcome}
 use Rattle.reading.specs.Blank.{blankOutcome}
+use Rattle.reading.specs.OpenRow.{openRowOutcome}
 use Rattle.capture.specs.Calls.{Meets}
 use Rattle.judge.specs.declared.Verdict.{Verdict}
 use Rattle.judge.specs.declared.Verdict.the-variants as verdict
@@ -16,6 +17,9 @@ use Rattle.schedule.specs.Meaning as schedule
 use Rattle.hidden.specs.declared.Blanked.{Blanked}
 use Rattle.hidden.specs.declared.Blanked.the-variants as blanked
 use Rattle.hidden.specs.Meaning as hidden
+use Rattle.banks.specs.declared.Bank.{Bank}
+use Rattle.banks.specs.Banks.{bankOf, recordOf}
+use Rattle.morgazell.specs.Packing.{packed, rowTold}
 
 -- by `judge::judge`
 abbrev pub Judges : List ℕ → Verdict → Type 0
@@ -32,6 +36,13 @@ Schedules ws qs policy out r left = Meets (schedule.means r) left (scheduleOutco
 -- by `hidden::blank`, lent `out`, which holds `left` afterwards
 abbrev pub Blanks : List ℕ → List ℕ → Blanked → List ℕ → Type 0
 Blanks capture out r left = Meets (hidden.means r) left (blankOutcome capture out)
+
+-- by `morgazell::morgazell_open_row`, lent records and an index, which hold `left` and `words` afterwards
+abbrev pub Tells : List ℕ → ℕ → ℕ → List Bank → List ℕ → ℕ → List Bank → List ℕ → Type 0
+Tells capture bank event records index r left words =
+    (r ≡ packed (rowTold (openRowOutcome capture bank event (map recordOf records) index .answer)))
+    × (left ≡ map bankOf (openRowOutcome capture bank event (map recordOf records) index .records))
+    × (words ≡ openRowOutcome capture bank event (map recordOf records) index .index)
 
 -- by every call that is asked about a capture: it is refused so, and what was lent is left as it was
 pub record RefusedByAll (capture : List ℕ) (number place : ℕ) : Type 0 where

@@ -2,3 +2,4 @@
 pub mod Fitting
 pub mod Saying
 pub mod Reversible
+mod OpenRows

@@ -11,7 +11,8 @@ use std::{env, fmt, io};
 use second::archive::Archive;
 use second::capture::{Capture, Refusal};
 use second::generate::{input, other_addresses, Dice, Input, Tally, MOST_CELLS};
-use second::{blank, cells, judge, packed, schedule};
+use second::openings::Record;
+use second::{blank, cells, judge, open_row, packed, schedule};
 
 /// What fills buffers beforehand, so that an element written by mistake shows.
 const UNTOUCHED: u32 = 0xa5c3_965a;
@@ -19,6 +20,8 @@ const UNTOUCHED: u32 = 0xa5c3_965a;
 const FENCE: usize = 32;
 /// The most bytes that any answer needs.
 const MOST_BYTES: usize = 64_088;
+/// The most words that an index has.
+const MOST_WORDS: usize = 3 * 8_000;
 
 fn main() -> ExitCode {
     match asked().and_then(|(inputs, seed, build)| run(inputs, seed, &build)) {
@@ -95,6 +98,7 @@ impl Comparison {
                 self.compare_judges(&capture)?;
                 self.compare_cells(&capture)?;
                 self.compare_blanks(&capture)?;
+                self.compare_rows(&capture)?;
                 self.compare_addresses(&capture)
             }
             Input::Requests {
@@ -152,6 +156,51 @@ impl Comparison {
             let answer = self.archive.blank(capture, &mut buffer, length);
             let found = answer.map(|answer| Left { answer, buffer });
             same("blank", &expected, found, || hex(capture))?;
+        }
+        Ok(())
+    }
+
+    /// A question that fits more often than not, and three records now and then.
+    fn compare_rows(&mut self, capture: &[u8]) -> Result<(), Difference> {
+        let events = Capture::read(capture).map_or(0, |read| read.events.len()) as u32;
+        let untouched = Record {
+            before: UNTOUCHED,
+            count: UNTOUCHED,
+        };
+        let index = &mut vec![UNTOUCHED; MOST_WORDS];
+        let needed = match open_row(capture, 0, 0, &mut [untouched; 4], index) {
+            Ok(_) => index.iter().position(|&word| word == UNTOUCHED),
+            Err(_) => None,
+        };
+        for length in self.lengths(needed, MOST_WORDS) {
+            let bank = self.dice.below(5);
+            let event = self.dice.below(events + 1);
+            let lent = if self.dice.once_in(8) {
+                3
+            } else {
+                4 + self.dice.below(3) as usize
+            };
+            let mut records = vec![untouched; lent + FENCE];
+            let mut buffer = vec![UNTOUCHED; length + FENCE];
+            let (mine, words) = (&mut records[..lent], &mut buffer[..length]);
+            let answer = open_row(capture, bank, event, mine, words);
+            self.tally.count_row(capture, answer);
+            let expected = Left {
+                answer: packed::of_row(answer),
+                buffer: told(&records, &buffer),
+            };
+            let mut records = vec![untouched; lent + FENCE];
+            let mut buffer = vec![UNTOUCHED; length + FENCE];
+            let asked = [bank, event];
+            let answer = self
+                .archive
+                .open_row(capture, asked, &mut records, &mut buffer, FENCE);
+            let found = answer.map(|answer| Left {
+                answer,
+                buffer: told(&records, &buffer),
+            });
+            let shown = || format!("bank {bank} event {event} of {}", hex(capture));
+            same("open row", &expected, found, shown)?;
         }
         Ok(())
     }
@@ -251,6 +300,14 @@ impl Comparison {
             }
         }
     }
+}
+
+/// What the records and the index hold.
+fn told(records: &[Record], index: &[u32]) -> Vec<u32> {
+    let pairs = records
+        .iter()
+        .flat_map(|record| [record.before, record.count]);
+    pairs.chain(index.iter().copied()).collect()
 }
 
 fn needed(answer: Result<u32, Refusal>) -> Option<usize> {
