@@ -38,16 +38,6 @@ module _ (capture : List ℕ) (open-to : Accepted capture) (k : ℕ) (l : k ≤ 
       let w = whole.accepted-whole capture open-to in
       record { known = w .known; all = w .all; right = w .right; orderly = whole.first-orderly k (eventsOf capture) l (w .orderly) }
 
-  -- The first events of an accepted capture are accepted, and are these events, under the same settings and edition.
-  pub first-accepted : Accepted (firstEvents k capture)
-  first-accepted = whole.captured first-whole (answered tt)
-
-  pub first-settings : settingsIn (firstEvents k capture) ≡ settingsIn capture
-  first-settings = whole.captured-settings first-whole
-
-  pub first-events : eventsOf (firstEvents k capture) ≡ take k (eventsOf capture)
-  first-events = whole.events-back first-whole
-
   first-judged : Unbroken (settingsIn capture) (start (settingsIn capture)) (eventsOf capture) k → (q : Verdict) → Judges (firstEvents k capture) q →
       q ≡ Clean k k
   first-judged u q a =
@@ -63,7 +53,18 @@ module _ (capture : List ℕ) (open-to : Accepted capture) (k : ℕ) (l : k ≤ 
       size : length (take k (eventsOf capture)) ≡ k
       size = simp length-take (omega arith)
 
--- The judged events of a broken capture, as a capture of their own, are accepted and clean, every one of them judged.
+-- The first events of an accepted capture are accepted, and are these events, under the same settings and edition.
+pub first-accepted : (capture : List ℕ) → Accepted capture → (k : ℕ) → k ≤ length (eventsOf capture) → Accepted (firstEvents k capture)
+first-accepted capture open-to k l = whole.captured (first-whole capture open-to k l) (answered tt)
+
+pub first-settings : (capture : List ℕ) → Accepted capture → (k : ℕ) → k ≤ length (eventsOf capture) →
+    settingsIn (firstEvents k capture) ≡ settingsIn capture
+first-settings capture open-to k l = whole.captured-settings (first-whole capture open-to k l)
+
+pub first-events : (capture : List ℕ) → Accepted capture → (k : ℕ) → k ≤ length (eventsOf capture) →
+    eventsOf (firstEvents k capture) ≡ take k (eventsOf capture)
+first-events capture open-to k l = whole.events-back (first-whole capture open-to k l)
+
 module _ (capture : List ℕ) (open-to : Accepted capture) (rule event cycle : ℕ)
     (broken : Judges capture (Broken (eventCount capture) event rule event cycle)) where
   before : Unbroken (settingsIn capture) (start (settingsIn capture)) (eventsOf capture) event × (event ≤ length (eventsOf capture))
@@ -71,11 +72,16 @@ module _ (capture : List ℕ) (open-to : Accepted capture) (rule event cycle : �
       let b = broken-means-broken capture open-to (Broken (eventCount capture) event rule event cycle) broken rule event cycle .0 refl in
       (b .before, omega (arith, b .there))
 
-  pub judged-accepted : Accepted (firstEvents event capture)
-  judged-accepted = first-accepted capture open-to event (before .1)
+-- The judged events of a broken capture, as a capture of their own, are accepted and clean, every one of them judged.
+pub judged-accepted : (capture : List ℕ) → Accepted capture → (rule event cycle : ℕ) →
+    Judges capture (Broken (eventCount capture) event rule event cycle) → Accepted (firstEvents event capture)
+judged-accepted capture open-to rule event cycle broken =
+    first-accepted capture open-to event (before capture open-to rule event cycle broken .1)
 
-  pub judged-are-clean : (q : Verdict) → Judges (firstEvents event capture) q → q ≡ Clean event event
-  judged-are-clean = first-judged capture open-to event (before .1) (before .0)
+pub judged-are-clean : (capture : List ℕ) → Accepted capture → (rule event cycle : ℕ) →
+    Judges capture (Broken (eventCount capture) event rule event cycle) → (q : Verdict) → Judges (firstEvents event capture) q → q ≡ Clean event event
+judged-are-clean capture open-to rule event cycle broken =
+    let (none, few) = before capture open-to rule event cycle broken in first-judged capture open-to event few none
 
 -- All events of an accepted capture are the capture itself.
 pub all-events : (capture : List ℕ) → Bytes capture → Accepted capture → firstEvents (length (eventsOf capture)) capture ≡ capture
