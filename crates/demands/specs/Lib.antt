@@ -8,3 +8,4 @@ pub mod ByRules
 pub mod OldEdition
 pub mod ClosedRows
 pub mod Judged
+pub mod Exports
