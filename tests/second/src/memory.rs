@@ -23,9 +23,8 @@ struct Memory<'a> {
 
 impl<'a> Memory<'a> {
     fn new(settings: &Settings, contents: &'a dyn Fn(u32) -> u32) -> Memory<'a> {
-        let lanes = if settings.lane_code == 1 { 2 } else { 4 };
         Memory {
-            lanes,
+            lanes: lanes(settings),
             contents,
             outcome: Outcome::default(),
         }
@@ -73,7 +72,17 @@ impl<'a> Memory<'a> {
     }
 }
 
-fn lane_bits(lane: u32) -> u32 {
+/// How many bytes a cell has.
+pub fn lanes(settings: &Settings) -> u32 {
+    if settings.lane_code == 1 {
+        2
+    } else {
+        4
+    }
+}
+
+/// The bits of a byte in its cell's word.
+pub fn lane_bits(lane: u32) -> u32 {
     0xff << (8 * lane)
 }
 
