@@ -4,7 +4,7 @@
  * Every call but morgazell_version answers one number:
  *
  *     bits 56-63   the refusal, by its number below; 0: not refused
- *     bits 48-55   the broken rule, 1 to 15 without 6; 0: none (only morgazell_judge gives one)
+ *     bits 48-55   the broken rule, 1 to 15 without 6; 0: none (only morgazell_judge and morgazell_recording give one)
  *     bits 32-47   0
  *     bits  0-31   refused:           the place
  *                  a rule is broken:  the event, from 0; the events before it were judged and broke none
@@ -16,7 +16,7 @@
  *     refusal  given when                                                     place
  *        1     the capture is under 80 or over 64,080 bytes, or where its     0
  *              settings count is 16 under 88 or over 64,088, or not as long
- *              as it says
+ *              as it says; a recording may be longer
  *        2     the capture's header is wrong; a settings list not of 14       0
  *              words
  *        3     a setting is out of its range, or the mode word not valid;     the lowest such setting; 7
@@ -30,8 +30,8 @@
  *        8     cells are asked of a capture that is not clean                 the event that breaks a rule
  *        7     the buffer is shorter than the answer                          the length needed, in its elements
  *
- * They are tried in this order and the first that applies is given. morgazell_judge can give 1 to 4, morgazell_cells
- * 1 to 4, 8 and 7, morgazell_schedule 2, 3, 10, 5, 6 and 7, morgazell_blank 1 to 4 and 7.
+ * They are tried in this order and the first that applies is given. morgazell_judge and morgazell_recording can give 1 to 4,
+ * morgazell_cells 1 to 4, 8 and 7, morgazell_schedule 2, 3, 10, 5, 6 and 7, morgazell_blank 1 to 4 and 7.
  *
  * A capture is words of 32 bits, lowest byte first: six of header (its length in bytes; 14 or 16, the settings count; 24,
  * where they start; the number of events, at most 8,000; 80 or 88, where these start; 0 or 1, the edition), the settings,
@@ -75,9 +75,9 @@
  * Threads. No call allocates, keeps anything between calls, or asks anything of the system: any number of threads may
  * call at the same time, each with buffers of its own; inputs may be shared.
  *
- * Stack. The most that a call takes, in bytes, the return address included: morgazell_judge 1024, morgazell_cells 1280,
- * morgazell_schedule 66560, morgazell_blank 512, morgazell_version 136; besides, what memcpy and memset of the C library
- * take. The archive wants nothing of anyone but these two, and not even these where it is built for the smallest size. */
+ * Stack. The most that a call takes, in bytes, the return address included: morgazell_judge 1024, morgazell_recording 1024,
+ * morgazell_cells 1280, morgazell_schedule 66560, morgazell_blank 512, morgazell_version 136; besides, what memcpy and memset
+ * of the C library take. The archive wants nothing of anyone but these two, and not even these where it is built for the smallest size. */
 #ifndef MORGAZELL_H
 #define MORGAZELL_H
 
@@ -116,6 +116,11 @@ uint32_t morgazell_version(void);
 
 /* What the rules say of these bytes as a capture. */
 uint64_t morgazell_judge(const uint8_t *capture, size_t len);
+
+/* What the rules say of these bytes as a recording: a capture with any number of events whose length in bytes fits its first
+ * word, so 536,870,901 with 14 settings and 536,870,900 with 16. It is judged whole, as a capture is, and of a capture both
+ * calls say the same. Nothing else takes recordings. */
+uint64_t morgazell_recording(const uint8_t *recording, size_t len);
 
 /* The cell numbers of every kept beat of a clean capture, in event order, from out[0] on; what lies behind them in the
  * buffer stays. MORGAZELL_MOST_CELLS elements are always enough. */

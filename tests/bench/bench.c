@@ -3,8 +3,8 @@
  *     bench time WHAT FILE         the least nanoseconds a call, ours and C's
  *     bench call WHAT FILE WHO N   N calls of one of them, for counting instructions
  *
- * WHAT is judge, cells, open or closed, a schedule by that row policy; WHO is ours or c. FILE is a capture, or for a
- * schedule the settings and the requests as words. */
+ * WHAT is judge, recording (beside the C's judge), cells, open or closed, a schedule by that row policy; WHO is ours or c.
+ * FILE is a capture, or for a schedule the settings and the requests as words. */
 #define _POSIX_C_SOURCE 199309L
 #include <stdio.h>
 #include <stdlib.h>
@@ -28,6 +28,7 @@ static size_t requests(void) { return size / 4 - SETTINGS; }
 
 static uint64_t our_judge(void) { return morgazell_judge(capture(), size); }
 static uint64_t c_s_judge(void) { return c_judge(capture(), size); }
+static uint64_t our_recording(void) { return morgazell_recording(capture(), size); }
 static uint64_t our_cells(void) { return morgazell_cells(capture(), size, cells, MOST_CELLS); }
 static uint64_t c_s_cells(void) { return c_cells(capture(), size, cells, MOST_CELLS); }
 
@@ -51,6 +52,7 @@ static const struct {
     call *ours, *c;
 } questions[] = {
     {"judge", our_judge, c_s_judge},
+    {"recording", our_recording, c_s_judge},
     {"cells", our_cells, c_s_cells},
     {"open", our_open, c_s_open},
     {"closed", our_closed, c_s_closed},

@@ -1,7 +1,7 @@
 /* The archive behind standard input and output, so that a program on any processor can ask it.
  *
  * A question is five words and what they count:
- *     0      1 morgazell_judge, 2 morgazell_cells, 3 morgazell_schedule, 4 morgazell_blank
+ *     0      1 morgazell_judge, 2 morgazell_cells, 3 morgazell_schedule, 4 morgazell_blank, 5 morgazell_recording
  *     1, 2   elements of the inputs: bytes of a capture and 0; words of settings and of requests
  *     3      elements of the lent buffer
  *     4      elements behind it that the call must not touch
@@ -17,10 +17,10 @@
 
 #include "morgazell.h"
 
-enum { JUDGE = 1, CELLS = 2, SCHEDULE = 3, BLANK = 4 };
+enum { JUDGE = 1, CELLS = 2, SCHEDULE = 3, BLANK = 4, RECORDING = 5 };
 
 #define PAGE 4096
-/* Room for any question of the tests: captures somewhat over the longest, buffers for any answer. */
+/* Room for any question of the tests: recordings somewhat over the longest capture, buffers for any answer. */
 #define ROOM (256 * PAGE)
 
 static void fail(const char *what)
@@ -79,6 +79,8 @@ static uint64_t call(const uint32_t *question, uint32_t policy, uint8_t *inputs[
         return morgazell_schedule(first, question[1], second, question[2], policy, out, question[3]);
     case BLANK:
         return morgazell_blank(first, question[1], out, question[3]);
+    case RECORDING:
+        return morgazell_recording(first, question[1]);
     default:
         fail("no such function");
         return 0;

@@ -28,6 +28,7 @@ static volatile uint64_t answered;
 
 CALL(version, morgazell_version())
 CALL(judge, morgazell_judge(capture, len))
+CALL(record, morgazell_recording(capture, len))
 CALL(list, morgazell_cells(capture, len, cells, 16 * MOST_EVENTS))
 CALL(list_short, morgazell_cells(capture, len, cells, 100))
 CALL(blank, morgazell_blank(capture, len, bytes, LONGEST))
@@ -79,11 +80,12 @@ int main(void)
 {
     static const uint32_t LAST[] = {NOP,     ACTIVE | 1, READ,    WRITE,        0x40400,  0x60000,  REFRESH,
                                     0x32,    0x10000,    0x1E0000, REFRESH | 0x100000, ACTIVE | 0x100000, 0xFFFFFFFF};
-    size_t judging = 0, listing = 0, blanking = 0, scheduling;
+    size_t judging = 0, recording = 0, listing = 0, blanking = 0, scheduling;
     for (uint32_t settings = 14; settings <= 16; settings++)
         for (size_t i = 0; i < 2 * sizeof LAST / sizeof LAST[0]; i++) {
             make(settings, i % 2, LAST[i / 2]);
             judging = most(judging, taken(judge));
+            recording = most(recording, taken(record));
             listing = most(listing, most(taken(list), taken(list_short)));
             blanking = most(blanking, most(taken(blank), taken(blank_short)));
         }
@@ -92,7 +94,8 @@ int main(void)
     scheduling = taken(schedule);
     requests[REQUESTS - 1] = 0xFFFFFFFF;
     scheduling = most(scheduling, taken(schedule));
-    printf("morgazell_judge %zu\nmorgazell_cells %zu\nmorgazell_schedule %zu\nmorgazell_blank %zu\nmorgazell_version %zu\n",
-           judging, listing, scheduling, blanking, taken(version));
+    printf("morgazell_judge %zu\nmorgazell_recording %zu\nmorgazell_cells %zu\nmorgazell_schedule %zu\nmorgazell_blank %zu\n"
+           "morgazell_version %zu\n",
+           judging, recording, listing, scheduling, blanking, taken(version));
     return 0;
 }

@@ -10,7 +10,7 @@
 enum { ROUNDS = 300, INPUTS = 4, MOST_CELLS = 128000, MOST_BYTES = 64080, REQUESTS = 500 };
 
 struct left {
-    uint64_t judged, listed, scheduled, blanked;
+    uint64_t judged, recorded, listed, scheduled, blanked;
     uint32_t cells[MOST_CELLS];
     uint8_t bytes[MOST_BYTES];
     uint8_t capture[LONGEST];
@@ -31,6 +31,7 @@ static void call(const struct input *in, struct left *out)
 {
     memset(out, 0xa5, sizeof *out);
     out->judged = morgazell_judge(in->capture, in->len);
+    out->recorded = morgazell_recording(in->capture, in->len);
     out->listed = morgazell_cells(in->capture, in->len, out->cells, MOST_CELLS);
     out->scheduled = morgazell_schedule(SETTINGS, 14, in->requests, REQUESTS, MORGAZELL_OPEN_ROWS, out->bytes, MOST_BYTES);
     out->blanked = morgazell_blank(in->capture, in->len, out->capture, LONGEST);

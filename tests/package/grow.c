@@ -1,8 +1,9 @@
 /* Linked into the example by -Wl,--wrap=read: a file, FILE_TO_CHANGE, that changes while it is read. CHANGE is the number of
  * a read and how the file changes: a, it grows before that read; l, it grows after it; t, it is cut short; w, its first bytes
- * are written over. */
+ * are written over. By -Wl,--wrap=morgazell_recording the same with calls for reads. */
 #define _POSIX_C_SOURCE 200809L
 #include <fcntl.h>
+#include <stdint.h>
 #include <stdio.h>
 #include <stdlib.h>
 #include <sys/types.h>
@@ -10,6 +11,8 @@
 
 ssize_t __real_read(int file, void *to, size_t bytes);
 ssize_t __wrap_read(int file, void *to, size_t bytes);
+uint64_t __real_morgazell_recording(const uint8_t *recording, size_t len);
+uint64_t __wrap_morgazell_recording(const uint8_t *recording, size_t len);
 
 static void change(char how)
 {
@@ -19,15 +22,34 @@ static void change(char how)
     close(file);
 }
 
+static int times;
+
+static void before(void)
+{
+    const char *when = getenv("CHANGE");
+    if (when != NULL && ++times == when[0] - '0' && when[1] != 'l')
+        change(when[1]);
+}
+
+static void after(void)
+{
+    const char *when = getenv("CHANGE");
+    if (when != NULL && times == when[0] - '0' && when[1] == 'l')
+        change(when[1]);
+}
+
 ssize_t __wrap_read(int file, void *to, size_t bytes)
 {
-    static int reads;
-    const char *when = getenv("CHANGE");
-    int now = when != NULL && ++reads == when[0] - '0';
-    if (now && when[1] != 'l')
-        change(when[1]);
+    before();
     ssize_t got = __real_read(file, to, bytes);
-    if (now && when[1] == 'l')
-        change(when[1]);
+    after();
     return got;
+}
+
+uint64_t __wrap_morgazell_recording(const uint8_t *recording, size_t len)
+{
+    before();
+    uint64_t answer = __real_morgazell_recording(recording, len);
+    after();
+    return answer;
 }

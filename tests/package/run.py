@@ -5,7 +5,8 @@ there by its pkg-config file, in C99 and in C++17 with warnings as errors.
 1. The folder has the files that it should, their checksums hold, and all of them say one version.
 2. The header compiles by itself; every function of it is in the manual page and in the archive, and no other.
 3. The examples, compiled by gcc and by g++: the one that judges says of files and lists of files what document 01 and the
-   samples' table say; of files that cannot be read or change while they are read it says so. The one that schedules writes
+   samples' table say, and of recordings whatever their length; of files that cannot be read or change while they are read it
+   says so. The one that schedules writes
    the captures that document 01 and request K7 work out, and says why where there is none.
 4. Two threads that call at the same time get what each call answers alone; of both builds.
 5. No call of either build takes more stack than the header says: measured, and by its instructions on every path."""
@@ -219,6 +220,57 @@ def hold_names(program, folder):
         hold("a file of the name %r" % name, output(program, [path]), (1, "%s: %s\n" % (os.path.join(folder, told), CASES[5][3]), ""))
 
 
+# What only a recording can be: longer than a capture, clean to the end or broken there.
+LONG = [
+    ("8,001 events", quiet(8001), 0, "clean, 8001 events judged"),
+    ("8,001 events with 16 settings", quiet(8001, SLEEPY), 0, "clean, 8001 events judged"),
+    ("100,000 events", quiet(100000), 0, "clean, 100000 events judged"),
+    ("9,001 events, the last one due for the ninth refresh", capture([(cycle, NOP) for cycle in range(9001)]), 1,
+     "breaks rule 14 at event 9000, cycle 9000: more than eight refreshes are owed"),
+    ("a recording of 8,001 events and a byte", quiet(8001) + b"x", 2, "refused (1): it is not as long as it says"),
+]
+
+
+def recorded(program, words, **more):
+    return output(program, ["--recording", *words], **more)
+
+
+def hold_recordings(program, folder):
+    names, lines = [], []
+    for number, (name, data, status, said) in enumerate(CASES + LONG):
+        path = os.path.join(folder, "%d.recording" % number)
+        with open(path, "wb") as file:
+            file.write(data)
+        names.append(path)
+        lines.append("%s: %s\n" % (path, said.removesuffix(", or no capture is so long")))
+        hold(name + ", as a recording", recorded(program, [path]), (status, lines[-1], ""))
+    hold("all recordings in one call", recorded(program, names), (2, "".join(lines), ""))
+    unmapped = "%s: cannot be mapped: a recording has to be a file, no pipe, folder or device\n"
+    hold("a folder as a recording", recorded(program, [folder]), (3, unmapped % folder, ""))
+    hold("a device as a recording", recorded(program, ["/dev/zero"]), (3, unmapped % "/dev/zero", ""))
+    for stdin in ("/dev/stdin", "-"):
+        piped = subprocess.run(["sh", "-c", 'cat "$0" | exec "$@"', names[0], X86, "run", program, "--recording", stdin],
+                               capture_output=True, text=True)
+        hold("a recording through a pipe", (piped.returncode, piped.stdout), (3, unmapped % stdin))
+    missing = os.path.join(folder, "no such file")
+    hold("no such recording", recorded(program, [missing]), (3, "%s: cannot be read: No such file or directory\n" % missing, ""))
+    hold("no recordings", recorded(program, [])[0], 3)
+
+
+def hold_changing_recordings(program, folder):
+    """Recordings of one page and of many that grow, are cut short or written over while they are judged."""
+    path = os.path.join(folder, "changing.recording")
+    for data in (CASES[0][1], LONG[2][1]):
+        for change in ("1a", "1l", "1t", "1w"):
+            with open(path, "wb") as file:
+                file.write(data)
+            os.utime(path, (0, 0))
+            environment = dict(os.environ, CHANGE=change, FILE_TO_CHANGE=path)
+            hold("a recording of %d bytes that changes, %s" % (len(data), change), recorded(program, [path], env=environment),
+                 (2, path + ": refused: it changed while it was read\n", ""))
+        hold("one that does not", recorded(program, [path], env=dict(os.environ, FILE_TO_CHANGE=path))[0] in (0, 2), True)
+
+
 def said_of_samples():
     """What the table of the samples says of each, in the words of the example."""
     for row in (line for line in read(ROOT, "samples", "README.md").splitlines() if line.startswith("| `")):
@@ -362,11 +414,15 @@ def main():
                 hold_version(folder, program)
                 hold_cases(program, out)
                 hold_names(program, out)
+                hold_recordings(program, out)
                 hold_samples(program)
                 hold_schedules(compiled(folder, compiler, "schedule_requests", os.path.join(out, "schedule_requests")))
             grows = os.path.join(out, "grow.o")
             subprocess.run([X86, "cc", "-std=c99", "-c", "-o", grows, os.path.join(HERE, "grow.c")], check=True)
-            hold_changing(compiled(folder, "gcc", "judge_files", os.path.join(out, "judge_changing"), grows, "-Wl,--wrap=read"), out)
+            wraps = [grows, "-Wl,--wrap=read", "-Wl,--wrap=morgazell_recording"]
+            changing = compiled(folder, "gcc", "judge_files", os.path.join(out, "judge_changing"), *wraps)
+            hold_changing(changing, out)
+            hold_changing_recordings(changing, out)
         hold_threads(build)
         hold_stack(build, name)
     print("package: %d wrong" % wrong)

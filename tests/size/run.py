@@ -16,8 +16,8 @@ import elf
 PAGE = os.path.join(ROOT, "docs", "PERFORMANCE.md")
 BUILDS = {"`tools/archive`": "morgazell", "`tools/smallest`": "morgazell-smallest"}
 VERSION, JUDGE, CELLS, SCHEDULE = "morgazell_version", "morgazell_judge", "morgazell_cells", "morgazell_schedule"
-BLANK = "morgazell_blank"
-CALLERS = [(VERSION, JUDGE, CELLS, SCHEDULE, BLANK), (JUDGE, CELLS), (JUDGE,)]
+BLANK, RECORDING = "morgazell_blank", "morgazell_recording"
+CALLERS = [(VERSION, JUDGE, RECORDING, CELLS, SCHEDULE, BLANK), (JUDGE, CELLS), (JUDGE,)]
 
 
 def carried(archive, functions):

@@ -11,7 +11,7 @@ use lib.Seq.{take-at, drop-at}
 use Rattle.reading.specs.Search.{count}
 use Rattle.reading.specs.Words.{wordAt, bytesOf}
 use Rattle.reading.specs.Settings.{Settings}
-use Rattle.reading.specs.Capture.{Event, eventsStart, countIn, eventCount, eventBytes, eventAt, eventsOf, headerWord}
+use Rattle.reading.specs.Capture.{Event, mostEvents, eventsStart, countIn, eventCount, eventBytes, eventAt, eventsOf, headerWord}
 use Rattle.reading.specs.Schedule.{eventWords}
 use Rattle.reading.specs.Answers.{settingsIn}
 use Rattle.reading.specs.Blank.{blankPins, blankEvent, blanked, OnlyAddressesDiffer}
@@ -55,7 +55,7 @@ module _ (c : List ℕ) (open-to : Accepted c) where
   abbrev s : Settings
   s = settingsIn c
 
-  sound : Sound c
+  sound : Sound mostEvents c
   sound = accepted-sound c open-to
 
   -- header and settings, and the words of the events

@@ -10,9 +10,9 @@ use borrow.Author.Tests.{ltb-true, ltb-false, lt-ltb, le-ltb}
 use Rattle.reading.specs.Search.{given, count}
 use Rattle.reading.specs.Words.{wordAt}
 use Rattle.reading.specs.Settings.{Settings, settingsOf, inEdition, badSetting}
-use Rattle.reading.specs.Capture.{settingsStart, eventsStart, captureSize, mostEvents, newestEdition, headerWord, countIn, eventCount, editionIn, settingWords, eventBytes, eventAt, eventsOf, lengthFits, headerFits, pinLimit, lastCycle, eventFits, badEvent}
+use Rattle.reading.specs.Capture.{settingsStart, eventsStart, captureSize, mostEvents, newestEdition, headerWord, countIn, eventCount, editionIn, settingWords, eventBytes, eventAt, eventsOf, lengthFits, lengthFitsTo, headerFits, headerFitsTo, pinLimit, lastCycle, eventFits, badEvent}
 use Rattle.reading.specs.Verdict.{Verdict, verdictOf, judgedOf}
-use Rattle.reading.specs.Answers.{Answer, Report, answered, unless, accepted, settingsIn, verdictIn, judgeAnswer}
+use Rattle.reading.specs.Answers.{Answer, Report, answered, unless, accepted, acceptedTo, settingsIn, verdictIn, judgeAnswer, judgeAnswerTo}
 use Rattle.reading.specs.Blank.{above, OnlyAddressesDiffer}
 use Rattle.words.proofs.Words.{word-take}
 use Rattle.words.proofs.Counting.{same-counted, same-lowest}
@@ -63,7 +63,7 @@ module _ (a b : List ℕ) (k : OnlyAddressesDiffer a b) where
   same-events = same-header a b (k .front) 3 (omega arith)
 
   length-alike : lengthFits a ≡ lengthFits b
-  unfolding lengthFits
+  unfolding lengthFitsTo
   length-alike =
       let n = same-count a b (k .front) in
       λ i.
@@ -72,7 +72,7 @@ module _ (a b : List ℕ) (k : OnlyAddressesDiffer a b) where
       && eqb (same-header a b (k .front) 0 (omega arith) i) (k .size i)
 
   header-alike : headerFits a ≡ headerFits b
-  unfolding headerFits
+  unfolding headerFitsTo
   header-alike =
       let n = same-count a b (k .front) in
       let word : (j : ℕ) → j < 6 → headerWord a j ≡ headerWord b j = same-header a b (k .front) in
@@ -99,7 +99,7 @@ module _ (a b : List ℕ) (k : OnlyAddressesDiffer a b) where
       ∙ (λ j. badEvent (cond (eqb (same-header a b (k .front) 1 (omega arith) j) 16) (2 ^ 21) (2 ^ 20)) (eventBytes b) (same-events j))
 
   pub same-accepted : {A : Type 0} (rest : Answer A) → accepted a rest ≡ accepted b rest
-  unfolding accepted
+  unfolding acceptedTo
   same-accepted rest =
       λ i.
       unless 1 (given 0 (not (length-alike i)))
@@ -115,8 +115,8 @@ module _ (a b : List ℕ) (k : OnlyAddressesDiffer a b) where
     abbrev s : Settings
     s = settingsIn a
 
-    fit : Opened a (held (editionIn a) (settingWords a)) (eventCount a) (eventBytes a)
-    fit = opens a open-to refl refl refl
+    fit : Opened mostEvents a (held (editionIn a) (settingWords a)) (eventCount a) (eventBytes a)
+    fit = opens open-to refl refl refl
 
     wide : s .rowBits < 32
     wide = subst (λ (x : Settings). x .rowBits < 32) (fit .settings-are) (omega (arith, fit .rows))
@@ -157,6 +157,6 @@ module _ (a b : List ℕ) (k : OnlyAddressesDiffer a b) where
 
   -- The judge's whole answer is the same: refusal and place, or verdict, rule, event, cycle and judged count.
   pub judged-alike : judgeAnswer a ≡ judgeAnswer b
-  unfolding judgeAnswer
+  unfolding judgeAnswerTo
   judged-alike =
-      accepted-alike a _ _ (λ open-to. λ i. report (same-events i) (verdict-alike open-to i)) ∙ same-accepted (report (eventCount b) (verdictIn b))
+      accepted-alike mostEvents a _ _ (λ open-to. λ i. report (same-events i) (verdict-alike open-to i)) ∙ same-accepted (report (eventCount b) (verdictIn b))

@@ -13,74 +13,85 @@ use lib.Dec.{leb, ltb, eqb}
 use Rattle.reading.specs.Search.{given, count}
 use Rattle.reading.specs.Words.{wordAt}
 use Rattle.reading.specs.Settings.{settingsOf, settingFits, badSetting}
-use Rattle.reading.specs.Capture.{headerWord, countIn, eventsStart, captureSize, mostEvents, newestEdition, eventCount, editionIn, settingWords, eventBytes, eventAt, lengthFits, headerFits, lastCycle, pinLimit, cycleFits, eventFits, badEvent}
-use Rattle.reading.specs.Answers.{Answer, refused, answered, unless, settingsIn, accepted}
+use Rattle.reading.specs.Capture.{headerWord, countIn, eventsStart, captureSize, mostEvents, newestEdition, eventCount, editionIn, settingWords, eventBytes, eventAt, lengthFitsTo, headerFitsTo, lastCycle, pinLimit, cycleFits, eventFits, badEvent}
+use Rattle.reading.specs.Answers.{Answer, refused, answered, unless, settingsIn, accepted, acceptedTo}
 use Rattle.reading.proofs.Laws.{both, not-given}
 use Rattle.words.proofs.Search.{none-below}
 use Rattle.settings.specs.Meaning.{held}
 use Rattle.settings.proofs.Padded.{held-settings}
 use Rattle.settings.proofs.Fitting.{in-range, each-in-range}
-use Rattle.capture.specs.Calls.{opened, Accepted}
+use Rattle.capture.specs.Calls.{openedTo, AcceptedTo, opened, Accepted}
 use Rattle.capture.proofs.Outcome.{not-refused, passed, follow, follow-unless, follows-refused, follows-answered, follow-refused, follow-answered}
 
 -- ---- whatever follows: refused alike, or answered by what follows
 
-pub followed : {A : Type 0} (capture : List ℕ) (rest : Answer A) →
-    accepted capture rest ≡ follow (opened capture) rest
-unfolding accepted
-followed {A} capture rest =
-    let o1 = given 0 (not (lengthFits capture)) in
-    let o2 = given 0 (not (headerFits capture)) in
-    let o3 = badSetting (settingWords capture) in
-    let o4 = badEvent (pinLimit capture) (eventBytes capture) (eventCount capture) in
-    let a4 : Answer (Unit {0}) = unless 4 o4 (answered tt) in
-    let a3 : Answer (Unit {0}) = unless 3 o3 a4 in
-    let a2 : Answer (Unit {0}) = unless 2 o2 a3 in
-    ap (λ (x : Answer A). unless 1 o1 (unless 2 o2 (unless 3 o3 x))) (follow-unless 4 o4 (answered tt) rest)
-    ∙ ap (λ (x : Answer A). unless 1 o1 (unless 2 o2 x)) (follow-unless 3 o3 a4 rest)
-    ∙ ap (λ (x : Answer A). unless 1 o1 x) (follow-unless 2 o2 a3 rest)
-    ∙ follow-unless 1 o1 a2 rest
+module _ {A : Type 0} (most : ℕ) (capture : List ℕ) (rest : Answer A) where
+  pub followed : acceptedTo most capture rest ≡ follow (openedTo most capture) rest
+  unfolding acceptedTo
+  followed =
+      let o1 = given 0 (not (lengthFitsTo most capture)) in
+      let o2 = given 0 (not (headerFitsTo most capture)) in
+      let o3 = badSetting (settingWords capture) in
+      let o4 = badEvent (pinLimit capture) (eventBytes capture) (eventCount capture) in
+      let a4 : Answer (Unit {0}) = unless 4 o4 (answered tt) in
+      let a3 : Answer (Unit {0}) = unless 3 o3 a4 in
+      let a2 : Answer (Unit {0}) = unless 2 o2 a3 in
+      ap (λ (x : Answer A). unless 1 o1 (unless 2 o2 (unless 3 o3 x))) (follow-unless 4 o4 (answered tt) rest)
+      ∙ ap (λ (x : Answer A). unless 1 o1 (unless 2 o2 x)) (follow-unless 3 o3 a4 rest)
+      ∙ ap (λ (x : Answer A). unless 1 o1 x) (follow-unless 2 o2 a3 rest)
+      ∙ follow-unless 1 o1 a2 rest
 
-module _ {A : Type 0} (capture : List ℕ) (rest : Answer A) where
-  pub accepted-rest : Accepted capture → accepted capture rest ≡ rest
-  accepted-rest h = followed capture rest ∙ follows-answered rest h
+  pub rest-to : AcceptedTo most capture → acceptedTo most capture rest ≡ rest
+  rest-to h = followed ∙ follows-answered rest h
 
-  pub refused-rest : {number place : ℕ} → opened capture ≡ refused number place → accepted capture rest ≡ refused number place
-  refused-rest h = followed capture rest ∙ follows-refused rest h
+  pub refused-to : {number place : ℕ} → openedTo most capture ≡ refused number place → acceptedTo most capture rest ≡ refused number place
+  refused-to h = followed ∙ follows-refused rest h
 
   -- and back
-  pub refused-in : {number place : ℕ} → accepted capture rest ≡ refused number place →
-      (opened capture ≡ refused number place) ⊎ (Accepted capture × (rest ≡ refused number place))
-  refused-in e = follow-refused (opened capture) rest (sym (followed capture rest) ∙ e)
+  pub refused-in : {number place : ℕ} → acceptedTo most capture rest ≡ refused number place →
+      (openedTo most capture ≡ refused number place) ⊎ (AcceptedTo most capture × (rest ≡ refused number place))
+  refused-in e = follow-refused (openedTo most capture) rest (sym followed ∙ e)
 
   -- an answer is refused where opening is
-  pub refused-only : {x : A} {number place : ℕ} → rest ≡ answered x → accepted capture rest ≡ refused number place → opened capture ≡ refused number place
+  pub refused-only : {x : A} {number place : ℕ} → rest ≡ answered x → acceptedTo most capture rest ≡ refused number place →
+      openedTo most capture ≡ refused number place
   refused-only {x} {number} {place} is e = go (refused-in e)
     where
-      go : (opened capture ≡ refused number place) ⊎ (Accepted capture × (rest ≡ refused number place)) → opened capture ≡ refused number place
+      go : (openedTo most capture ≡ refused number place) ⊎ (AcceptedTo most capture × (rest ≡ refused number place)) →
+          openedTo most capture ≡ refused number place
       go (inl h) = h
       go (inr h) = not-refused (sym is ∙ h .1)
 
-  pub answered-in : {x : A} → accepted capture rest ≡ answered x → Accepted capture × (rest ≡ answered x)
-  answered-in e = follow-answered (opened capture) rest (sym (followed capture rest) ∙ e)
+  pub answered-in : {x : A} → acceptedTo most capture rest ≡ answered x → AcceptedTo most capture × (rest ≡ answered x)
+  answered-in e = follow-answered (openedTo most capture) rest (sym followed ∙ e)
+
+-- of captures
+module _ {A : Type 0} (capture : List ℕ) (rest : Answer A) where
+  pub accepted-rest : Accepted capture → accepted capture rest ≡ rest
+  accepted-rest = rest-to mostEvents capture rest
+
+  pub refused-rest : {number place : ℕ} → opened capture ≡ refused number place → accepted capture rest ≡ refused number place
+  refused-rest = refused-to mostEvents capture rest
 
 -- what follows is asked only where a capture is accepted
-pub accepted-alike : {A : Type 0} (capture : List ℕ) (x y : Answer A) → (Accepted capture → x ≡ y) → accepted capture x ≡ accepted capture y
-accepted-alike capture x y same = go (opened capture) refl
+pub accepted-alike : {A : Type 0} (most : ℕ) (capture : List ℕ) (x y : Answer A) → (AcceptedTo most capture → x ≡ y) →
+    acceptedTo most capture x ≡ acceptedTo most capture y
+accepted-alike most capture x y same = go (openedTo most capture) refl
   where
-    go : (o : Answer (Unit {0})) → opened capture ≡ o → accepted capture x ≡ accepted capture y
-    go (refused number place) h = refused-rest capture x h ∙ sym (refused-rest capture y h)
-    go (answered tt) h = ap (accepted capture) (same h)
+    go : (o : Answer (Unit {0})) → openedTo most capture ≡ o → acceptedTo most capture x ≡ acceptedTo most capture y
+    go (refused number place) h = refused-to most capture x h ∙ sym (refused-to most capture y h)
+    go (answered tt) h = ap (acceptedTo most capture) (same h)
 
 -- ---- accepted: all fits
 
-pub record Sized (capture : List ℕ) : Type 0 where
+pub record Sized (most : ℕ) (capture : List ℕ) : Type 0 where
+  pub stated : headerWord capture 0 ≡ length capture
   pub size : length capture ≡ captureSize (countIn capture) (eventCount capture)
-  pub few : eventCount capture ≤ 8000
+  pub few : eventCount capture ≤ most
 
-pub record Sound (capture : List ℕ) : Type 0 where
-  pub sized : Sized capture
-  pub header : headerFits capture ≡ true
+pub record Sound (most : ℕ) (capture : List ℕ) : Type 0 where
+  pub sized : Sized most capture
+  pub header : headerFitsTo most capture ≡ true
   pub fine : badSetting (settingWords capture) ≡ none
   pub settings : (i : ℕ) → i < countIn capture → settingFits i (getD (settingWords capture) i 0) ≡ true
   pub events : (i : ℕ) → i < eventCount capture → cycleFits (eventBytes capture) i ≡ true
@@ -110,31 +121,36 @@ module _ (capture : List ℕ) where
   abbrev least : ℕ
   least = captureSize (countIn capture) 0
 
-  lengths : lengthFits capture ≡ true →
-      (leb least (length capture) && leb (length capture) (captureSize (countIn capture) mostEvents) ≡ true)
-      × (eqb (headerWord capture 0) (length capture) ≡ true)
-  unfolding lengthFits
-  lengths h = both (leb least (length capture) && leb (length capture) (captureSize (countIn capture) mostEvents)) _ h
+  module _ (most : ℕ) where
+    lengths : lengthFitsTo most capture ≡ true →
+        (leb least (length capture) && leb (length capture) (captureSize (countIn capture) most) ≡ true)
+        × (eqb (headerWord capture 0) (length capture) ≡ true)
+    unfolding lengthFitsTo
+    lengths h = both (leb least (length capture) && leb (length capture) (captureSize (countIn capture) most)) _ h
 
-  pub long-enough : lengthFits capture ≡ true → eventsStart (countIn capture) ≤ length capture
-  long-enough h =
-      let l : least ≤ length capture =
-      leb-true least (length capture) (both (leb least (length capture)) (leb (length capture) (captureSize (countIn capture) mostEvents)) (lengths h .0) .0) in
-      omega arith
+    pub stated : lengthFitsTo most capture ≡ true → headerWord capture 0 ≡ length capture
+    stated h = eqb-true _ _ (lengths h .1)
 
-  counts : headerFits capture ≡ true →
-      (leb (eventCount capture) 8000 ≡ true) × (eqb (headerWord capture 0) (captureSize (countIn capture) (eventCount capture)) ≡ true)
-  unfolding headerFits
-  counts h =
-      third-and-last (eqb (headerWord capture 1) (countIn capture)) (eqb (headerWord capture 2) 24) _
-      (eqb (headerWord capture 4) (eventsStart (countIn capture))) (leb (editionIn capture) newestEdition) _ h
+    pub long-enough : lengthFitsTo most capture ≡ true → eventsStart (countIn capture) ≤ length capture
+    long-enough h =
+        let l : least ≤ length capture =
+        leb-true least (length capture) (both (leb least (length capture)) (leb (length capture) (captureSize (countIn capture) most)) (lengths h .0) .0) in
+        omega arith
 
-  pub sized : lengthFits capture ≡ true → headerFits capture ≡ true → Sized capture
-  sized l h =
-      record {
-        size = sym (eqb-true _ _ (lengths l .1)) ∙ eqb-true _ _ (counts h .1);
-        few = leb-true _ _ (counts h .0);
-      }
+    counts : headerFitsTo most capture ≡ true →
+        (leb (eventCount capture) most ≡ true) × (eqb (headerWord capture 0) (captureSize (countIn capture) (eventCount capture)) ≡ true)
+    unfolding headerFitsTo
+    counts h =
+        third-and-last (eqb (headerWord capture 1) (countIn capture)) (eqb (headerWord capture 2) 24) _
+        (eqb (headerWord capture 4) (eventsStart (countIn capture))) (leb (editionIn capture) newestEdition) _ h
+
+    pub sized : lengthFitsTo most capture ≡ true → headerFitsTo most capture ≡ true → Sized most capture
+    sized l h =
+        record {
+          stated = stated l;
+          size = sym (stated l) ∙ eqb-true _ _ (counts h .1);
+          few = leb-true _ _ (counts h .0);
+        }
 
   pub words-count : length (settingWords capture) ≡ countIn capture
   unfolding settingWords
@@ -144,19 +160,19 @@ module _ (capture : List ℕ) where
   pub held-in : settingsOf (held (editionIn capture) (settingWords capture)) ≡ settingsIn capture
   held-in = held-settings (settingWords capture) (editionIn capture) (omega (arith, words-count, count-range .1))
 
-  pub accepted-sound : Accepted capture → Sound capture
-  unfolding accepted badEvent eventFits
-  accepted-sound h =
+  pub accepted-sound : {most : ℕ} → AcceptedTo most capture → Sound most capture
+  unfolding acceptedTo badEvent eventFits
+  accepted-sound {most} h =
       let limit = pinLimit capture in
-      let (one, after-one) = passed 1 (given 0 (not (lengthFits capture))) _ h in
-      let (two, after-two) = passed 2 (given 0 (not (headerFits capture))) _ after-one in
+      let (one, after-one) = passed 1 (given 0 (not (lengthFitsTo most capture))) _ h in
+      let (two, after-two) = passed 2 (given 0 (not (headerFitsTo most capture))) _ after-one in
       let (three, after-three) = passed 3 (badSetting (settingWords capture)) _ after-two in
       let (four, after-four) = passed 4 (badEvent limit (eventBytes capture) (eventCount capture)) _ after-three in
       let ranges = each-in-range (settingWords capture) three in
       let fits : (i : ℕ) → i < eventCount capture → eventFits limit (eventBytes capture) i ≡ true =
       λ i l. not-false _ (none-below (λ j. not (eventFits limit (eventBytes capture) j)) (eventCount capture) four i l) in
       record {
-        sized = sized (not-false _ (not-given 0 _ one)) (not-false _ (not-given 0 _ two));
+        sized = sized most (not-false _ (not-given 0 _ one)) (not-false _ (not-given 0 _ two));
         header = not-false _ (not-given 0 _ two);
         fine = three;
         settings = λ i l. in-range (settingWords capture) (length (settingWords capture)) ranges i (omega (arith, words-count));

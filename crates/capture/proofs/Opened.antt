@@ -9,34 +9,34 @@ use Rattle.reading.specs.Search.{count}
 use Rattle.reading.specs.Mode.{modeWord}
 use Rattle.reading.specs.Settings.{Settings, settingsOf, settingFits}
 use Rattle.reading.specs.Capture.{countIn, eventsStart, eventCount, editionIn, settingWords, eventBytes, eventAt, eventsOf, cycleFits}
-use Rattle.reading.specs.Answers.{Answer, refused, accepted, settingsIn}
+use Rattle.reading.specs.Answers.{Answer, refused, acceptedTo, settingsIn}
 use Rattle.settings.specs.declared.Checked.{Checked}
 use Rattle.settings.specs.declared.Checked.the-variants.{Fine, Refused}
 use Rattle.settings.specs.Meaning.{means, held}
 use Rattle.settings.proofs.Fitting.{at-least, at-most, mode-valid}
-use Rattle.capture.specs.Calls.{opened, Accepted}
-use Rattle.capture.proofs.Accepted.{Sound, count-range, held-in, accepted-sound, refused-rest}
+use Rattle.capture.specs.Calls.{openedTo, AcceptedTo}
+use Rattle.capture.proofs.Accepted.{Sound, count-range, held-in, accepted-sound, refused-to}
 
 -- by what `open` says
-module _ (c : List ℕ) {o : Checked} (said : means o ≡ opened c) where
-  pub refused-so : {A : Type 0} (rest : Answer A) {number place : ℕ} → o ≡ Refused number place → accepted c rest ≡ refused number place
-  refused-so rest e = refused-rest c rest (sym said ∙ ap means e)
+module _ (most : ℕ) (c : List ℕ) {o : Checked} (said : means o ≡ openedTo most c) where
+  pub refused-so : {A : Type 0} (rest : Answer A) {number place : ℕ} → o ≡ Refused number place → acceptedTo most c rest ≡ refused number place
+  refused-so rest e = refused-to most c rest (sym said ∙ ap means e)
 
-  pub accepted-so : o ≡ Fine → Accepted c
+  pub accepted-so : o ≡ Fine → AcceptedTo most c
   accepted-so e = sym said ∙ ap means e
 
 -- its settings can be read, and its events
-pub long : (c : List ℕ) → Accepted c → eventsStart (countIn c) ≤ length c
-long c open-to = omega (arith, accepted-sound c open-to .sized .size)
+pub long : (most : ℕ) (c : List ℕ) → AcceptedTo most c → eventsStart (countIn c) ≤ length c
+long most c open-to = omega (arith, accepted-sound c open-to .sized .size)
 
 -- the settings as they are held, n events, and the bytes that they stand in
-pub record Opened (c settings : List ℕ) (n : ℕ) (bytes : List ℕ) : Type 0 where
-  pub open-to : Accepted c
+pub record Opened (most : ℕ) (c settings : List ℕ) (n : ℕ) (bytes : List ℕ) : Type 0 where
+  pub open-to : AcceptedTo most c
   pub settings-are : settingsOf settings ≡ settingsIn c
   pub count-is : n ≡ eventCount c
   pub bytes-are : bytes ≡ eventBytes c
   pub events-are : map (eventAt bytes) (count 0 n) ≡ eventsOf c
-  pub few : n ≤ 8000
+  pub few : n ≤ most
   pub there : 8 * n ≤ length bytes
   pub rise : (i : ℕ) → i < n → cycleFits bytes i ≡ true
   pub rows : settingsOf settings .rowBits ≤ 14
@@ -44,10 +44,10 @@ pub record Opened (c settings : List ℕ) (n : ℕ) (bytes : List ℕ) : Type 0 
   pub moded : modeWord (settingsOf settings .mode) ≡ true
   pub ticks : 0 < settingsOf settings .tREFI
 
-pub opens : (c : List ℕ) → Accepted c → {settings : List ℕ} {n : ℕ} {bytes : List ℕ} →
-    settings ≡ held (editionIn c) (settingWords c) → n ≡ eventCount c → bytes ≡ eventBytes c → Opened c settings n bytes
+pub opens : {most : ℕ} {c : List ℕ} → AcceptedTo most c → {settings : List ℕ} {n : ℕ} {bytes : List ℕ} →
+    settings ≡ held (editionIn c) (settingWords c) → n ≡ eventCount c → bytes ≡ eventBytes c → Opened most c settings n bytes
 unfolding eventsOf
-opens c open-to {settings} {n} {bytes} e f g =
+opens {most} {c} open-to {settings} {n} {bytes} e f g =
     record {
       open-to = open-to;
       settings-are = are;
@@ -63,7 +63,7 @@ opens c open-to {settings} {n} {bytes} e f g =
       ticks = omega (arith, ap (λ (s : Settings). s .tREFI) are, at-least 13 (word 13) (fits 13 (omega arith)));
     }
   where
-    sound : Sound c
+    sound : Sound most c
     sound = accepted-sound c open-to
 
     are : settingsOf settings ≡ settingsIn c

@@ -16,10 +16,10 @@ use Rattle.reading.specs.Search.{given, count}
 use Rattle.reading.specs.Words.{wordAt, bytesOf}
 use Rattle.reading.specs.Settings.{Limits, settingsCount, sleepingCount, limits, settingsOf, inEdition, badSetting}
 use Rattle.reading.specs.Capture.{Event, settingsStart, eventsStart, captureSize, mostEvents, newestEdition, headerWord, countIn, eventCount, editionIn, settingWords, eventBytes, eventAt, eventsOf}
-use Rattle.reading.specs.Capture.{lengthFits, headerFits, pinLimit, lastCycle, eventFits, badEvent}
+use Rattle.reading.specs.Capture.{lengthFits, lengthFitsTo, headerFits, headerFitsTo, pinLimit, lastCycle, eventFits, badEvent}
 use Rattle.reading.specs.Verdict.{verdictOf, judgedOf}
 use Rattle.reading.specs.Schedule.{eventWords, headerOf, captureIn}
-use Rattle.reading.specs.Answers.{Answer, answered, settingsIn, accepted, verdictIn, judgeAnswer}
+use Rattle.reading.specs.Answers.{Answer, answered, settingsIn, accepted, acceptedTo, verdictIn, judgeAnswer, judgeAnswerTo}
 use Rattle.reading.proofs.Meaning.{eventOf}
 use Rattle.words.proofs.Bytes.{Bytes, same-words, words-bytes}
 use Rattle.words.proofs.Counting.{at-count, counted}
@@ -215,7 +215,7 @@ module _ {edition : ℕ} {ws : List ℕ} {es : List Event} (x : Whole edition ws
   total = head edition ws es 0 (omega arith) (omega (arith, few, x .orderly .few))
 
   right-length : lengthFits C ≡ true
-  unfolding lengthFits
+  unfolding lengthFitsTo
   right-length =
       let all = captureSize (length ws) (length es) in
       rw (
@@ -228,7 +228,7 @@ module _ {edition : ℕ} {ws : List ℕ} {es : List Event} (x : Whole edition ws
       )
 
   right-header : headerFits C ≡ true
-  unfolding headerFits
+  unfolding headerFitsTo
   right-header =
       let all = captureSize (length ws) (length es) in
       rw (
@@ -251,7 +251,7 @@ module _ {edition : ℕ} {ws : List ℕ} {es : List Event} (x : Whole edition ws
   right-events = rw counts (nothing-below (λ i. not (eventFits limit (eventBytes C) i)) (length es) (λ i l. ap not (event-fits i l)))
 
   pub captured : {A : Type 0} (rest : Answer A) → accepted C rest ≡ rest
-  unfolding accepted
+  unfolding acceptedTo
   captured rest = rw (right-length, right-header, settings-back, x .right, limited, right-events)
 
   pub captured-settings : settingsIn C ≡ inEdition edition (settingsOf ws)
@@ -268,7 +268,7 @@ module _ {edition : ℕ} {ws : List ℕ} {es : List Event} (x : Whole edition ws
         judged = judgedOf (length es) (verdictOf (inEdition edition (settingsOf ws)) es);
         verdict = verdictOf (inEdition edition (settingsOf ws)) es;
       })
-  unfolding judgeAnswer
+  unfolding judgeAnswerTo
   captured-judged =
       captured _
       ∙ (λ i. answered (record { events = counts i; judged = judgedOf (counts i) (captured-verdict i); verdict = captured-verdict i }))
@@ -284,7 +284,7 @@ record Said (c : List ℕ) : Type 0 where
   edition : editionIn c ≤ newestEdition
 
 header-said : (c : List ℕ) → headerFits c ≡ true → Said c
-unfolding headerFits
+unfolding headerFitsTo
 header-said c h =
     let (abcde, f) = and-eq-true-iff _ _ .0 h in
     let (abcd, e) = and-eq-true-iff _ _ .0 abcde in
@@ -301,7 +301,7 @@ header-said c h =
     }
 
 module _ (c : List ℕ) (open-to : accepted c (answered (tt {0})) ≡ answered tt) where
-  sound : Sound c
+  sound : Sound mostEvents c
   sound = accepted-sound c open-to
 
   said-so : Said c

@@ -12,13 +12,13 @@ use words::both;
 ghost use mathlib.Core.Path.{_≡_};
 ghost use mathlib.Core.Bool.{true, not};
 ghost use mathlib.Core.Option.{none};
-ghost use Prim.Native.Nat.{_+_, _*_, _≤_};
+ghost use Prim.Native.Nat.{_+_, _*_, _^_, _≤_, _<_};
 ghost use lib.ListN.{length};
 ghost use Rattle.words.specs.Found.{placeOf};
 ghost use lib.Dec.{eqb};
 ghost use Rattle.reading.specs.Settings.{sleepingCount};
-ghost use Rattle.reading.specs.Capture.{headerWord, countIn, eventsStart, pinLimit, eventCount, editionIn, settingWords, eventBytes, eventAt, lengthFits, headerFits, badEvent};
-ghost use Rattle.reading.specs.Answers.{answered, accepted};
+ghost use Rattle.reading.specs.Capture.{headerWord, countIn, eventsStart, pinLimit, eventCount, editionIn, settingWords, eventBytes, eventAt, lengthFitsTo, headerFitsTo, badEvent};
+ghost use Rattle.reading.specs.Answers.{answered, acceptedTo, accepted};
 ghost use Rattle.settings.specs.Meaning.{means, padded, held};
 ghost use Rattle.capture.specs.Meaning.{fitsFrom};
 
@@ -35,7 +35,11 @@ pub const EVENTS: usize = SETTINGS + 4 * COUNT;
 
 const SLEEPING_EVENTS: usize = SETTINGS + 4 * SLEEPING;
 
-const MOST_EVENTS: u32 = 8_000;
+// How many events a capture may have.
+pub const MOST_EVENTS: u32 = 8_000;
+
+// A recording, as many as a word can count.
+pub const MOST_RECORDED: u32 = 4_294_967_295;
 
 // The bytes of the longest capture.
 pub const MOST: usize = SLEEPING_EVENTS + 8 * (MOST_EVENTS as usize);
@@ -90,8 +94,8 @@ fn pin_limit(capture: &[u8]) -> u32
     }
 }
 
-fn bad_length(capture: &[u8]) -> bool
-    ensures { λ r. ⌜ r ≡ not (lengthFits (now (capture .entry))) ⌝ }
+fn bad_length(capture: &[u8], most: u32) -> bool
+    ensures { λ r. ⌜ r ≡ not (lengthFitsTo most (now (capture .entry))) ⌝ }
 {
     let size = capture.len();
     if size < EVENTS {
@@ -101,7 +105,7 @@ fn bad_length(capture: &[u8]) -> bool
     if size < start {
         return true;
     }
-    if start + 8 * (MOST_EVENTS as usize) < size {
+    if start + 8 * (most as usize) < size {
         return true;
     }
     words::word_at(capture, 0) as usize != size
@@ -123,9 +127,16 @@ fn edition(capture: &[u8]) -> u32
     words::word_at(capture, 20)
 }
 
-fn bad_header(capture: &[u8]) -> bool
+// The bytes of n events behind those that come before them. They may be more than a word can state.
+fn total(start: u32, n: u32) -> u64
+    ensures { λ r. ⌜ r ≡ start + 8 * n ⌝ }
+{
+    start as u64 + 8 * (n as u64)
+}
+
+fn bad_header(capture: &[u8], most: u32) -> bool
     requires { ⌜ 24 ≤ length (now capture) ⌝ }
-    ensures { λ r. ⌜ r ≡ not (headerFits (now (capture .entry))) ⌝ }
+    ensures { λ r. ⌜ r ≡ not (headerFitsTo most (now (capture .entry))) ⌝ }
 {
     let count = settings_count(capture);
     if words::word_at(capture, 4) != count {
@@ -135,7 +146,7 @@ fn bad_header(capture: &[u8]) -> bool
         return true;
     }
     let n = event_count(capture);
-    if MOST_EVENTS < n {
+    if most < n {
         return true;
     }
     let start = SETTINGS as u32 + 4 * count;
@@ -145,7 +156,7 @@ fn bad_header(capture: &[u8]) -> bool
     if NEWEST_EDITION < edition(capture) {
         return true;
     }
-    words::word_at(capture, 0) != start + 8 * n
+    words::word_at(capture, 0) as u64 != total(start, n)
 }
 
 // The settings, as words; 0 for those of sleep where there is none, and for the edition.
@@ -210,7 +221,7 @@ fn event_fits(limit: u32, next: u32, cycle: u32, pins: u32) -> bool
 
 // Told of a capture without a branch for each event, as most are: cycles that rise are not too large if the last is not.
 fn all_fit(limit: u32, bytes: &[u8], n: usize) -> bool
-    requires { ⌜ (n ≤ 8000) × (8 * n ≤ length (now bytes)) ⌝ }
+    requires { ⌜ 8 * n ≤ length (now bytes) ⌝ }
     ensures { λ r. ⌜ (r ≡ true → badEvent limit (now (bytes .entry)) n ≡ none) ⌝ }
 {
     if n == 0 {
@@ -228,7 +239,7 @@ fn all_fit(limit: u32, bytes: &[u8], n: usize) -> bool
 }
 
 fn lowest_bad_event(limit: u32, bytes: &[u8], n: usize) -> Found
-    requires { ⌜ (n ≤ 8000) × (8 * n ≤ length (now bytes)) ⌝ }
+    requires { ⌜ (n < 2 ^ 32) × (8 * n ≤ length (now bytes)) ⌝ }
     ensures { λ r. ⌜ placeOf r ≡ badEvent limit (now (bytes .entry)) n ⌝ }
 {
     if all_fit(limit, bytes, n) {
@@ -247,17 +258,17 @@ fn lowest_bad_event(limit: u32, bytes: &[u8], n: usize) -> Found
     Found::Nothing
 }
 
-// Refusals 1 to 4, in this order.
-pub fn open(capture: &[u8]) -> Checked
-    ensures { λ r. ⌜ means r ≡ accepted (now (capture .entry)) (answered tt) ⌝ }
+// Refusals 1 to 4, in this order, where there may be so many events.
+pub fn open_to(capture: &[u8], most: u32) -> Checked
+    ensures { λ r. ⌜ means r ≡ acceptedTo most (now (capture .entry)) (answered tt) ⌝ }
 {
-    if bad_length(capture) {
+    if bad_length(capture, most) {
         return Checked::Refused {
             number: 1,
             place: 0,
         };
     }
-    if bad_header(capture) {
+    if bad_header(capture, most) {
         return Checked::Refused {
             number: 2,
             place: 0,
@@ -274,4 +285,11 @@ pub fn open(capture: &[u8]) -> Checked
         return Checked::Fine;
     };
     Checked::Refused { number: 4, place }
+}
+
+// Those of a capture.
+pub fn open(capture: &[u8]) -> Checked
+    ensures { λ r. ⌜ means r ≡ accepted (now (capture .entry)) (answered tt) ⌝ }
+{
+    open_to(capture, MOST_EVENTS)
 }

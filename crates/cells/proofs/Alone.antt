@@ -71,7 +71,7 @@ module _ (s : Settings) (p : Part) (from : ℕ) (e : Event) (l : from ≤ e .cyc
       }
 
 pub fitting : (settings bytes : List ℕ) (n : ℕ) → Listable settings bytes n → kept.Fit bytes n
-fitting settings bytes n z = record { few = z .fit .few; long = z .fit .long; events = z .fit .events }
+fitting settings bytes n z = record { few = z .few; long = z .fit .long; events = z .fit .events }
 
 -- every event of a clean capture
 module _ (settings bytes : List ℕ) (n : ℕ) (z : Listable settings bytes n) (k : Clean (settingsOf settings) bytes n) where

@@ -6,6 +6,7 @@ use mathlib.Core.Path.{_≡_, sym, ap, _∙_, subst}
 use lib.ListN.{length}
 use lib.Seq.{sets}
 use Rattle.reading.specs.Settings.{Settings, settingsOf}
+use Rattle.reading.specs.Capture.{mostEvents}
 use Rattle.reading.specs.Verdict.{verdictOf}
 use Rattle.reading.specs.Answers.{Answer, refused, answered, unless, leaves, fitting, notClean, verdictIn, cellsIn, cellsOutcome}
 use Rattle.words.specs.declared.Found.{Found}
@@ -64,11 +65,11 @@ module _ (s : Settings) (bytes : List ℕ) (n : ℕ) (buffer : List ℕ) (found 
 pub refused-so : (c buffer : List ℕ) {o : Checked} → check.means o ≡ opened c → {number place : ℕ} → o ≡ checked.Refused number place →
     Meets (refused number place) buffer (cellsOutcome c buffer)
 unfolding cellsOutcome
-refused-so c buffer told e = refused-meets (opening.refused-so c told _ e)
+refused-so c buffer told e = refused-meets (opening.refused-so mostEvents c told _ e)
 
-module _ {c settings : List ℕ} {n : ℕ} {bytes : List ℕ} (x : Opened c settings n bytes) where
+module _ {c settings : List ℕ} {n : ℕ} {bytes : List ℕ} (x : Opened mostEvents c settings n bytes) where
   pub listable : Listable settings bytes n
-  listable = record { fit = judging.fit x; sized = record { rows = x .rows; columns = x .columns }; moded = x .moded }
+  listable = record { few = x .few; fit = judging.fit x; sized = record { rows = x .rows; columns = x .columns }; moded = x .moded }
 
   pub listed-so : (buffer : List ℕ) {a : Answer ℕ} {out : List ℕ} → Meets a out (listing (settingsOf settings) bytes n buffer) → Meets a out (cellsOutcome c buffer)
   unfolding listing cellsOn cellsOutcome cellsIn verdictIn

@@ -9,7 +9,7 @@ use lib.ListN.{getD}
 use Rattle.reading.specs.Search as search
 use Rattle.reading.specs.Mode.{modeWord}
 use Rattle.reading.specs.Settings.{Settings, settingsOf}
-use Rattle.reading.specs.Capture.{eventAt}
+use Rattle.reading.specs.Capture.{mostEvents, eventAt}
 use Rattle.reading.specs.Bursts as reading
 use Rattle.reading.specs.Bursts.{columnOf}
 use Rattle.reading.specs.Part.{Part}
@@ -60,6 +60,7 @@ givenBy s bytes n i firsts mode = cond (gives (eventAt bytes i .pins)) (some (to
 
 -- n events fit, and so do the settings
 pub record Listable (settings bytes : List ℕ) (n : ℕ) : Type 0 where
+  pub few : n ≤ mostEvents
   pub fit : Fit settings bytes n
   pub sized : Sized (settingsOf settings)
   pub moded : modeWord (settingsOf settings .mode) ≡ true

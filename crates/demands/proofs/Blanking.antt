@@ -6,7 +6,7 @@ use mathlib.Core.Logic.{_↔_, _⊎_, inl, inr}
 use mathlib.Core.Path.{_≡_, sym, ap, _∙_, subst}
 use native.Mathlib.Omega.{arith}
 use lib.ListN.{length, getD, take, drop}
-use Rattle.reading.specs.Capture.{eventsStart, countIn, eventCount, eventBytes, eventAt}
+use Rattle.reading.specs.Capture.{mostEvents, eventsStart, countIn, eventCount, eventBytes, eventAt}
 use Rattle.reading.specs.Answers.{Answer, refused, answered, accepted, settingsIn, fitting}
 use Rattle.reading.specs.Blank.{namesColumn, namesRow, OnlyAddressesDiffer, blanked, blankOutcome}
 use Rattle.capture.proofs.Outcome as outcome
@@ -91,7 +91,7 @@ module _ (capture out : List ℕ) where
   -- Refused exactly in the cases that are written out in specs/Refused, with their place.
   case-of : (number place : ℕ) → blankOutcome capture out .answer ≡ refused number place → BlankRefused capture out number place
   unfolding blankOutcome
-  case-of number place k = go (refused-in capture rest (leaves-refused (accepted capture rest) out k .0))
+  case-of number place k = go (refused-in mostEvents capture rest (leaves-refused (accepted capture rest) out k .0))
     where
       go : (opened capture ≡ refused number place) ⊎ (Accepted capture × (rest ≡ refused number place)) → BlankRefused capture out number place
       go (inl h) = unopened (capture-refused-exactly capture number place .0 h)
@@ -134,7 +134,7 @@ module _ (capture out left : List ℕ) (n : ℕ) (a : Blanks capture out (Writte
 
   is-blanked : Accepted capture × (blanked capture ≡ wrote .list)
   is-blanked =
-      let (h, e) = answered-in capture _ (wrote .is) in
+      let (h, e) = answered-in mostEvents capture _ (wrote .is) in
       (h, fits out (blanked capture) e .0)
 
 -- The capture was accepted, and its bytes, blanked, are what stands at the front of the buffer; bytes behind them stay.

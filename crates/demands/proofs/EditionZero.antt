@@ -11,14 +11,14 @@ use borrow.Author.Tests.{eqb-true}
 use Rattle.reading.specs.Search.{implies, ever, find, count}
 use Rattle.reading.specs.Words.{wordAt}
 use Rattle.reading.specs.Settings.{Settings, sleepingCount, newer, inEdition}
-use Rattle.reading.specs.Capture.{Event, headerWord, editionIn, eventCount, settingWords, eventsOf, headerFits}
+use Rattle.reading.specs.Capture.{Event, headerWord, editionIn, eventCount, settingWords, eventsOf, headerFits, headerFitsTo}
 use Rattle.reading.specs.Commands.{Command, READ, WRITE, is, among, commandOf}
 use Rattle.reading.specs.Bursts.{Burst, withPairs, wholeEnd, dataEnd, restsFrom}
 use Rattle.reading.specs.Part.{Part, start, cuts, atMost, cutPairs, burstGiven, lastWrite, lastBankWrite, step, run}
 use Rattle.reading.specs.Rules.{closing, keepsRule, rules, brokenBy}
 use Rattle.reading.specs.Verdict.{Verdict, brokenOr, judgedOf, judgeBy, verdictBy, judgeFrom}
 use Rattle.reading.specs.Cells.{burstsOf, cellsOf}
-use Rattle.reading.specs.Answers.{Answer, answered, unless, accepted, settingsIn, verdictIn, cellsIn, judgeAnswer, cellsOutcome, leaves, fitting, notClean}
+use Rattle.reading.specs.Answers.{Answer, answered, unless, accepted, acceptedTo, settingsIn, verdictIn, cellsIn, judgeAnswer, judgeAnswerTo, cellsOutcome, leaves, fitting, notClean}
 use Rattle.demands.specs.OldEdition.{oldCutPairs, oldStep, oldRun, oldKeepsRule, oldBrokenBy, oldJudgeFrom, oldHeaderFits, oldAccepted, oldSettings, oldVerdict, oldCells, oldJudgeAnswer, oldCellsOutcome}
 
 module _ (s : Settings) (old : newer s ≡ false) where
@@ -94,7 +94,7 @@ module _ (capture : List ℕ) where
     old = rw none-named
 
     same-header : headerFits capture ≡ oldHeaderFits capture
-    unfolding headerFits
+    unfolding headerFitsTo
     same-header = rw zero
 
     same-verdict : verdictIn capture ≡ oldVerdict capture
@@ -110,12 +110,12 @@ module _ (capture : List ℕ) where
         ∙ ap (λ (p : Part). cellsOf (oldSettings capture) (reverse (p .bursts))) (same-run (oldSettings capture) old (start (oldSettings capture)) (eventsOf capture))
 
     same-accepted : {A : Type 0} (rest : Answer A) → accepted capture rest ≡ oldAccepted capture rest
-    unfolding accepted
+    unfolding acceptedTo
     same-accepted rest = rw same-header
 
 -- A capture of edition 0 is judged as it was.
 pub judge-edition-0 : (capture : List ℕ) → editionIn capture ≡ 0 → judgeAnswer capture ≡ oldJudgeAnswer capture
-unfolding judgeAnswer
+unfolding judgeAnswerTo
 judge-edition-0 capture zero =
     same-accepted capture zero _
     ∙ ap (λ (v : Verdict). oldAccepted capture (answered (record { events = eventCount capture; judged = judgedOf (eventCount capture) v; verdict = v })))

@@ -1,5 +1,6 @@
 -- The demands, each short enough to read aloud.
 pub mod Judging
+pub mod Recording
 pub mod Opening
 pub mod Listing
 pub mod Refusing

@@ -14,14 +14,15 @@ use Rattle.reading.specs.Search as search
 use Rattle.reading.specs.Search.{given, find, lowest, implies, orElse}
 use Rattle.reading.specs.Mode.{modeWord}
 use Rattle.reading.specs.Settings.{settingsOf, settingFits, badSetting}
-use Rattle.reading.specs.Capture.{headerWord, countIn, eventCount, editionIn, settingWords, eventBytes, eventAt, captureSize, eventsStart, mostEvents, newestEdition, lengthFits, headerFits, pinLimit, lastCycle, eventFits, badEvent}
-use Rattle.reading.specs.Answers.{Answer, refused, answered, unless, accepted}
+use Rattle.reading.specs.Capture.{headerWord, countIn, eventCount, editionIn, settingWords, eventBytes, eventAt, captureSize, eventsStart, mostEvents, newestEdition, lengthFitsTo, headerFitsTo, pinLimit, lastCycle, eventFits, badEvent}
+use Rattle.reading.specs.Answers.{Answer, refused, answered, unless, acceptedTo}
 use Rattle.words.proofs.Search.{none-below, nothing-below}
 use Rattle.settings.proofs.Fitting.{rowAt}
 use Rattle.reading.proofs.Laws.{both}
 use Rattle.capture.proofs.Accepted.{words-count}
-use Rattle.demands.specs.Refused.{opened, Accepted}
-use Rattle.demands.specs.Captures.{Lowest, leastBytes, mostBytes, BadLength, BadHeader, BadSetting, BadEvent, Limited, CaptureRefused}
+use Rattle.capture.specs.Calls.{openedTo, AcceptedTo, opened, Accepted}
+use Rattle.capture.proofs.Outcome.{not-answered}
+use Rattle.demands.specs.Captures.{Lowest, leastBytes, BadLength, BadHeader, BadSetting, BadEvent, Limited, RefusedTo, CaptureRefused}
 use Rattle.demands.specs.Captures as case
 
 never : (b : Bool) → (b ≡ true → ⊥) → b ≡ false
@@ -105,12 +106,12 @@ six a b c d e f h =
     let one = both a b (two .0) in
     (one .0, one .1, two .1, three .1, four .1, five .1)
 
-module _ (capture : List ℕ) where
+module _ (most : ℕ) (capture : List ℕ) where
   abbrev least : ℕ
   least = captureSize (countIn capture) 0
 
-  abbrev most : ℕ
-  most = captureSize (countIn capture) mostEvents
+  abbrev longest : ℕ
+  longest = captureSize (countIn capture) most
 
   least-is : captureSize (countIn capture) 0 ≡ leastBytes capture
   least-is = go (eqb (headerWord capture 1) 16)
@@ -119,45 +120,41 @@ module _ (capture : List ℕ) where
       go true = refl
       go false = refl
 
-  most-is : captureSize (countIn capture) mostEvents ≡ mostBytes capture
-  most-is = go (eqb (headerWord capture 1) 16)
-    where
-      go : (b : Bool) → captureSize (cond b 16 14) mostEvents ≡ cond b 64088 64080
-      go true = refl
-      go false = refl
-
-  length-bad : lengthFits capture ≡ false → BadLength capture
-  unfolding lengthFits
-  length-bad =
-      go (leb least (length capture)) refl (leb (length capture) most) refl (eqb (headerWord capture 0) (length capture)) refl
-    where
-      go : (a : Bool) → leb least (length capture) ≡ a → (b : Bool) → leb (length capture) most ≡ b →
-          (c : Bool) → eqb (headerWord capture 0) (length capture) ≡ c → (a && b && c) ≡ false → BadLength capture
-      go false e b f c g h = case.short (omega (arith, leb-false least (length capture) e, least-is))
-      go true e false f c g h = case.long (omega (arith, leb-false (length capture) most f, most-is))
-      go true e true f false g h = case.not-as-stated (eqb-false _ _ g)
-      go true e true f true g h = impossible h
-
-  length-fits : lengthFits capture ≡ true → BadLength capture → ⊥
-  unfolding lengthFits
-  length-fits h =
-      let z = both (leb least (length capture) && leb (length capture) most) (eqb (headerWord capture 0) (length capture)) h in
-      let y = both (leb least (length capture)) (leb (length capture) most) (z .0) in
-      go (leb-true least (length capture) (y .0)) (leb-true (length capture) most (y .1)) (eqb-true _ _ (z .1))
-    where
-      go : least ≤ length capture → length capture ≤ most → headerWord capture 0 ≡ length capture → BadLength capture → ⊥
-      go a b c (case.short l) = absurd (omega (arith, a, l, least-is))
-      go a b c (case.long l) = absurd (omega (arith, b, l, most-is))
-      go a b c (case.not-as-stated f) = f c
-
-  -- ---- 2: the header
-
   start-is : eventsStart (countIn capture) ≡ leastBytes capture
   start-is = go (eqb (headerWord capture 1) 16)
     where
       go : (b : Bool) → eventsStart (cond b 16 14) ≡ cond b 88 80
       go true = refl
       go false = refl
+
+  longest-is : longest ≡ leastBytes capture + 8 * most
+  longest-is = ap (λ (n : ℕ). n + 8 * most) start-is
+
+  length-bad : lengthFitsTo most capture ≡ false → BadLength most capture
+  unfolding lengthFitsTo
+  length-bad =
+      go (leb least (length capture)) refl (leb (length capture) longest) refl (eqb (headerWord capture 0) (length capture)) refl
+    where
+      go : (a : Bool) → leb least (length capture) ≡ a → (b : Bool) → leb (length capture) longest ≡ b →
+          (c : Bool) → eqb (headerWord capture 0) (length capture) ≡ c → (a && b && c) ≡ false → BadLength most capture
+      go false e b f c g h = case.short (omega (arith, leb-false least (length capture) e, least-is))
+      go true e false f c g h = case.long (omega (arith, leb-false (length capture) longest f, longest-is))
+      go true e true f false g h = case.not-as-stated (eqb-false _ _ g)
+      go true e true f true g h = impossible h
+
+  length-fits : lengthFitsTo most capture ≡ true → BadLength most capture → ⊥
+  unfolding lengthFitsTo
+  length-fits h =
+      let z = both (leb least (length capture) && leb (length capture) longest) (eqb (headerWord capture 0) (length capture)) h in
+      let y = both (leb least (length capture)) (leb (length capture) longest) (z .0) in
+      go (leb-true least (length capture) (y .0)) (leb-true (length capture) longest (y .1)) (eqb-true _ _ (z .1))
+    where
+      go : least ≤ length capture → length capture ≤ longest → headerWord capture 0 ≡ length capture → BadLength most capture → ⊥
+      go a b c (case.short l) = absurd (omega (arith, a, l, least-is))
+      go a b c (case.long l) = absurd (omega (arith, b, l, longest-is))
+      go a b c (case.not-as-stated f) = f c
+
+  -- ---- 2: the header
 
   size-is : captureSize (countIn capture) (eventCount capture) ≡ leastBytes capture + 8 * headerWord capture 3
   size-is = ap (λ (n : ℕ). n + 8 * headerWord capture 3) start-is
@@ -173,17 +170,17 @@ module _ (capture : List ℕ) where
       go true e = (λ f. impossible (sym e ∙ f), λ f g h. h (eqb-true _ _ f))
       go false e = (λ f. (eqb-false _ _ f, eqb-false _ _ e), λ f g h. g (eqb-true _ _ f))
 
-  header-bad : headerFits capture ≡ false → BadHeader capture
-  unfolding headerFits
+  header-bad : headerFitsTo most capture ≡ false → BadHeader most capture
+  unfolding headerFitsTo
   header-bad =
-      go (eqb (headerWord capture 1) (countIn capture)) refl (eqb (headerWord capture 2) 24) refl (leb (eventCount capture) mostEvents) refl
+      go (eqb (headerWord capture 1) (countIn capture)) refl (eqb (headerWord capture 2) 24) refl (leb (eventCount capture) most) refl
       (eqb (headerWord capture 4) (eventsStart (countIn capture))) refl (leb (editionIn capture) newestEdition) refl
       (eqb (headerWord capture 0) (captureSize (countIn capture) (eventCount capture))) refl
     where
       go : (a : Bool) → eqb (headerWord capture 1) (countIn capture) ≡ a → (b : Bool) → eqb (headerWord capture 2) 24 ≡ b →
-          (c : Bool) → leb (eventCount capture) mostEvents ≡ c → (d : Bool) → eqb (headerWord capture 4) (eventsStart (countIn capture)) ≡ d →
+          (c : Bool) → leb (eventCount capture) most ≡ c → (d : Bool) → eqb (headerWord capture 4) (eventsStart (countIn capture)) ≡ d →
           (e : Bool) → leb (editionIn capture) newestEdition ≡ e →
-          (f : Bool) → eqb (headerWord capture 0) (captureSize (countIn capture) (eventCount capture)) ≡ f → (a && b && c && d && e && f) ≡ false → BadHeader capture
+          (f : Bool) → eqb (headerWord capture 0) (captureSize (countIn capture) (eventCount capture)) ≡ f → (a && b && c && d && e && f) ≡ false → BadHeader most capture
       go false w b x c y d z e u f v h = let (g, k) = counted .0 w in case.count g k
       go true w false x c y d z e u f v h = case.settings-start (eqb-false _ _ x)
       go true w true x false y d z e u f v h = case.many (leb-false _ _ y)
@@ -192,20 +189,20 @@ module _ (capture : List ℕ) where
       go true w true x true y true z true u false v h = case.total (λ k. eqb-false _ _ v (k ∙ sym size-is))
       go true w true x true y true z true u true v h = impossible h
 
-  header-fits : headerFits capture ≡ true → BadHeader capture → ⊥
-  unfolding headerFits
+  header-fits : headerFitsTo most capture ≡ true → BadHeader most capture → ⊥
+  unfolding headerFitsTo
   header-fits h =
       go
-      (six (eqb (headerWord capture 1) (countIn capture)) (eqb (headerWord capture 2) 24) (leb (eventCount capture) mostEvents)
+      (six (eqb (headerWord capture 1) (countIn capture)) (eqb (headerWord capture 2) 24) (leb (eventCount capture) most)
       (eqb (headerWord capture 4) (eventsStart (countIn capture))) (leb (editionIn capture) newestEdition)
       (eqb (headerWord capture 0) (captureSize (countIn capture) (eventCount capture))) h)
     where
-      go : (eqb (headerWord capture 1) (countIn capture) ≡ true) × (eqb (headerWord capture 2) 24 ≡ true) × (leb (eventCount capture) mostEvents ≡ true)
+      go : (eqb (headerWord capture 1) (countIn capture) ≡ true) × (eqb (headerWord capture 2) 24 ≡ true) × (leb (eventCount capture) most ≡ true)
           × (eqb (headerWord capture 4) (eventsStart (countIn capture)) ≡ true) × (leb (editionIn capture) newestEdition ≡ true)
-          × (eqb (headerWord capture 0) (captureSize (countIn capture) (eventCount capture)) ≡ true) → BadHeader capture → ⊥
+          × (eqb (headerWord capture 0) (captureSize (countIn capture) (eventCount capture)) ≡ true) → BadHeader most capture → ⊥
       go z (case.count g k) = counted .1 (z .0) g k
       go z (case.settings-start g) = g (eqb-true _ _ (z .1))
-      go z (case.many g) = absurd (omega (arith, leb-true (eventCount capture) mostEvents (z .2), g))
+      go z (case.many g) = absurd (omega (arith, leb-true (eventCount capture) most (z .2), g))
       go z (case.events-start g) = g (eqb-true _ _ (z .3) ∙ start-is)
       go z (case.edition g) = absurd (omega (arith, leb-true (editionIn capture) newestEdition (z .4), g))
       go z (case.total g) = g (eqb-true _ _ (z .5) ∙ size-is)
@@ -244,7 +241,7 @@ module _ (ws : List ℕ) where
 
 -- ---- 4: the events
 
-module _ (capture : List ℕ) where
+module _ (most : ℕ) (capture : List ℕ) where
   abbrev cycleAt : ℕ → ℕ
   cycleAt i = eventAt (eventBytes capture) i .cycle
 
@@ -291,37 +288,37 @@ module _ (capture : List ℕ) where
   abbrev by : Bool → Bool → Option ℕ → Bool → Option ℕ → Answer (Unit {0})
   by a b o c d = unless 1 (given 0 (not a)) (unless 2 (given 0 (not b)) (unless 3 (orElse o (given 7 c)) (unless 4 d (answered tt))))
 
-  opened-by : {a b : Bool} {o : Option ℕ} {c : Bool} {d : Option ℕ} → lengthFits capture ≡ a → headerFits capture ≡ b → lowest badWord (countIn capture) ≡ o →
-      ltb (settingsOf ws .tRAS + settingsOf ws .tRP) (settingsOf ws .tRC) ≡ c → lowest badPlace (eventCount capture) ≡ d → opened capture ≡ by a b o c d
-  unfolding accepted badSetting badEvent
+  opened-by : {a b : Bool} {o : Option ℕ} {c : Bool} {d : Option ℕ} → lengthFitsTo most capture ≡ a → headerFitsTo most capture ≡ b → lowest badWord (countIn capture) ≡ o →
+      ltb (settingsOf ws .tRAS + settingsOf ws .tRP) (settingsOf ws .tRC) ≡ c → lowest badPlace (eventCount capture) ≡ d → openedTo most capture ≡ by a b o c d
+  unfolding acceptedTo badSetting badEvent
   opened-by e f g h k i =
       by (e i) (f i) ((ap (lowest badWord) (words-count capture) ∙ g) i) (h i) (k i)
 
-  limited : lengthFits capture ≡ true → headerFits capture ≡ true → lowest badWord (countIn capture) ≡ none → Limited capture
+  limited : lengthFitsTo most capture ≡ true → headerFitsTo most capture ≡ true → lowest badWord (countIn capture) ≡ none → Limited most capture
   limited f g h =
       record {
-        framed = record { length-fits = length-fits capture f; header-fits = header-fits capture g };
+        framed = record { length-fits = length-fits most capture f; header-fits = header-fits most capture g };
         settings-fit = none-is badWord (BadSetting ws) (setting-bad ws) (setting-fits ws) (countIn capture) h;
       }
 
-  case-of : (number place : ℕ) → opened capture ≡ refused number place → CaptureRefused capture number place
+  case-of : (number place : ℕ) → openedTo most capture ≡ refused number place → RefusedTo most capture number place
   case-of number place e =
-      go (lengthFits capture) refl (headerFits capture) refl (lowest badWord (countIn capture)) refl
+      go (lengthFitsTo most capture) refl (headerFitsTo most capture) refl (lowest badWord (countIn capture)) refl
       (ltb (settingsOf ws .tRAS + settingsOf ws .tRP) (settingsOf ws .tRC)) refl (lowest badPlace (eventCount capture)) refl
     where
-      told : {k p : ℕ} → opened capture ≡ refused k p → (number ≡ k) × (place ≡ p)
+      told : {k p : ℕ} → openedTo most capture ≡ refused k p → (number ≡ k) × (place ≡ p)
       told {k} {p} f = let so : _≡_ {A = Answer (Unit {0})} (refused number place) (refused k p) = sym e ∙ f in (cc, cc)
 
-      go : (a : Bool) → lengthFits capture ≡ a → (b : Bool) → headerFits capture ≡ b → (o : Option ℕ) → lowest badWord (countIn capture) ≡ o →
+      go : (a : Bool) → lengthFitsTo most capture ≡ a → (b : Bool) → headerFitsTo most capture ≡ b → (o : Option ℕ) → lowest badWord (countIn capture) ≡ o →
           (c : Bool) → ltb (settingsOf ws .tRAS + settingsOf ws .tRP) (settingsOf ws .tRC) ≡ c → (d : Option ℕ) → lowest badPlace (eventCount capture) ≡ d →
-          CaptureRefused capture number place
+          RefusedTo most capture number place
       go false f b g o h c k d l =
-          let (n, p) = told (opened-by f g h k l) in case.bad-length (length-bad capture f) n p
+          let (n, p) = told (opened-by f g h k l) in case.bad-length (length-bad most capture f) n p
       go true f false g o h c k d l =
-          let (n, p) = told (opened-by f g h k l) in case.bad-header (length-fits capture f) (header-bad capture g) n p
+          let (n, p) = told (opened-by f g h k l) in case.bad-header (length-fits most capture f) (header-bad most capture g) n p
       go true f true g (some i) h c k d l =
           let (n, p) = told (opened-by f g h k l) in
-          case.bad-setting (record { length-fits = length-fits capture f; header-fits = header-fits capture g }) n
+          case.bad-setting (record { length-fits = length-fits most capture f; header-fits = header-fits most capture g }) n
           (rw p (lowest-is badWord (BadSetting ws) (setting-bad ws) (setting-fits ws) (countIn capture) i h))
       go true f true g none h true k d l =
           let (n, p) = told (opened-by f g h k l) in
@@ -333,20 +330,20 @@ module _ (capture : List ℕ) where
       go true f true g none h false k none l = let z : _≡_ {A = Answer (Unit {0})} (refused number place) (answered tt) = sym e ∙ opened-by f g h k l in
           let n : _≡_ {A = ℕ} 0 1 = cc in absurd (omega arith)
 
-  long-right : (BadLength capture → ⊥) → lengthFits capture ≡ true
-  long-right f = always (lengthFits capture) (λ e. f (length-bad capture e))
+  long-right : (BadLength most capture → ⊥) → lengthFitsTo most capture ≡ true
+  long-right f = always (lengthFitsTo most capture) (λ e. f (length-bad most capture e))
 
-  head-right : (BadHeader capture → ⊥) → headerFits capture ≡ true
-  head-right f = always (headerFits capture) (λ e. f (header-bad capture e))
+  head-right : (BadHeader most capture → ⊥) → headerFitsTo most capture ≡ true
+  head-right f = always (headerFitsTo most capture) (λ e. f (header-bad most capture e))
 
   words-right : ((j : ℕ) → j < countIn capture → BadSetting ws j → ⊥) → lowest badWord (countIn capture) ≡ none
   words-right = is-none badWord (BadSetting ws) (setting-bad ws) (setting-fits ws) (countIn capture)
 
-  of-case : (number place : ℕ) → CaptureRefused capture number place → opened capture ≡ refused number place
+  of-case : (number place : ℕ) → RefusedTo most capture number place → openedTo most capture ≡ refused number place
   of-case number place (case.bad-length b n p) =
-      opened-by (never (lengthFits capture) (λ e. length-fits capture e b)) refl refl refl refl ∙ (λ i. refused (sym n i) (sym p i))
+      opened-by (never (lengthFitsTo most capture) (λ e. length-fits most capture e b)) refl refl refl refl ∙ (λ i. refused (sym n i) (sym p i))
   of-case number place (case.bad-header l b n p) =
-      opened-by (long-right l) (never (headerFits capture) (λ e. header-fits capture e b)) refl refl refl ∙ (λ i. refused (sym n i) (sym p i))
+      opened-by (long-right l) (never (headerFitsTo most capture) (λ e. header-fits most capture e b)) refl refl refl ∙ (λ i. refused (sym n i) (sym p i))
   of-case number place (case.bad-setting y n b) =
       opened-by (long-right (y .length-fits)) (head-right (y .header-fits)) (is-lowest badWord (BadSetting ws) (setting-bad ws) (setting-fits ws) (countIn capture) place b) refl refl
       ∙ ap (λ (k : ℕ). refused k place) (sym n)
@@ -359,17 +356,23 @@ module _ (capture : List ℕ) where
       (is-lowest badPlace (BadEvent capture) event-bad event-fits (eventCount capture) place b)
       ∙ ap (λ (k : ℕ). refused k place) (sym n)
 
+pub refused-exactly-to : (most : ℕ) (capture : List ℕ) (number place : ℕ) → openedTo most capture ≡ refused number place ↔ RefusedTo most capture number place
+refused-exactly-to most capture number place = (case-of most capture number place, of-case most capture number place)
+
 -- A capture is refused exactly with the number and the place of the case that it is.
 pub capture-refused-exactly : (capture : List ℕ) (number place : ℕ) → opened capture ≡ refused number place ↔ CaptureRefused capture number place
-capture-refused-exactly capture number place = (case-of capture number place, of-case capture number place)
+capture-refused-exactly = refused-exactly-to mostEvents
+
+pub accepted-exactly-to : (most : ℕ) (capture : List ℕ) → AcceptedTo most capture ↔ ((number place : ℕ) → RefusedTo most capture number place → ⊥)
+accepted-exactly-to most capture = (
+  λ e number place c. not-answered (sym (of-case most capture number place c) ∙ e),
+  λ f. go (openedTo most capture) refl f,
+)
+  where
+    go : (x : Answer (Unit {0})) → openedTo most capture ≡ x → ((number place : ℕ) → RefusedTo most capture number place → ⊥) → openedTo most capture ≡ answered tt
+    go (refused number place) e f = absurd (f number place (case-of most capture number place e))
+    go (answered tt) e f = e
 
 -- In no other case: it is accepted exactly when it is none of them.
 pub accepted-exactly : (capture : List ℕ) → Accepted capture ↔ ((number place : ℕ) → CaptureRefused capture number place → ⊥)
-accepted-exactly capture = (λ e number place c. unlike (sym (of-case capture number place c) ∙ e), λ f. go (opened capture) refl f)
-  where
-    unlike : {number place : ℕ} → _≡_ {A = Answer (Unit {0})} (refused number place) (answered tt) → ⊥
-    unlike e = let z : _≡_ {A = ℕ} 0 1 = cc in absurd (omega arith)
-
-    go : (x : Answer (Unit {0})) → opened capture ≡ x → ((number place : ℕ) → CaptureRefused capture number place → ⊥) → opened capture ≡ answered tt
-    go (refused number place) e f = absurd (f number place (case-of capture number place e))
-    go (answered tt) e f = e
+accepted-exactly = accepted-exactly-to mostEvents

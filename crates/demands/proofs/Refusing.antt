@@ -11,13 +11,14 @@ use lib.Dec.{ltb, eqb}
 use lib.ListN.{length}
 use Rattle.reading.specs.Search.{given}
 use Rattle.reading.specs.Settings.{settingsOf, badSetting}
-use Rattle.reading.specs.Capture.{eventsOf}
+use Rattle.reading.specs.Capture.{mostEvents, eventsOf}
 use Rattle.reading.specs.Schedule.{Schedule, planned, late, badRequest, scheduleOf, captureOf}
 use Rattle.reading.specs.Verdict as is
-use Rattle.reading.specs.Answers.{Answer, refused, unless, accepted, settingsIn, verdictIn, notClean, judgeAnswer, cellsIn, whenPlanned, fitting, cellsOutcome, scheduleOutcome}
+use Rattle.reading.specs.Answers.{Answer, refused, unless, accepted, settingsIn, verdictIn, notClean, judgeAnswerTo, cellsIn, whenPlanned, fitting, cellsOutcome, scheduleOutcome}
 use Rattle.reading.proofs.Meaning.{verdict-clean, verdict-broken}
+use Rattle.capture.specs.Calls.{openedTo}
 use Rattle.capture.proofs.Outcome.{too-long, lacking, refused-meets, leaves-refused}
-use Rattle.capture.proofs.Accepted.{accepted-rest, refused-rest, refused-in, refused-only}
+use Rattle.capture.proofs.Accepted.{accepted-rest, refused-rest, refused-to, refused-in, refused-only}
 use Rattle.judge.specs.declared.Verdict.{Verdict}
 use Rattle.judge.specs.declared.Verdict.the-variants as judged
 use Rattle.judge.specs.Meaning as judge
@@ -29,22 +30,27 @@ use Rattle.schedule.specs.declared.Scheduled.{Scheduled}
 use Rattle.schedule.specs.declared.Scheduled.the-variants as scheduled
 use Rattle.schedule.specs.Meaning as schedule
 use Rattle.schedule.proofs.Unique as one-schedule
-use Rattle.demands.specs.Allowed.{Judges, Lists, Schedules}
+use Rattle.demands.specs.Allowed.{JudgesTo, Judges, Lists, Schedules}
 use Rattle.demands.specs.Captures.{CaptureRefused}
 use Rattle.demands.specs.Refused.{opened, Accepted, ListRefused, unaccepted, unclean, ScheduleRefused}
 use Rattle.demands.specs.Refused as case
-use Rattle.demands.proofs.Judging.{one-answer}
+use Rattle.demands.proofs.Judging.{one-answer-to, through}
 use Rattle.demands.proofs.Opening.{capture-refused-exactly}
 
 -- ---- the judge
 
+pub judge-refused-to : (most : ℕ) (capture : List ℕ) (r : Verdict) → JudgesTo most capture r → (number place : ℕ) →
+    r ≡ judged.Refused number place ↔ openedTo most capture ≡ refused number place
+unfolding judgeAnswerTo
+judge-refused-to most capture r a number place = (
+  λ e. refused-only most capture _ refl (sym a ∙ ap judge.means e),
+  λ h. one-answer-to most capture r (judged.Refused number place) a (sym (refused-to most capture _ h)),
+)
+
 pub judge-refused : (capture : List ℕ) (r : Verdict) → Judges capture r → (number place : ℕ) →
     r ≡ judged.Refused number place ↔ CaptureRefused capture number place
-unfolding judgeAnswer
-judge-refused capture r a number place = (
-  λ e. capture-refused-exactly capture number place .0 (refused-only capture _ refl (sym a ∙ ap judge.means e)),
-  λ c. one-answer capture r (judged.Refused number place) a (sym (refused-rest capture _ (capture-refused-exactly capture number place .1 c))),
-)
+judge-refused capture r a number place =
+    through (judge-refused-to mostEvents capture r a number place) (capture-refused-exactly capture number place)
 
 -- ---- burst lists
 
@@ -61,7 +67,7 @@ module _ (capture out : List ℕ) where
 
   list-case : (number place : ℕ) → cellsOutcome capture out .answer ≡ refused number place → ListRefused capture out number place
   unfolding verdictIn cellsOutcome
-  list-case number place k = go (refused-in capture rest (leaves-refused (accepted capture rest) out k .0))
+  list-case number place k = go (refused-in mostEvents capture rest (leaves-refused (accepted capture rest) out k .0))
     where
       decided : Accepted capture → (v : is.Verdict) → verdictIn capture ≡ v → unless 8 (notClean v) (fitting out (cellsIn capture)) ≡ refused number place →
           ListRefused capture out number place

@@ -30,6 +30,7 @@ use Rattle.capture.proofs.event_count.Reads as capture-event-count
 use Rattle.capture.proofs.settings_in.Reads as capture-settings-in
 use Rattle.capture.proofs.cycle_at.Reads as capture-cycle-at
 use Rattle.capture.proofs.pins_at.Reads as capture-pins-at
+use Rattle.capture.proofs.open_to.Reads as capture-open-to
 use Rattle.capture.proofs.open.Reads as capture-open
 use Rattle.deadlines.proofs.sums.past.Reads as deadlines-sums-past
 use Rattle.deadlines.proofs.sums.after.Reads as deadlines-sums-after
@@ -68,6 +69,7 @@ use Rattle.effects.proofs.self_after.Reads as effects-self-after
 use Rattle.effects.proofs.leave_after.Reads as effects-leave-after
 use Rattle.part.proofs.step.Reads as part-step
 use Rattle.judge.proofs.walk.Reads as judge-walk
+use Rattle.judge.proofs.judge_to.Reads as judge-judge-to
 use Rattle.judge.proofs.judge.Reads as judge-judge
 use Rattle.hidden.proofs.blank.Reads as hidden-blank
 use Rattle.requests.proofs.asks_write.Reads as requests-asks-write
@@ -105,6 +107,7 @@ use Rattle.cells.proofs.burst_at.Reads as cells-burst-at
 use Rattle.cells.proofs.passed.Reads as cells-passed
 use Rattle.cells.proofs.burst_cells.Reads as cells-burst-cells
 use Rattle.morgazell.proofs.morgazell_judge.Reads as morgazell-morgazell-judge
+use Rattle.morgazell.proofs.morgazell_recording.Reads as morgazell-morgazell-recording
 use Rattle.morgazell.proofs.morgazell_cells.Reads as morgazell-morgazell-cells
 use Rattle.morgazell.proofs.morgazell_schedule.Reads as morgazell-morgazell-schedule
 use Rattle.morgazell.proofs.morgazell_blank.Reads as morgazell-morgazell-blank
@@ -194,6 +197,9 @@ capture-cycle-at-settles κs a z z′ e e′ p q = p ∙ sym q
 
 pub capture-pins-at-settles : (κs : _) (a : _) (z z′ : _) (e e′ : _) → capture-pins-at.Post κs a z e → capture-pins-at.Post κs a z′ e′ → z ≡ z′
 capture-pins-at-settles κs a z z′ e e′ p q = p ∙ sym q
+
+pub capture-open-to-settles : (κs : _) (a : _) (z z′ : _) (e e′ : _) → capture-open-to.Post κs a z e → capture-open-to.Post κs a z′ e′ → z ≡ z′
+capture-open-to-settles κs a z z′ e e′ p q = settings.one-answer z z′ (p ∙ sym q)
 
 pub capture-open-settles : (κs : _) (a : _) (z z′ : _) (e e′ : _) → capture-open.Post κs a z e → capture-open.Post κs a z′ e′ → z ≡ z′
 capture-open-settles κs a z z′ e e′ p q = settings.one-answer z z′ (p ∙ sym q)
@@ -390,6 +396,9 @@ pub judge-walk-settles : (κs : _) (a : _) (z z′ : _) (e e′ : _) → judge-w
     (z ≡ z′) × ((now (e .1 .0) ≡ now (e′ .1 .0)) × (now (e .1 .1 .0) ≡ now (e′ .1 .1 .0)))
 judge-walk-settles κs a z z′ e e′ p q = (p .0 ∙ sym (q .0), (p .1 .0 ∙ sym (q .1 .0), p .1 .1 ∙ sym (q .1 .1)))
 
+pub judge-judge-to-settles : (κs : _) (a : _) (z z′ : _) (e e′ : _) → judge-judge-to.Post κs a z e → judge-judge-to.Post κs a z′ e′ → z ≡ z′
+judge-judge-to-settles κs a z z′ e e′ p q = judging.one-answer-to (a .1) (now (a .0)) z z′ p q
+
 pub judge-judge-settles : (κs : _) (a : _) (z z′ : _) (e e′ : _) → judge-judge.Post κs a z e → judge-judge.Post κs a z′ e′ → z ≡ z′
 judge-judge-settles κs a z z′ e e′ p q = judging.one-answer (now (a .0)) z z′ p q
 
@@ -528,6 +537,10 @@ hidden-blank-settles κs a z z′ e e′ p q = (hidden.one-answer z z′ (p .0 �
 pub morgazell-morgazell-judge-settles : (κs : _) (a : _) (z z′ : _) (e e′ : _) → morgazell-morgazell-judge.Post κs a z e → morgazell-morgazell-judge.Post κs a z′ e′ →
     z ≡ z′
 morgazell-morgazell-judge-settles κs a z z′ e e′ p q = p ∙ sym q
+
+pub morgazell-morgazell-recording-settles : (κs : _) (a : _) (z z′ : _) (e e′ : _) → morgazell-morgazell-recording.Post κs a z e → morgazell-morgazell-recording.Post κs a z′ e′ →
+    z ≡ z′
+morgazell-morgazell-recording-settles κs a z z′ e e′ p q = p ∙ sym q
 
 pub morgazell-morgazell-cells-settles : (κs : _) (a : _) (z z′ : _) (e e′ : _) → morgazell-morgazell-cells.Post κs a z e → morgazell-morgazell-cells.Post κs a z′ e′ →
     (z ≡ z′) × (now (e .1 .0) ≡ now (e′ .1 .0))

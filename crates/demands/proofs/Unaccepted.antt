@@ -1,5 +1,5 @@
 -- Captures that every call refuses, whatever else they hold: those that are too long, and those that name an edition that there is not.
-use Prim.Native.Nat.{ℕ, _≤_, _<_}
+use Prim.Native.Nat.{ℕ, _+_, _*_, _≤_, _<_}
 use mathlib.Core.Bool.{Bool, true, false, cond}
 use mathlib.Core.List.{List}
 use mathlib.Core.Path.{_≡_, refl, ap, subst}
@@ -12,7 +12,7 @@ use Rattle.reading.specs.Capture.{headerWord}
 use Rattle.cells.specs.declared.Listed.{Listed}
 use Rattle.hidden.specs.declared.Blanked.{Blanked}
 use Rattle.demands.specs.Allowed.{Lists, Blanks, RefusedByAll}
-use Rattle.demands.specs.Captures.{mostBytes, BadLength, CaptureRefused}
+use Rattle.demands.specs.Captures.{leastBytes, BadLength, CaptureRefused}
 use Rattle.demands.specs.Captures as case
 use Rattle.demands.specs.Refused.{Accepted, unaccepted, unopened}
 use Rattle.demands.proofs.Opening.{accepted-exactly}
@@ -36,16 +36,20 @@ refused-by-all capture number place c =
 
 -- ---- the length
 
+-- the most bytes of a capture
+abbrev mostBytes : List ℕ → ℕ
+mostBytes capture = leastBytes capture + 8 * 8000
+
 -- no capture may be longer than with the settings of sleep; nor, without these, than without them
 most-of-all : (capture : List ℕ) → mostBytes capture ≤ 64088
 most-of-all capture = go (eqb (headerWord capture 1) 16)
   where
-    go : (b : Bool) → cond b 64088 64080 ≤ 64088
+    go : (b : Bool) → cond b 88 80 + 8 * 8000 ≤ 64088
     go true = omega arith
     go false = omega arith
 
 most-awake : (capture : List ℕ) → (headerWord capture 1 ≡ 16 → ⊥) → mostBytes capture ≡ 64080
-most-awake capture f = ap (λ (b : Bool). cond b 64088 64080) (ne-eqb (headerWord capture 1) 16 f)
+most-awake capture f = ap (λ (b : Bool). cond b 88 80 + 8 * 8000) (ne-eqb (headerWord capture 1) 16 f)
 
 -- A byte string above 64,088 bytes is refused with 1, whatever it holds.
 pub long-refused : (capture : List ℕ) → 64088 < length capture → RefusedByAll capture 1 0
@@ -72,5 +76,5 @@ accepted-length-awake capture e f = omega (arith, accepted-most capture e, most-
 -- ---- the edition
 
 -- A capture that names an edition above 1 is refused with 2, if nothing is wrong with its length.
-pub edition-refused : (capture : List ℕ) → (BadLength capture → ⊥) → 1 < headerWord capture 5 → RefusedByAll capture 2 0
+pub edition-refused : (capture : List ℕ) → (BadLength 8000 capture → ⊥) → 1 < headerWord capture 5 → RefusedByAll capture 2 0
 edition-refused capture fits l = refused-by-all capture 2 0 (case.bad-header fits (case.edition l) refl refl)

@@ -11,12 +11,12 @@ use lib.ListN.{length}
 use borrow.Author.Tests.{eqb-true, ltb-false, not-false}
 use Rattle.reading.specs.Search.{given, orElse}
 use Rattle.reading.specs.Settings.{Settings, settingsCount, settingsOf, outOfRange, Consistent, badSetting}
-use Rattle.reading.specs.Capture.{Event, eventCount, eventsOf, settingWords}
+use Rattle.reading.specs.Capture.{Event, mostEvents, eventCount, eventsOf, settingWords}
 use Rattle.reading.specs.Part.{start}
 use Rattle.reading.specs.Rules.{aboveSix, placing, rules, placingWithSix, rulesWithSix}
 use Rattle.reading.specs.Verdict.{Verdict, verdictBy, judgedOf}
 use Rattle.reading.specs.Schedule.{Schedule, policyFits, closesRows, badRequest, scheduleBy, captureOf}
-use Rattle.reading.specs.Answers.{Answer, answered, unless, settingsIn, notClean, cellsIn, fitting, leaves, whenPlanned, verdictIn, judgeAnswer, cellsOutcome, scheduleOutcome}
+use Rattle.reading.specs.Answers.{Answer, answered, unless, settingsIn, notClean, cellsIn, fitting, leaves, whenPlanned, verdictIn, judgeAnswer, judgeAnswerTo, cellsOutcome, scheduleOutcome}
 use Rattle.reading.proofs.Six.{same-judged, start-rest}
 use Rattle.capture.specs.Calls.{Accepted}
 use Rattle.capture.proofs.Accepted.{accepted-sound, accepted-alike}
@@ -52,9 +52,9 @@ agree capture open-to = verdicts-agree (settingsIn capture) (short (settingWords
 
 -- Every byte string gets from the judge the answer that it would get with rule 6.
 pub judge-without-six : (capture : List ℕ) → judgeAnswerBy rulesWithSix capture ≡ judgeAnswer capture
-unfolding judgeAnswer verdictIn
+unfolding judgeAnswerTo verdictIn
 judge-without-six capture =
-    accepted-alike capture _ _
+    accepted-alike mostEvents capture _ _
     (λ open-to.
     ap (λ (v : Verdict). answered (record { events = eventCount capture; judged = judgedOf (eventCount capture) v; verdict = v })) (agree capture open-to))
 
@@ -63,7 +63,7 @@ pub cells-without-six : (capture out : List ℕ) → cellsOutcomeBy rulesWithSix
 unfolding cellsOutcome verdictIn
 cells-without-six capture out =
     ap (λ (a : Answer (List ℕ)). leaves a out)
-    (accepted-alike capture _ _
+    (accepted-alike mostEvents capture _ _
     (λ open-to. ap (λ (v : Verdict). unless 8 (notClean v) (fitting out (cellsIn capture))) (agree capture open-to)))
 
 -- ---- schedules

@@ -2,7 +2,8 @@
 use Prim.Native.Nat.{ℕ}
 use mathlib.Core.List.{List}
 use mathlib.Core.Path.{_≡_}
-use Rattle.reading.specs.Answers.{judgeAnswer, cellsOutcome, scheduleOutcome}
+use Rattle.reading.specs.Capture.{mostEvents, mostRecorded}
+use Rattle.reading.specs.Answers.{judgeAnswerTo, cellsOutcome, scheduleOutcome}
 use Rattle.reading.specs.Blank.{blankOutcome}
 use Rattle.capture.specs.Calls.{Meets}
 use Rattle.judge.specs.declared.Verdict.{Verdict}
@@ -17,9 +18,17 @@ use Rattle.hidden.specs.declared.Blanked.{Blanked}
 use Rattle.hidden.specs.declared.Blanked.the-variants as blanked
 use Rattle.hidden.specs.Meaning as hidden
 
--- by `judge::judge`
+-- by `judge::judge_to`, where there may be so many events
+abbrev pub JudgesTo : ℕ → List ℕ → Verdict → Type 0
+JudgesTo most capture r = means r ≡ judgeAnswerTo most capture
+
+-- by `judge::judge`, of a capture
 abbrev pub Judges : List ℕ → Verdict → Type 0
-Judges capture r = means r ≡ judgeAnswer capture
+Judges = JudgesTo mostEvents
+
+-- of a recording
+abbrev pub Records : List ℕ → Verdict → Type 0
+Records = JudgesTo mostRecorded
 
 -- by `cells::burst_cells`, lent `out`, which holds `left` afterwards
 abbrev pub Lists : List ℕ → List ℕ → Listed → List ℕ → Type 0

@@ -1,6 +1,7 @@
--- When a capture is refused, by whatever call: refusals 1 to 4 of document 01's table, case by case. Words of the header are
--- told by their numbers: 0 the total, 1 how many settings, 2 and 4 where settings and events start, 3 how many events, 5 the edition.
-use Prim.Native.Nat.{ℕ, _+_, _-_, _*_, _≤_, _<_}
+-- When a capture is refused, by whatever call, and when a recording: refusals 1 to 4 of document 01's table, case by case, where
+-- there may be at most so many events. Words of the header are told by their numbers: 0 the total, 1 how many settings, 2 and 4
+-- where settings and events start, 3 how many events, 5 the edition.
+use Prim.Native.Nat.{ℕ, _+_, _-_, _*_, _^_, _≤_, _<_}
 use mathlib.Core.Bool.{false, cond}
 use mathlib.Core.List.{List}
 use mathlib.Core.Path.{_≡_}
@@ -17,27 +18,24 @@ pub record Lowest (So : ℕ → Type 0) (n i : ℕ) : Type 0 where
   pub is-so : So i
   pub none-lower : (j : ℕ) → j < i → So j → ⊥
 
--- the least and the most bytes of a capture; with sixteen settings eight more
+-- the least bytes; with sixteen settings eight more
 abbrev pub leastBytes : List ℕ → ℕ
 leastBytes capture = cond (eqb (headerWord capture 1) 16) 88 80
 
-abbrev pub mostBytes : List ℕ → ℕ
-mostBytes capture = cond (eqb (headerWord capture 1) 16) 64088 64080
-
 -- 1
-pub data BadLength (capture : List ℕ) : Type 0 where
-  short : length capture < leastBytes capture → BadLength capture
-  long : mostBytes capture < length capture → BadLength capture
-  not-as-stated : (headerWord capture 0 ≡ length capture → ⊥) → BadLength capture
+pub data BadLength (most : ℕ) (capture : List ℕ) : Type 0 where
+  short : length capture < leastBytes capture → BadLength most capture
+  long : leastBytes capture + 8 * most < length capture → BadLength most capture
+  not-as-stated : (headerWord capture 0 ≡ length capture → ⊥) → BadLength most capture
 
 -- 2
-pub data BadHeader (capture : List ℕ) : Type 0 where
-  count : (headerWord capture 1 ≡ 14 → ⊥) → (headerWord capture 1 ≡ 16 → ⊥) → BadHeader capture
-  settings-start : (headerWord capture 2 ≡ 24 → ⊥) → BadHeader capture
-  many : 8000 < headerWord capture 3 → BadHeader capture
-  events-start : (headerWord capture 4 ≡ leastBytes capture → ⊥) → BadHeader capture
-  edition : 1 < headerWord capture 5 → BadHeader capture
-  total : (headerWord capture 0 ≡ leastBytes capture + 8 * headerWord capture 3 → ⊥) → BadHeader capture
+pub data BadHeader (most : ℕ) (capture : List ℕ) : Type 0 where
+  count : (headerWord capture 1 ≡ 14 → ⊥) → (headerWord capture 1 ≡ 16 → ⊥) → BadHeader most capture
+  settings-start : (headerWord capture 2 ≡ 24 → ⊥) → BadHeader most capture
+  many : most < headerWord capture 3 → BadHeader most capture
+  events-start : (headerWord capture 4 ≡ leastBytes capture → ⊥) → BadHeader most capture
+  edition : 1 < headerWord capture 5 → BadHeader most capture
+  total : (headerWord capture 0 ≡ leastBytes capture + 8 * headerWord capture 3 → ⊥) → BadHeader most capture
 
 -- 3, of setting i by its row of the table; the mode word also by rule 2
 pub data BadSetting (ws : List ℕ) (i : ℕ) : Type 0 where
@@ -55,23 +53,30 @@ pub data BadEvent (capture : List ℕ) (i : ℕ) : Type 0 where
   not-above : 0 < i → eventIn capture i .cycle ≤ eventIn capture (i - 1) .cycle → BadEvent capture i
 
 -- nothing is wrong with the length and the header; nor with a setting
-pub record Framed (capture : List ℕ) : Type 0 where
-  pub length-fits : BadLength capture → ⊥
-  pub header-fits : BadHeader capture → ⊥
+pub record Framed (most : ℕ) (capture : List ℕ) : Type 0 where
+  pub length-fits : BadLength most capture → ⊥
+  pub header-fits : BadHeader most capture → ⊥
 
-pub record Limited (capture : List ℕ) : Type 0 where
-  pub framed : Framed capture
+pub record Limited (most : ℕ) (capture : List ℕ) : Type 0 where
+  pub framed : Framed most capture
   pub settings-fit : (i : ℕ) → i < countIn capture → BadSetting (settingWords capture) i → ⊥
 
 abbrev pub Contradicts : List ℕ → Type 0
 Contradicts ws = settingsOf ws .tRAS + settingsOf ws .tRP < settingsOf ws .tRC
 
-pub data CaptureRefused (capture : List ℕ) (number place : ℕ) : Type 0 where
-  bad-length : BadLength capture → number ≡ 1 → place ≡ 0 → CaptureRefused capture number place
-  bad-header : (BadLength capture → ⊥) → BadHeader capture → number ≡ 2 → place ≡ 0 → CaptureRefused capture number place
+pub data RefusedTo (most : ℕ) (capture : List ℕ) (number place : ℕ) : Type 0 where
+  bad-length : BadLength most capture → number ≡ 1 → place ≡ 0 → RefusedTo most capture number place
+  bad-header : (BadLength most capture → ⊥) → BadHeader most capture → number ≡ 2 → place ≡ 0 → RefusedTo most capture number place
   -- the lowest such setting; if there is none, tRC where it contradicts tRAS and tRP
-  bad-setting : Framed capture → number ≡ 3 → Lowest (BadSetting (settingWords capture)) (countIn capture) place → CaptureRefused capture number place
-  contradiction : Limited capture → Contradicts (settingWords capture) → number ≡ 3 → place ≡ 7 → CaptureRefused capture number place
+  bad-setting : Framed most capture → number ≡ 3 → Lowest (BadSetting (settingWords capture)) (countIn capture) place → RefusedTo most capture number place
+  contradiction : Limited most capture → Contradicts (settingWords capture) → number ≡ 3 → place ≡ 7 → RefusedTo most capture number place
   -- the lowest such event
-  bad-event : Limited capture → (Contradicts (settingWords capture) → ⊥) → number ≡ 4 → Lowest (BadEvent capture) (eventCount capture) place →
-      CaptureRefused capture number place
+  bad-event : Limited most capture → (Contradicts (settingWords capture) → ⊥) → number ≡ 4 → Lowest (BadEvent capture) (eventCount capture) place →
+      RefusedTo most capture number place
+
+-- a capture has at most 8,000 events, a recording as many as a word can count
+abbrev pub CaptureRefused : List ℕ → ℕ → ℕ → Type 0
+CaptureRefused = RefusedTo 8000
+
+abbrev pub RecordingRefused : List ℕ → ℕ → ℕ → Type 0
+RecordingRefused = RefusedTo (2 ^ 32 - 1)

@@ -6,7 +6,7 @@ use native.Mathlib.Omega.{arith}
 use lib.ListN.{length, take, length-take}
 use lib.Seq.{sets, length-sets}
 use Rattle.reading.specs.Settings.{settingsOf}
-use Rattle.reading.specs.Capture.{eventsStart, countIn}
+use Rattle.reading.specs.Capture.{eventsStart, countIn, mostEvents}
 use Rattle.reading.specs.Answers.{refused, answered, accepted, fitting}
 use Rattle.reading.specs.Blank.{blanked, blankOutcome}
 use Rattle.words.proofs.Runs.{sets-append}
@@ -26,7 +26,7 @@ use Rattle.hidden.specs.Meaning.{blankedFrom, blankedEvents, Writable}
 pub refused-so : (c out : List ℕ) {o : Checked} → check.means o ≡ opened c → {number place : ℕ} → o ≡ checked.Refused number place →
     Meets (refused number place) out (blankOutcome c out)
 unfolding blankOutcome
-refused-so c out told e = refused-meets (opening.refused-so c told _ e)
+refused-so c out told e = refused-meets (opening.refused-so mostEvents c told _ e)
 
 module _ (c : List ℕ) (open-to : Accepted c) where
   -- at most 64,088 bytes
@@ -42,16 +42,16 @@ module _ (c : List ℕ) (open-to : Accepted c) where
       refused-meets
       (accepted-rest c _ open-to ∙ too-long out (blanked c) (omega (arith, needed)) ∙ ap (λ (n : ℕ). refused 7 n) needed)
 
-module _ {c settings bytes : List ℕ} {n start : ℕ} (x : Opened c settings n bytes) (out : List ℕ) (room : length c ≤ length out)
+module _ {c settings bytes : List ℕ} {n start : ℕ} (x : Opened mostEvents c settings n bytes) (out : List ℕ) (room : length c ≤ length out)
     (g : start ≡ eventsStart (countIn c)) where
   abbrev head : List ℕ
   head = take start c
 
   head-length : length head ≡ start
-  head-length = simp length-take (omega (arith, long c (x .open-to), g))
+  head-length = simp length-take (omega (arith, long mostEvents c (x .open-to), g))
 
   pub copies : (start ≤ length c) × (start ≤ length out)
-  copies = let l = long c (x .open-to) in (omega arith, omega arith)
+  copies = let l = long mostEvents c (x .open-to) in (omega arith, omega arith)
 
   module _ {o₁ : List ℕ} (first : o₁ ≡ sets out 0 head) where
     pub writable : Writable settings bytes n o₁ start

@@ -29,7 +29,6 @@ eventsIn bytes n = map (eventAt bytes) (count 0 n)
 
 -- n events fit, and so do the settings
 pub record Fit (settings bytes : List ℕ) (n : ℕ) : Type 0 where
-  pub few : n ≤ 8000
   pub long : 8 * n ≤ length bytes
   pub rows : reading.settingsOf settings .rowBits < 32
   pub ticks : 0 < reading.settingsOf settings .tREFI

@@ -8,7 +8,7 @@ use settings::Settings;
 use settings::places::MODE;
 ghost use mathlib.Core.Path.{_≡_};
 ghost use Rattle.reading.specs.Settings.{settingsOf};
-ghost use Rattle.reading.specs.Answers.{judgeAnswer};
+ghost use Rattle.reading.specs.Answers.{judgeAnswerTo, judgeAnswer};
 ghost use Rattle.judge.specs.Meaning.{means, Fit, Started, verdictOn, deadlinesOn, paceOn};
 
 // What is said of a capture.
@@ -64,11 +64,11 @@ pub fn walk(s: &Settings, d: &mut Deadlines, pace: &mut Pace, bytes: &[u8], n: u
     }
 }
 
-// What document 01 says of these bytes as a capture.
-pub fn judge(capture: &[u8]) -> Verdict
-    ensures { λ r. ⌜ means r ≡ judgeAnswer (now (capture .entry)) ⌝ }
+// What is said of these bytes where there may be so many events.
+pub fn judge_to(capture: &[u8], most: u32) -> Verdict
+    ensures { λ r. ⌜ means r ≡ judgeAnswerTo most (now (capture .entry)) ⌝ }
 {
-    let checked = capture::open(capture);
+    let checked = capture::open_to(capture, most);
     if let Checked::Refused { number, place } = checked {
         return Verdict::Refused { number, place };
     }
@@ -78,4 +78,11 @@ pub fn judge(capture: &[u8]) -> Verdict
     let mut pace = sums::pace(settings[MODE]);
     let bytes = capture::event_bytes(capture);
     walk(&settings, &mut deadlines, &mut pace, bytes, n)
+}
+
+// What document 01 says of them as a capture.
+pub fn judge(capture: &[u8]) -> Verdict
+    ensures { λ r. ⌜ means r ≡ judgeAnswer (now (capture .entry)) ⌝ }
+{
+    judge_to(capture, capture::MOST_EVENTS)
 }

@@ -12,7 +12,7 @@ use lib.ListN.{length, length-append, length-map, length-reverse, getD}
 use Rattle.reading.specs.Search.{find, lowest, orElse, given}
 use Rattle.reading.specs.Search as search
 use Rattle.reading.specs.Settings.{Settings, settingsOf, settingFits, outOfRange, contradiction, badSetting}
-use Rattle.reading.specs.Capture.{Event, eventCount, settingWords, eventBytes, eventAt, eventsOf, lengthFits, headerFits, pinLimit, eventFits, badEvent}
+use Rattle.reading.specs.Capture.{Event, mostEvents, eventCount, settingWords, eventBytes, eventAt, eventsOf, lengthFitsTo, headerFitsTo, pinLimit, eventFits, badEvent}
 use Rattle.reading.specs.Commands.{READ, WRITE, among, commandOf}
 use Rattle.reading.specs.Bursts.{Burst, beatCell, burstCells}
 use Rattle.reading.specs.Part.{Part, start, step, run, cutBy, burstGiven}
@@ -20,12 +20,12 @@ use Rattle.reading.specs.Rules.{rules, placing}
 use Rattle.reading.specs.Verdict as is
 use Rattle.reading.specs.Cells.{burstsOf, cellsOf}
 use Rattle.reading.specs.Schedule.{Schedule, planned, late, policyFits, closesRows, requestFits, badRequest, scheduleFrom, scheduleBy, scheduleOf, served, whenServed, captureOf}
-use Rattle.reading.specs.Answers.{Answer, Report, refused, answered, unless, accepted, settingsIn, verdictIn, judgeAnswer, leaves, fitting, notClean, cellsIn, cellsOutcome, whenPlanned, scheduleOutcome}
+use Rattle.reading.specs.Answers.{Answer, Report, refused, answered, unless, acceptedTo, settingsIn, verdictIn, judgeAnswerTo, leaves, fitting, notClean, cellsIn, cellsOutcome, whenPlanned, scheduleOutcome}
 use Rattle.reading.specs.Blank.{blanked, blankOutcome}
 use Rattle.reading.proofs.Meaning.{BrokenAt, verdict-broken}
 use Rattle.reading.proofs.Cuts.{All, nil, cons, Whole, bursts-whole}
 use Rattle.reading.proofs.Laws.{not-given}
-use Rattle.capture.specs.Calls.{Accepted}
+use Rattle.capture.specs.Calls.{AcceptedTo, Accepted}
 use Rattle.capture.proofs.Accepted.{sized, count-range, words-count, accepted-sound}
 use Rattle.capture.proofs.Whole.{size}
 use Rattle.beats.proofs.Columns.{half-le}
@@ -63,8 +63,9 @@ below f n i e = omega (arith, counted f 0 n i e)
 
 -- ---- a capture: refused with a number from 1 to 4 and a small place, or short
 
-few : (capture : List ℕ) → given 0 (not (lengthFits capture)) ≡ none → given 0 (not (headerFits capture)) ≡ none → eventCount capture ≤ 8000
-few capture a b = sized capture (not-false _ (not-given 0 _ a)) (not-false _ (not-given 0 _ b)) .few
+few : (most : ℕ) (capture : List ℕ) → given 0 (not (lengthFitsTo most capture)) ≡ none → given 0 (not (headerFitsTo most capture)) ≡ none →
+    eventCount capture ≤ most
+few most capture a b = sized capture most (not-false _ (not-given 0 _ a)) (not-false _ (not-given 0 _ b)) .few
 
 at-given : (k : ℕ) → Value k → (b : Bool) (place : ℕ) → given k b ≡ some place → Value place
 at-given k small true place e = let z : k ≡ place = cc in rw (sym z) small
@@ -81,30 +82,30 @@ bad-setting ws place l e = go (outOfRange ws (length ws)) refl e
     go none p e = at-given 7 (omega arith) (ltb (getD ws 6 0 + getD ws 5 0) (getD ws 7 0)) place e
     go (some i) p e = omega (arith, below (λ i. not (settingFits i (getD ws i 0))) (length ws) place (p ∙ e))
 
-bad-event : (limit : ℕ) (bytes : List ℕ) (n place : ℕ) → n ≤ 8000 → badEvent limit bytes n ≡ some place → Value place
+bad-event : (limit : ℕ) (bytes : List ℕ) (n place : ℕ) → Value n → badEvent limit bytes n ≡ some place → Value place
 unfolding badEvent
 bad-event limit bytes n place l e = omega (arith, below (λ i. not (eventFits limit bytes i)) n place e)
 
 -- what holds of small refusals, and of what follows where a capture is accepted, holds
-pub on-accepted : {A : Type 0} (P : Answer A → Type 0) (capture : List ℕ) (rest : Answer A) →
-    ((number place : ℕ) → Number number → Value place → P (refused number place)) → (Accepted capture → P rest) → P (accepted capture rest)
-unfolding accepted
-on-accepted {A} P capture rest refusing going-on =
-    go (given 0 (not (lengthFits capture))) (given 0 (not (headerFits capture))) (badSetting (settingWords capture)) (badEvent (pinLimit capture) (eventBytes capture) (eventCount capture))
-    refl refl refl refl
+pub on-accepted : {A : Type 0} (P : Answer A → Type 0) (most : ℕ) → Value most → (capture : List ℕ) (rest : Answer A) →
+    ((number place : ℕ) → Number number → Value place → P (refused number place)) → (AcceptedTo most capture → P rest) → P (acceptedTo most capture rest)
+unfolding acceptedTo
+on-accepted {A} P most small capture rest refusing going-on =
+    go (given 0 (not (lengthFitsTo most capture))) (given 0 (not (headerFitsTo most capture))) (badSetting (settingWords capture))
+    (badEvent (pinLimit capture) (eventBytes capture) (eventCount capture)) refl refl refl refl
   where
-    go : (a b c d : Option ℕ) → given 0 (not (lengthFits capture)) ≡ a → given 0 (not (headerFits capture)) ≡ b → badSetting (settingWords capture) ≡ c →
+    go : (a b c d : Option ℕ) → given 0 (not (lengthFitsTo most capture)) ≡ a → given 0 (not (headerFitsTo most capture)) ≡ b → badSetting (settingWords capture) ≡ c →
         badEvent (pinLimit capture) (eventBytes capture) (eventCount capture) ≡ d → P (unless 1 a (unless 2 b (unless 3 c (unless 4 d rest))))
-    go (some place) b c d p q r s = refusing 1 place (omega arith) (at-zero (not (lengthFits capture)) place p)
-    go none (some place) c d p q r s = refusing 2 place (omega arith) (at-zero (not (headerFits capture)) place q)
+    go (some place) b c d p q r s = refusing 1 place (omega arith) (at-zero (not (lengthFitsTo most capture)) place p)
+    go none (some place) c d p q r s = refusing 2 place (omega arith) (at-zero (not (headerFitsTo most capture)) place q)
     go none none (some place) d p q r s = refusing 3 place (omega arith) (bad-setting (settingWords capture) place (omega (arith, words-count capture, count-range capture .1)) r)
-    go none none none (some place) p q r s = refusing 4 place (omega arith) (bad-event (pinLimit capture) (eventBytes capture) (eventCount capture) place (few capture p q) s)
+    go none none none (some place) p q r s = refusing 4 place (omega arith) (bad-event (pinLimit capture) (eventBytes capture) (eventCount capture) place (omega (arith, few most capture p q)) s)
     go none none none none p q r s = going-on (rw (p, q, r, s))
 
 -- ---- the judge
 
-pub accepted-few : (capture : List ℕ) → Accepted capture → eventCount capture ≤ 8000
-accepted-few capture open-to = accepted-sound capture open-to .sized .few
+pub accepted-few : (most : ℕ) → Value most → (capture : List ℕ) → AcceptedTo most capture → Value (eventCount capture)
+accepted-few most small capture open-to = omega (arith, accepted-sound capture open-to .sized .few)
 
 -- each rule has a number of eight bits
 abbrev Each : List ℕ → Type 0
@@ -122,7 +123,7 @@ member (y ∷ ys) z x m = go (List·Memᴰ·cases-cons m) (member ys (z .1) x)
 rules-fit : Each rules
 rules-fit = omega arith
 
-module _ (capture : List ℕ) (short : eventCount capture ≤ 8000) where
+module _ (capture : List ℕ) (short : Value (eventCount capture)) where
   pub events-length : length (eventsOf capture) ≡ eventCount capture
   unfolding eventsOf
   events-length = length-map (search.count 0 (eventCount capture)) (eventAt (eventBytes capture)) ∙ length-count 0 (eventCount capture)
@@ -147,11 +148,11 @@ module _ (capture : List ℕ) (short : eventCount capture ≤ 8000) where
       let z : event ≡ place = cc in
       omega (arith, broken-fits rule event cycle e .1)
 
-pub judge-fits : (capture : List ℕ) → Fits (judgeTold (judgeAnswer capture))
-unfolding judgeAnswer
-judge-fits capture =
-    on-accepted (λ (a : Answer Report). Fits (judgeTold a)) capture _ (λ number place n v. (n, v))
-    (λ open-to. verdict-fits capture (accepted-few capture open-to) (verdictIn capture) refl)
+pub judge-fits : (most : ℕ) → Value most → (capture : List ℕ) → Fits (judgeTold (judgeAnswerTo most capture))
+unfolding judgeAnswerTo
+judge-fits most small capture =
+    on-accepted (λ (a : Answer Report). Fits (judgeTold a)) most small capture _ (λ number place n v. (n, v))
+    (λ open-to. verdict-fits capture (accepted-few most small capture open-to) (verdictIn capture) refl)
 
 -- ---- calls that fill a buffer
 
@@ -202,16 +203,17 @@ unfolding cellsIn
 cells-few capture short =
     let s = settingsIn capture in
     let xs = burstsOf s (eventsOf capture) in
-    omega (arith, cells-length s xs (bursts-whole s (eventsOf capture)), bursts-length s (eventsOf capture), events-length capture short)
+    omega (arith, cells-length s xs (bursts-whole s (eventsOf capture)), bursts-length s (eventsOf capture), events-length capture (omega arith))
 
 pub cells-fits : (capture buffer : List ℕ) → Fits (countTold (cellsOutcome capture buffer .answer))
 unfolding cellsOutcome
 cells-fits capture buffer =
-    on-accepted (Filled buffer) capture _ (λ number place n v. (n, v)) (λ open-to. go (accepted-few capture open-to) (notClean (verdictIn capture)) refl)
+    on-accepted (Filled buffer) mostEvents (omega arith) capture _ (λ number place n v. (n, v))
+    (λ open-to. go (accepted-sound capture open-to .sized .few) (notClean (verdictIn capture)) refl)
   where
     go : eventCount capture ≤ 8000 → (o : Option ℕ) → notClean (verdictIn capture) ≡ o → Filled buffer (unless 8 o (fitting buffer (cellsIn capture)))
     go short none e = room buffer (cellsIn capture) (cells-few capture short)
-    go short (some place) e = (omega arith, not-clean-fits capture short (verdictIn capture) refl place e)
+    go short (some place) e = (omega arith, not-clean-fits capture (omega arith) (verdictIn capture) refl place e)
 
 -- ---- captures blanked: at most 64,088 bytes
 
@@ -223,7 +225,8 @@ blanked-few capture open-to =
 pub blank-fits : (capture buffer : List ℕ) → Fits (countTold (blankOutcome capture buffer .answer))
 unfolding blankOutcome
 blank-fits capture buffer =
-    on-accepted (Filled buffer) capture _ (λ number place n v. (n, v)) (λ open-to. room buffer (blanked capture) (blanked-few capture open-to))
+    on-accepted (Filled buffer) mostEvents (omega arith) capture _ (λ number place n v. (n, v))
+    (λ open-to. room buffer (blanked capture) (blanked-few capture open-to))
 
 -- ---- schedules
 

@@ -1,5 +1,5 @@
 -- The packing loses nothing: what was told is got back from the number, and the whole answer from it and the capture.
-use Prim.Native.Nat.{ℕ, _^_, _≤_, _<_}
+use Prim.Native.Nat.{ℕ, _^_, _<_}
 use mathlib.Core.Bool.{false}
 use mathlib.Core.List.{List}
 use mathlib.Core.Path.{_≡_, refl, sym, ap, _∙_}
@@ -7,9 +7,9 @@ use native.Mathlib.Nat.{zero-add}
 use native.Mathlib.Omega.{arith}
 use borrow.Author.Tests.{ne-eqb}
 use lib.Dec.{eqb}
-use Rattle.reading.specs.Capture.{Event, eventCount, eventBytes, eventAt, eventsOf}
+use Rattle.reading.specs.Capture.{Event, mostEvents, mostRecorded, eventCount, eventBytes, eventAt, eventsOf}
 use Rattle.reading.specs.Verdict as is
-use Rattle.reading.specs.Answers.{Answer, Report, refused, answered, verdictIn, judgeAnswer, cellsOutcome, scheduleOutcome}
+use Rattle.reading.specs.Answers.{Answer, Report, refused, answered, verdictIn, judgeAnswerTo, judgeAnswer, recordingAnswer, cellsOutcome, scheduleOutcome}
 use Rattle.reading.specs.Blank.{blankOutcome}
 use Rattle.reading.proofs.Meaning.{eventOf}
 use Rattle.words.proofs.Counting.{at-count}
@@ -37,11 +37,19 @@ unpacked-packed (breach rule event) f = word-back 0 rule event (omega arith) (f 
 
 -- Two captures with the same number have the same refusal and place, the same count of judged events, or the same rule
 -- and event. How many events a broken capture holds and the cycle of the broken one are not in the number.
+tells-to : (most : ℕ) → Value most → (a b : List ℕ) → packed (judgeTold (judgeAnswerTo most a)) ≡ packed (judgeTold (judgeAnswerTo most b)) →
+    judgeTold (judgeAnswerTo most a) ≡ judgeTold (judgeAnswerTo most b)
+tells-to most small a b e = sym (unpacked-packed _ (judge-fits most small a)) ∙ ap unpacked e ∙ unpacked-packed _ (judge-fits most small b)
+
 pub judge-tells : (a b : List ℕ) → packed (judgeTold (judgeAnswer a)) ≡ packed (judgeTold (judgeAnswer b)) →
     judgeTold (judgeAnswer a) ≡ judgeTold (judgeAnswer b)
-judge-tells a b e = sym (unpacked-packed _ (judge-fits a)) ∙ ap unpacked e ∙ unpacked-packed _ (judge-fits b)
+judge-tells = tells-to mostEvents (omega arith)
 
-module _ (capture : List ℕ) (short : eventCount capture ≤ 8000) where
+pub recording-tells : (a b : List ℕ) → packed (judgeTold (recordingAnswer a)) ≡ packed (judgeTold (recordingAnswer b)) →
+    judgeTold (recordingAnswer a) ≡ judgeTold (recordingAnswer b)
+recording-tells = tells-to mostRecorded (omega arith)
+
+module _ (capture : List ℕ) (short : Value (eventCount capture)) where
   -- the cycle of the broken event stands in the capture
   cycle-is : (rule event cycle : ℕ) → verdictIn capture ≡ is.broken rule event cycle → eventAt (eventBytes capture) event .cycle ≡ cycle
   unfolding eventsOf
@@ -60,15 +68,22 @@ module _ (capture : List ℕ) (short : eventCount capture ≤ 8000) where
   report-back (is.broken rule event cycle) e =
       ap (λ (t : ℕ). answered (record { events = eventCount capture; judged = event; verdict = is.broken rule event t })) (cycle-is rule event cycle e)
 
-told-back : (capture : List ℕ) → judgeAnswerOf capture (judgeTold (judgeAnswer capture)) ≡ judgeAnswer capture
-unfolding judgeAnswer
-told-back capture =
-    on-accepted (λ (a : Answer Report). judgeAnswerOf capture (judgeTold a) ≡ a) capture _ (λ number place n v. refl)
-    (λ open-to. report-back capture (accepted-few capture open-to) (verdictIn capture) refl)
+module _ (most : ℕ) (small : Value most) (capture : List ℕ) where
+  told-back : judgeAnswerOf capture (judgeTold (judgeAnswerTo most capture)) ≡ judgeAnswerTo most capture
+  unfolding judgeAnswerTo
+  told-back =
+      on-accepted (λ (a : Answer Report). judgeAnswerOf capture (judgeTold a) ≡ a) most small capture _ (λ number place n v. refl)
+      (λ open-to. report-back capture (accepted-few most small capture open-to) (verdictIn capture) refl)
 
--- with the capture at hand nothing at all is lost
+  back-to : judgeAnswerOf capture (unpacked (packed (judgeTold (judgeAnswerTo most capture)))) ≡ judgeAnswerTo most capture
+  back-to = ap (judgeAnswerOf capture) (unpacked-packed (judgeTold (judgeAnswerTo most capture)) (judge-fits most small capture)) ∙ told-back
+
+-- with the capture, or the recording, at hand nothing at all is lost
 pub judge-back : (capture : List ℕ) → judgeAnswerOf capture (unpacked (packed (judgeTold (judgeAnswer capture)))) ≡ judgeAnswer capture
-judge-back capture = ap (judgeAnswerOf capture) (unpacked-packed (judgeTold (judgeAnswer capture)) (judge-fits capture)) ∙ told-back capture
+judge-back = back-to mostEvents (omega arith)
+
+pub recording-back : (recording : List ℕ) → judgeAnswerOf recording (unpacked (packed (judgeTold (recordingAnswer recording)))) ≡ recordingAnswer recording
+recording-back = back-to mostRecorded (omega arith)
 
 -- ---- the calls that fill a buffer: the number alone tells the answer
 

@@ -2,21 +2,21 @@
 use Prim.Native.Nat.{ℕ}
 use mathlib.Core.List.{List}
 use mathlib.Core.Path.{_≡_, sym, ap, _∙_, subst}
-use Rattle.reading.specs.Answers.{Answer, judgeAnswer}
+use Rattle.reading.specs.Answers.{Answer, judgeAnswerTo}
 use Rattle.judge.specs.declared.Verdict.{Verdict}
 use Rattle.judge.specs.Meaning.{means}
 use Rattle.morgazell.specs.Packing.{packed, judgeTold, countTold}
-use Rattle.morgazell.proofs.Fitting.{Fits, judge-fits}
+use Rattle.morgazell.proofs.Fitting.{Value, Fits, judge-fits}
 
 -- a verdict v that is w
-module _ (capture : List ℕ) {v w : Verdict} (said : means v ≡ judgeAnswer capture) (is : v ≡ w) where
-  tells : judgeTold (judgeAnswer capture) ≡ judgeTold (means w)
+module _ (most : ℕ) (capture : List ℕ) {v w : Verdict} (said : means v ≡ judgeAnswerTo most capture) (is : v ≡ w) where
+  tells : judgeTold (judgeAnswerTo most capture) ≡ judgeTold (means w)
   tells = ap judgeTold (sym said ∙ ap means is)
 
-  pub verdict-fits : Fits (judgeTold (means w))
-  verdict-fits = subst Fits tells (judge-fits capture)
+  pub verdict-fits : Value most → Fits (judgeTold (means w))
+  verdict-fits small = subst Fits tells (judge-fits most small capture)
 
-  pub verdict-packed : packed (judgeTold (means w)) ≡ packed (judgeTold (judgeAnswer capture))
+  pub verdict-packed : packed (judgeTold (means w)) ≡ packed (judgeTold (judgeAnswerTo most capture))
   verdict-packed = ap packed (sym tells)
 
 -- an answer a with the meaning f, that is b

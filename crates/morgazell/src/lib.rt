@@ -5,7 +5,7 @@ use judge::Verdict;
 use schedule::Scheduled;
 ghost use mathlib.Core.Path.{_≡_};
 ghost use Prim.Native.Nat.{_<_};
-ghost use Rattle.reading.specs.Answers.{judgeAnswer, cellsOutcome, scheduleOutcome};
+ghost use Rattle.reading.specs.Answers.{judgeAnswerTo, judgeAnswer, recordingAnswer, cellsOutcome, scheduleOutcome};
 ghost use Rattle.reading.specs.Blank.{blankOutcome};
 ghost use Rattle.version.specs.Version.{version};
 ghost use Rattle.morgazell.specs.Packing.{word, packed, judgeTold, countTold};
@@ -21,17 +21,32 @@ fn pack(number: u32, rule: u32, value: u32) -> u64
     REFUSAL * (number as u64) + RULE * (rule as u64) + (value as u64)
 }
 
-// What document 01 says of these bytes as a capture.
-#[no_mangle]
-pub extern "C" fn morgazell_judge(capture: &[u8]) -> u64
-    ensures { λ r. ⌜ r ≡ packed (judgeTold (judgeAnswer (now (capture .entry)))) ⌝ }
+// What is said of these bytes where there may be so many events.
+fn judge_to(capture: &[u8], most: u32) -> u64
+    ensures { λ r. ⌜ r ≡ packed (judgeTold (judgeAnswerTo most (now (capture .entry)))) ⌝ }
 {
-    let verdict = judge::judge(capture);
+    let verdict = judge::judge_to(capture, most);
     match verdict {
         Verdict::Refused { number, place } => pack(number, 0, place),
         Verdict::Clean { judged, .. } => pack(0, 0, judged),
         Verdict::Broken { rule, event, .. } => pack(0, rule, event),
     }
+}
+
+// What document 01 says of these bytes as a capture.
+#[no_mangle]
+pub extern "C" fn morgazell_judge(capture: &[u8]) -> u64
+    ensures { λ r. ⌜ r ≡ packed (judgeTold (judgeAnswer (now (capture .entry)))) ⌝ }
+{
+    judge_to(capture, capture::MOST_EVENTS)
+}
+
+// The same of a recording: as many events as the header's words can state.
+#[no_mangle]
+pub extern "C" fn morgazell_recording(recording: &[u8]) -> u64
+    ensures { λ r. ⌜ r ≡ packed (judgeTold (recordingAnswer (now (recording .entry)))) ⌝ }
+{
+    judge_to(recording, capture::MOST_RECORDED)
 }
 
 // The cells of the bursts in these bytes as a capture; what lies behind them in the buffer stays.

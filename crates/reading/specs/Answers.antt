@@ -7,7 +7,7 @@ use lib.ListN.{length, drop}
 use lib.Dec.{ltb, eqb}
 use Rattle.reading.specs.Search.{given}
 use Rattle.reading.specs.Settings.{Settings, settingsCount, settingsOf, inEdition, badSetting}
-use Rattle.reading.specs.Capture.{Event, eventCount, editionIn, settingWords, eventBytes, eventsOf, lengthFits, headerFits, pinLimit, badEvent}
+use Rattle.reading.specs.Capture.{Event, eventCount, editionIn, settingWords, eventBytes, eventsOf, mostEvents, mostRecorded, lengthFitsTo, headerFitsTo, pinLimit, badEvent}
 use Rattle.reading.specs.Verdict.{Verdict, clean, broken, verdictOf, judgedOf}
 use Rattle.reading.specs.Cells.{burstsOf, cellsOf}
 use Rattle.reading.specs.Schedule.{Schedule, planned, late, policyFits, badRequest, scheduleOf, captureOf}
@@ -27,12 +27,16 @@ unless number (some place) rest = refused number place
 abbrev pub settingsIn : List ℕ → Settings
 settingsIn capture = inEdition (editionIn capture) (settingsOf (settingWords capture))
 
-unfoldable pub accepted : {A : Type 0} → List ℕ → Answer A → Answer A
-accepted capture rest =
-    unless 1 (given 0 (not (lengthFits capture)))
-    (unless 2 (given 0 (not (headerFits capture)))
+-- where there may be so many events
+unfoldable pub acceptedTo : {A : Type 0} → ℕ → List ℕ → Answer A → Answer A
+acceptedTo most capture rest =
+    unless 1 (given 0 (not (lengthFitsTo most capture)))
+    (unless 2 (given 0 (not (headerFitsTo most capture)))
     (unless 3 (badSetting (settingWords capture))
     (unless 4 (badEvent (pinLimit capture) (eventBytes capture) (eventCount capture)) rest)))
+
+abbrev pub accepted : {A : Type 0} → List ℕ → Answer A → Answer A
+accepted capture rest = acceptedTo mostEvents capture rest
 
 -- ---- judging
 
@@ -44,15 +48,22 @@ pub record Report : Type 0 where
 unfoldable pub verdictIn : List ℕ → Verdict
 verdictIn capture = verdictOf (settingsIn capture) (eventsOf capture)
 
-unfoldable pub judgeAnswer : List ℕ → Answer Report
-judgeAnswer capture =
-    accepted capture
+unfoldable pub judgeAnswerTo : ℕ → List ℕ → Answer Report
+judgeAnswerTo most capture =
+    acceptedTo most capture
     (answered
     (record {
       events = eventCount capture;
       judged = judgedOf (eventCount capture) (verdictIn capture);
       verdict = verdictIn capture;
     }))
+
+abbrev pub judgeAnswer : List ℕ → Answer Report
+judgeAnswer = judgeAnswerTo mostEvents
+
+-- of a recording: the same bytes, the same rules, and no limit but what a word can state
+abbrev pub recordingAnswer : List ℕ → Answer Report
+recordingAnswer = judgeAnswerTo mostRecorded
 
 -- ---- calls that fill a lent buffer from its front; the answer is how many elements were written
 

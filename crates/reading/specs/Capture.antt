@@ -36,8 +36,12 @@ eventsStart settings = settingsStart + 4 * settings
 abbrev pub captureSize : ℕ → ℕ → ℕ
 captureSize settings n = eventsStart settings + 8 * n
 
+-- a capture has at most so many events; a recording has as many as a word can count, if a word can state its bytes
 abbrev pub mostEvents : ℕ
 mostEvents = 8000
+
+abbrev pub mostRecorded : ℕ
+mostRecorded = 2 ^ 32 - 1
 
 abbrev pub newestEdition : ℕ
 newestEdition = 1
@@ -60,21 +64,28 @@ unfoldable pub eventsOf : List ℕ → List Event
 eventsOf capture = map (eventAt (eventBytes capture)) (count 0 (eventCount capture))
 
 -- at least as long as without events, at most as long as with the most, and as long as the first header word says
-unfoldable pub lengthFits : List ℕ → Bool
-lengthFits capture =
+unfoldable pub lengthFitsTo : ℕ → List ℕ → Bool
+lengthFitsTo most capture =
     leb (captureSize (countIn capture) 0) (length capture)
-    && leb (length capture) (captureSize (countIn capture) mostEvents)
+    && leb (length capture) (captureSize (countIn capture) most)
     && eqb (headerWord capture 0) (length capture)
 
 -- every other header word is as it should be, and the total is that of N events
-unfoldable pub headerFits : List ℕ → Bool
-headerFits capture =
+unfoldable pub headerFitsTo : ℕ → List ℕ → Bool
+headerFitsTo most capture =
     eqb (headerWord capture 1) (countIn capture)
     && eqb (headerWord capture 2) settingsStart
-    && leb (eventCount capture) mostEvents
+    && leb (eventCount capture) most
     && eqb (headerWord capture 4) (eventsStart (countIn capture))
     && leb (editionIn capture) newestEdition
     && eqb (headerWord capture 0) (captureSize (countIn capture) (eventCount capture))
+
+-- of a capture
+abbrev pub lengthFits : List ℕ → Bool
+lengthFits = lengthFitsTo mostEvents
+
+abbrev pub headerFits : List ℕ → Bool
+headerFits = headerFitsTo mostEvents
 
 abbrev pub lastCycle : ℕ
 lastCycle = 2000000000

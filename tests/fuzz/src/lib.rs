@@ -20,7 +20,7 @@ use std::slice;
 use second::archive::Archive;
 use second::capture::{SETTINGS, SLEEP_SETTINGS};
 use second::schedule::OPEN_ROWS;
-use second::{blank, c, cells, judge, packed, schedule};
+use second::{blank, c, cells, judge, judge_recording, packed, schedule};
 
 const FENCE: usize = 8;
 const UNTOUCHED: u32 = 0xa5c3_965a;
@@ -76,6 +76,11 @@ fn compare_captures(archive: &mut Archive, capture: &[u8], room: usize) {
     same("judge, C", &expected, &c::judge(capture));
     let found = archive.judge(capture).expect("the archive");
     same("judge, archive", &expected, &found);
+
+    // The C has no recordings.
+    let expected = packed::of_answer(judge_recording(capture));
+    let found = archive.recording(capture).expect("the archive");
+    same("recording, archive", &expected, &found);
 
     let needed = cells(capture, &mut vec![0; MOST_CELLS]).ok();
     let lent = length(needed, room);

@@ -16,6 +16,7 @@ enum Function {
     Cells = 2,
     Schedule = 3,
     Blank = 4,
+    Recording = 5,
 }
 
 pub struct Archive {
@@ -45,6 +46,11 @@ impl Archive {
     pub fn judge(&mut self, capture: &[u8]) -> io::Result<u64> {
         let counts = [capture.len(), 0, 0, 0];
         self.ask(Function::Judge, counts, capture.to_vec(), &mut [])
+    }
+
+    pub fn recording(&mut self, recording: &[u8]) -> io::Result<u64> {
+        let counts = [recording.len(), 0, 0, 0];
+        self.ask(Function::Recording, counts, recording.to_vec(), &mut [])
     }
 
     pub fn cells(&mut self, capture: &[u8], out: &mut [u32], lent: usize) -> io::Result<u64> {

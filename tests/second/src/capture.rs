@@ -242,7 +242,7 @@ impl Event {
     }
 }
 
-/// A capture that none of refusals 1 to 4 turns down.
+/// A capture, or a recording, that none of refusals 1 to 4 turns down.
 #[derive(Clone, Debug, PartialEq, Eq)]
 pub struct Capture {
     pub edition: Edition,
@@ -252,8 +252,13 @@ pub struct Capture {
 
 impl Capture {
     pub fn read(bytes: &[u8]) -> Result<Capture, Refusal> {
-        check_length(bytes)?;
-        let edition = check_header(bytes)?;
+        Capture::read_to(bytes, Some(MOST_EVENTS))
+    }
+
+    /// With at most so many events; a recording has no such limit.
+    pub fn read_to(bytes: &[u8], most: Option<u32>) -> Result<Capture, Refusal> {
+        check_length(bytes, most)?;
+        let edition = check_header(bytes, most)?;
         let events_at = events_at(settings_of_layout(bytes));
         let settings = Settings::read(&words(&bytes[HEADER_BYTES..events_at]))?;
         let events = read_events(&bytes[events_at..], pin_bits(&settings))?;
@@ -266,21 +271,21 @@ impl Capture {
 }
 
 /// Refusal 1.
-fn check_length(bytes: &[u8]) -> Result<(), Refusal> {
+fn check_length(bytes: &[u8], most: Option<u32>) -> Result<(), Refusal> {
     let settings = settings_of_layout(bytes);
-    let least = total_bytes(settings, 0);
-    let most = total_bytes(settings, MOST_EVENTS);
-    if (bytes.len() as u64) < least || bytes.len() as u64 > most {
+    let length = bytes.len() as u64;
+    let too_long = most.is_some_and(|most| length > total_bytes(settings, most));
+    if length < total_bytes(settings, 0) || too_long {
         return refused(1, 0);
     }
-    if bytes.len() as u64 != u64::from(word(bytes, 0)) {
+    if length != u64::from(word(bytes, 0)) {
         return refused(1, 0);
     }
     Ok(())
 }
 
 /// Refusal 2, or the edition.
-fn check_header(bytes: &[u8]) -> Result<Edition, Refusal> {
+fn check_header(bytes: &[u8], most: Option<u32>) -> Result<Edition, Refusal> {
     let header = words(&bytes[..HEADER_BYTES]);
     let [total, settings_count, settings_at, events_count, events_at, edition] = header[..] else {
         unreachable!("the header is six words");
@@ -288,7 +293,7 @@ fn check_header(bytes: &[u8]) -> Result<Edition, Refusal> {
     let settings = settings_of_layout(bytes);
     let as_stated = settings_count == settings as u32
         && settings_at == HEADER_BYTES as u32
-        && events_count <= MOST_EVENTS
+        && most.is_none_or(|most| events_count <= most)
         && events_at as usize == self::events_at(settings);
     // In 64 bits, so that no event count wraps round to a fitting total.
     let total_fits = u64::from(total) == total_bytes(settings, events_count);

@@ -10,7 +10,7 @@ mod settings;
 mod tally;
 
 pub use addresses::other_addresses;
-pub use captures::{busy_capture, guided_capture};
+pub use captures::{busy_capture, guided_capture, long_recording};
 pub use damage::damaged_capture;
 pub use dice::Dice;
 pub use requests::{request_list, row_policy};

@@ -26,5 +26,5 @@ pub use memory::{plain, replay, Outcome};
 pub use month::month;
 pub use play::play;
 pub use schedule::schedule;
-pub use verdict::{cells, judge, Answer};
+pub use verdict::{cells, judge, judge_recording, Answer};
 pub use why::{kept, why};

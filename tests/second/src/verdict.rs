@@ -1,6 +1,6 @@
 //! The judge and the burst list.
 
-use crate::capture::{refused, Capture, Event, Refusal};
+use crate::capture::{refused, Capture, Event, Refusal, MOST_EVENTS};
 use crate::part::{LookBack, Part};
 use crate::rules::lowest_broken;
 
@@ -23,16 +23,26 @@ pub enum Answer {
 }
 
 pub fn judge(capture: &[u8]) -> Answer {
-    judge_looking_back(capture, LookBack::Running)
+    judge_to(capture, Some(MOST_EVENTS))
+}
+
+/// A recording is judged as a capture is, however many events it has.
+pub fn judge_recording(recording: &[u8]) -> Answer {
+    judge_to(recording, None)
+}
+
+/// With at most so many events, or any number.
+pub fn judge_to(capture: &[u8], most: Option<u32>) -> Answer {
+    judge_looking_back(capture, most, LookBack::Running)
 }
 
 /// The judge with every burst in view, however long ago it was.
 pub fn judge_literally(capture: &[u8]) -> Answer {
-    judge_looking_back(capture, LookBack::All)
+    judge_looking_back(capture, Some(MOST_EVENTS), LookBack::All)
 }
 
-fn judge_looking_back(capture: &[u8], look_back: LookBack) -> Answer {
-    match Capture::read(capture) {
+fn judge_looking_back(capture: &[u8], most: Option<u32>, look_back: LookBack) -> Answer {
+    match Capture::read_to(capture, most) {
         Err(Refusal { number, place }) => Answer::Refused { number, place },
         Ok(capture) => match walk(&capture, look_back) {
             Ok(_) => Answer::Clean {

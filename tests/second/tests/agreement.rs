@@ -4,10 +4,10 @@
 use second::capture::{
     bytes_of_edition, word, Capture, Edition, Refusal, HEADER_BYTES, SETTINGS, SLEEP_SETTINGS,
 };
-use second::generate::{input, other_addresses, Dice, Input, Tally, NO_RULE};
+use second::generate::{input, long_recording, other_addresses, Dice, Input, Tally, NO_RULE};
 use second::schedule::schedule_literally;
 use second::verdict::{cells_literally, judge_literally};
-use second::{blank, c, cells, judge, packed, plain, replay, schedule, Answer};
+use second::{blank, c, cells, judge, judge_recording, packed, plain, replay, schedule, Answer};
 
 const SEED: u64 = 1;
 const INPUTS: usize = 40_000;
@@ -65,6 +65,7 @@ fn everything_comes_up() {
                 let answer = judge(&capture);
                 tally.count_answer(&capture, answer);
                 full_and_clean += u32::from(answer == Answer::Clean { judged: 8_000 });
+                tally.count_recording(&capture, judge_recording(&capture));
                 tally.count_cells(&capture, cells(&capture, &mut [0; 40]));
                 tally.count_blank(&capture, blank(&capture, &mut [0; 300]));
                 if let Ok(read) = Capture::read(&capture) {
@@ -81,6 +82,10 @@ fn everything_comes_up() {
                 tally.count_schedule(&settings, policy, answer);
             }
         }
+    }
+    for _ in 0..20 {
+        let recording = long_recording(&mut dice);
+        tally.count_recording(&recording, judge_recording(&recording));
     }
     println!("{tally}");
     assert_eq!(tally.missing(), [""; 0]);

@@ -1,6 +1,6 @@
 use borrow.Author.Tests.{le-leb, lt-leb, eq-eqb, ne-eqb}
 use borrow.Author.Needs.{needs}
-use Rattle.reading.specs.Capture.{headerFits}
+use Rattle.reading.specs.Capture.{headerFitsTo}
 use Rattle.capture.proofs.bad_header.Statement.{statement}
 use Rattle.capture.proofs.bad_header.Tie as tie
 
@@ -11,7 +11,7 @@ word-at-requires : tie.Need-word-at-requires
 word-at-requires c κs = search needs
 
 returns : tie.Need-returns
-unfolding headerFits
+unfolding headerFitsTo
 returns c = rw (← c .before .before .settings-count .ensures .0, ← c .before .word-at .ensures, ne-eqb _ _ (c .if1 .taken))
 
 word-at-requires-2 : tie.Need-word-at-requires-2
@@ -21,7 +21,7 @@ cast-if2 : tie.Need-cast-if2
 cast-if2 c = search needs
 
 returns-2 : tie.Need-returns-2
-unfolding headerFits
+unfolding headerFitsTo
 returns-2 c =
     rw (← c .before .before .before .before .settings-count .ensures .0, ← c .before .before .before .word-at .ensures, eq-eqb _ _ (c .before .before .if1 .left), ← c .before .word-at2 .ensures, ne-eqb _ _ (c .if2 .taken))
 
@@ -29,7 +29,7 @@ event-count-requires : tie.Need-event-count-requires
 event-count-requires c κs = search needs
 
 returns-3 : tie.Need-returns-3
-unfolding headerFits
+unfolding headerFitsTo
 returns-3 c =
     let at-if2 = c .before .before in
     let at-word-at2 = at-if2 .before in
@@ -58,7 +58,7 @@ word-at-requires-3 : tie.Need-word-at-requires-3
 word-at-requires-3 c κs = search needs
 
 returns-4 : tie.Need-returns-4
-unfolding headerFits
+unfolding headerFitsTo
 returns-4 c =
     let at-if3 = c .before .before in
     let at-event-count = at-if3 .before in
@@ -82,7 +82,7 @@ edition-requires : tie.Need-edition-requires
 edition-requires c κs = search needs
 
 returns-5 : tie.Need-returns-5
-unfolding headerFits
+unfolding headerFitsTo
 returns-5 c =
     let at-if4 = c .before .before in
     let at-word-at3 = at-if4 .before in
@@ -109,16 +109,17 @@ returns-5 c =
 word-at-requires-4 : tie.Need-word-at-requires-4
 word-at-requires-4 c κs = search needs
 
-mul-result : tie.Need-mul-result
-mul-result c = search needs
+cast-result : tie.Need-cast-result
+cast-result c = search needs
 
-add-result : tie.Need-add-result
-add-result c = search needs
+total-requires : tie.Need-total-requires
+total-requires c κs = search needs
 
 returns-6 : tie.Need-returns-6
-unfolding headerFits
+unfolding headerFitsTo
 returns-6 c =
-    let at-edition = c .before .before in
+    let at-word-at4 = c .before in
+    let at-edition = at-word-at4 .before .before in
     let at-if4 = at-edition .before in
     let at-word-at3 = at-if4 .before in
     let at-if3 = at-word-at3 .before in
@@ -138,8 +139,9 @@ returns-6 c =
       ← at-word-at3 .word-at3 .ensures,
       eq-eqb _ _ (at-if4 .if4 .left),
       ← at-edition .edition .ensures,
-      le-leb _ _ (c .before .if5 .left),
-      ← c .word-at4 .ensures,
+      le-leb _ _ (at-word-at4 .before .if5 .left),
+      ← at-word-at4 .word-at4 .ensures,
+      c .total .ensures,
     )
 
 pub bad-header-spec : {M : Type 1} → statement M
@@ -162,6 +164,6 @@ bad-header-spec =
     edition-requires
     returns-5
     word-at-requires-4
-    mul-result
-    add-result
+    cast-result
+    total-requires
     returns-6)

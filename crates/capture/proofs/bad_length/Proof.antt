@@ -10,7 +10,7 @@ use Rattle.capture.proofs.bad_length.Statement.{statement}
 use Rattle.capture.proofs.bad_length.Tie as tie
 
 returns : tie.Need-returns
-returns c = ap not (sym (shortest (c .before .before .args .capture .now) (c .if1 .taken)))
+returns c = ap not (sym (shortest (c .before .before .args .capture .now) (c .before .before .args .most) (c .if1 .taken)))
 
 events-start-requires : tie.Need-events-start-requires
 events-start-requires c κs = omega arith
@@ -21,10 +21,7 @@ cast-start c = search needs
 returns-2 : tie.Need-returns-2
 returns-2 c =
     let start = c .before .before .before .before in
-    ap not (sym (too-short (start .args .capture .now) (omega (arith, c .before .events-start .ensures .0))))
-
-cast-if3 : tie.Need-cast-if3
-cast-if3 c = search needs
+    ap not (sym (too-short (start .args .capture .now) (start .args .most) (omega (arith, c .before .events-start .ensures .0))))
 
 mul-if3 : tie.Need-mul-if3
 mul-if3 c = search needs
@@ -37,7 +34,9 @@ returns-3 c =
     let told = c .before .before in
     let start = told .before .before .before in
     ap not
-    (sym (too-long (start .args .capture .now) (omega (arith, told .events-start .ensures .0, c .before .if2 .left)) (omega (arith, told .events-start .ensures .0))))
+    (sym
+    (too-long (start .args .capture .now) (start .args .most) (omega (arith, told .events-start .ensures .0, c .before .if2 .left))
+    (omega (arith, told .events-start .ensures .0))))
 
 word-at-requires : tie.Need-word-at-requires
 word-at-requires c κs = omega arith
@@ -50,7 +49,7 @@ returns-4 c =
     let told = c .before .before .before in
     let start = told .before .before .before in
     let bytes = start .args .capture .now in
-    sym (ap not (stated bytes (omega (arith, told .events-start .ensures .0)) (omega (arith, told .events-start .ensures .0)))
+    sym (ap not (stated bytes (start .args .most) (omega (arith, told .events-start .ensures .0)) (omega (arith, told .events-start .ensures .0)))
     ∙ ap (λ (v : ℕ). not (eqb v (length bytes))) (sym (c .word-at .ensures)))
 
 pub bad-length-spec : {M : Type 1} → statement M
@@ -61,7 +60,6 @@ bad-length-spec =
     events-start-requires
     cast-start
     returns-2
-    cast-if3
     mul-if3
     add-if3
     returns-3

@@ -3,6 +3,7 @@ use mathlib.Core.List.{List}
 use native.Mathlib.Omega.{arith}
 use borrow.Author.Needs.{needs}
 use denote.Ref.{now}
+use Rattle.reading.specs.Capture.{mostEvents}
 use Rattle.capture.specs.Calls.{Accepted}
 use Rattle.capture.proofs.Opened.{Opened, accepted-so, long, opens}
 use Rattle.cells.proofs.Listing.{refused-so, listable, listed-so}
@@ -14,7 +15,7 @@ abbrev capture-of : tie.After-enum-told → List ℕ
 capture-of c = c .before .before .before .before .before .args .capture .now
 
 accepted : (c : tie.After-enum-told) → Accepted (capture-of c)
-accepted c = accepted-so (capture-of c) (c .before .before .«open» .ensures) (c .enum-told .given .1)
+accepted c = accepted-so mostEvents (capture-of c) (c .before .before .«open» .ensures) (c .enum-told .given .1)
 
 open-requires : tie.Need-open-requires
 open-requires c κs = search needs
@@ -32,22 +33,21 @@ enum-told : tie.Need-enum-told
 enum-told c = search needs
 
 settings-in-requires : tie.Need-settings-in-requires
-settings-in-requires c κs = long (capture-of c) (accepted c)
+settings-in-requires c κs = long mostEvents (capture-of c) (accepted c)
 
 event-count-requires : tie.Need-event-count-requires
-event-count-requires c κs = omega (arith, long (capture-of (c .before)) (accepted (c .before)))
+event-count-requires c κs = omega (arith, long mostEvents (capture-of (c .before)) (accepted (c .before)))
 
 event-bytes-requires : tie.Need-event-bytes-requires
-event-bytes-requires c κs = long (capture-of (c .before .before)) (accepted (c .before .before))
+event-bytes-requires c κs = long mostEvents (capture-of (c .before .before)) (accepted (c .before .before))
 
 -- what was read of it
 opened : (c : tie.After-event-bytes) →
     let counted = c .before in
-    Opened (capture-of (counted .before .before)) (counted .before .settings-in .result) (counted .event-count .result) (now (c .event-bytes .result))
+    Opened mostEvents (capture-of (counted .before .before)) (counted .before .settings-in .result) (counted .event-count .result) (now (c .event-bytes .result))
 opened c =
     let counted = c .before in
-    let told = counted .before .before in
-    opens (capture-of told) (accepted told) (counted .before .settings-in .ensures) (counted .event-count .ensures) (c .event-bytes .ensures)
+    opens (accepted (counted .before .before)) (counted .before .settings-in .ensures) (counted .event-count .ensures) (c .event-bytes .ensures)
 
 list-requires : tie.Need-list-requires
 list-requires c κs = listable (opened (c .before .before))

@@ -62,7 +62,7 @@ add-read c =
       arith,
       room (a .s .now) (a .bytes .now) (a .n) (x .inv) (test .events-test .taken) (found .before .pins-at .ensures) (found .pairs-of .ensures) 10 (omega arith)
           (c .beats-by .ensures),
-      start .pre .0 .fit .few,
+      start .pre .0 .few,
       test .events-test .taken,
     )
 
@@ -80,7 +80,7 @@ add-written c =
       arith,
       room (a .s .now) (a .bytes .now) (a .n) (x .inv) (test .events-test .taken) (found .before .pins-at .ensures) (found .pairs-of .ensures) 2 (omega arith)
           (c .beats-by2 .ensures),
-      start .pre .0 .fit .few,
+      start .pre .0 .few,
       test .events-test .taken,
     )
 

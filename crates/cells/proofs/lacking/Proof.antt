@@ -31,7 +31,7 @@ add-cells c =
       arith,
       all-beats (a .s .now) (a .bytes .now) (a .n) (kept .0) (kept .1),
       sixteen-each (a .s .now) (a .bytes .now) (a .n) (start .pre .0) (start .pre .1),
-      start .pre .0 .fit .few,
+      start .pre .0 .few,
     )
 
 cast-if2 : tie.Need-cast-if2

@@ -127,7 +127,7 @@ events-again-2 c =
 cast-result : tie.Need-cast-result Inv-events μ-events
 cast-result c =
     let x = c .before .events .inv in
-    omega (arith, x .on .small, x .on .within, c .before .before .before .before .before .before .pre .0 .fit .few)
+    omega (arith, x .on .small, x .on .within, c .before .before .before .before .before .before .pre .0 .few)
 
 same-length : tie.Need-same-length Inv-events μ-events
 same-length c =

@@ -136,7 +136,7 @@ newer-events-again-2 c =
 cast-result : tie.Need-cast-result Inv-newer-events μ-newer-events
 cast-result c =
     let x = c .before .newer-events .inv in
-    omega (arith, x .on .small, x .on .within, c .before .before .before .before .before .before .pre .0 .fit .few)
+    omega (arith, x .on .small, x .on .within, c .before .before .before .before .before .before .pre .0 .few)
 
 same-length : tie.Need-same-length Inv-newer-events μ-newer-events
 same-length c =

@@ -3,6 +3,7 @@ use mathlib.Core.List.{List}
 use native.Mathlib.Omega.{arith}
 use borrow.Author.Needs.{needs}
 use denote.Ref.{now}
+use Rattle.reading.specs.Capture.{mostEvents}
 use Rattle.capture.specs.Calls.{Accepted}
 use Rattle.capture.proofs.Opened.{Opened, accepted-so, long, opens}
 use Rattle.hidden.proofs.Outcome.{refused-so, few, too-short, copies, writable, wrote}
@@ -17,7 +18,7 @@ abbrev out-of : tie.After-enum-told → List ℕ
 out-of c = c .before .before .before .before .before .args .out .now
 
 accepted : (c : tie.After-enum-told) → Accepted (capture-of c)
-accepted c = accepted-so (capture-of c) (c .before .before .«open» .ensures) (c .enum-told .given .1)
+accepted c = accepted-so mostEvents (capture-of c) (c .before .before .«open» .ensures) (c .enum-told .given .1)
 
 open-requires : tie.Need-open-requires
 open-requires c κs = search needs
@@ -43,12 +44,12 @@ returns-2 c =
     too-short (capture-of told) (accepted told) (out-of told) (c .if1 .taken)
 
 settings-in-requires : tie.Need-settings-in-requires
-settings-in-requires c κs = long (capture-of (c .before)) (accepted (c .before))
+settings-in-requires c κs = long mostEvents (capture-of (c .before)) (accepted (c .before))
 
 event-count-requires : tie.Need-event-count-requires
 event-count-requires c κs =
     let told = c .before .before in
-    omega (arith, long (capture-of told) (accepted told))
+    omega (arith, long mostEvents (capture-of told) (accepted told))
 
 cast-n : tie.Need-cast-n
 cast-n c = search needs
@@ -56,7 +57,7 @@ cast-n c = search needs
 events-start-requires : tie.Need-events-start-requires
 events-start-requires c κs =
     let told = c .before .before .before in
-    omega (arith, long (capture-of told) (accepted told))
+    omega (arith, long mostEvents (capture-of told) (accepted told))
 
 cast-start : tie.Need-cast-start
 cast-start c = search needs
@@ -64,16 +65,15 @@ cast-start c = search needs
 event-bytes-requires : tie.Need-event-bytes-requires
 event-bytes-requires c κs =
     let told = c .before .before .before .before in
-    long (capture-of told) (accepted told)
+    long mostEvents (capture-of told) (accepted told)
 
 -- what was read of it
 opened : (c : tie.After-event-bytes) →
     let counted = c .before .before in
-    Opened (capture-of (counted .before .before .before)) (counted .before .settings-in .result) (counted .event-count .result) (now (c .event-bytes .result))
+    Opened mostEvents (capture-of (counted .before .before .before)) (counted .before .settings-in .result) (counted .event-count .result) (now (c .event-bytes .result))
 opened c =
     let counted = c .before .before in
-    let told = counted .before .before .before in
-    opens (capture-of told) (accepted told) (counted .before .settings-in .ensures) (counted .event-count .ensures) (c .event-bytes .ensures)
+    opens (accepted (counted .before .before .before)) (counted .before .settings-in .ensures) (counted .event-count .ensures) (c .event-bytes .ensures)
 
 copy-requires : tie.Need-copy-requires
 copy-requires c κs =

@@ -33,7 +33,7 @@ enum-told : tie.Need-enum-told Inv-events μ-events
 enum-told c = search needs
 
 add-i : tie.Need-add-i Inv-events μ-events
-add-i c = omega (arith, c .before .before .before .before .before .before .before .before .before .before .pre .0 .few)
+add-i c = omega arith
 
 events-less : tie.Need-events-less Inv-events μ-events
 events-less c = omega arith

@@ -12,8 +12,8 @@ use borrow.Author.Tests.{ne-eqb}
 use Rattle.reading.specs.Search.{given}
 use Rattle.reading.specs.Words.{bytesOf}
 use Rattle.reading.specs.Settings.{settingFits, badSetting}
-use Rattle.reading.specs.Capture.{headerWord, eventCount, captureSize, mostEvents, settingWords, eventBytes, lengthFits, headerFits, pinLimit, badEvent}
-use Rattle.reading.specs.Answers.{Answer, refused, unless, accepted}
+use Rattle.reading.specs.Capture.{headerWord, eventCount, captureSize, mostEvents, settingWords, eventBytes, lengthFitsTo, headerFitsTo, pinLimit, badEvent}
+use Rattle.reading.specs.Answers.{Answer, refused, unless, accepted, acceptedTo}
 use Rattle.reading.proofs.Cases.{NOP, at, usual, sleeping, refuses, touches, said, Case, case, bytes, Hold}
 
 -- settings, and the lowest that does not fit
@@ -124,7 +124,7 @@ each-shape = refl
 module _ {A : Type 0} (capture : List ℕ) (rest : Answer A) where
   -- no header saves a longer one, and none but sixteen settings one of 64,081 to 64,088
   too-long : length capture ≡ 64089 → accepted capture rest ≡ refused 1 0
-  unfolding accepted lengthFits
+  unfolding acceptedTo lengthFitsTo
   too-long l = rw l (go (eqb (headerWord capture 1) 16) _)
     where
       go : (b : Bool) (x : Answer A) →
@@ -136,11 +136,11 @@ module _ {A : Type 0} (capture : List ℕ) (rest : Answer A) where
 
   -- lengths of fourteen settings for every count but sixteen
   longer : eqb (headerWord capture 1) 16 ≡ false → length capture ≡ 64084 → accepted capture rest ≡ refused 1 0
-  unfolding accepted lengthFits
+  unfolding acceptedTo lengthFitsTo
   longer c l = rw (c, l)
 
   sixteen-longer : headerWord capture 1 ≡ 16 → headerWord capture 0 ≡ 64084 → length capture ≡ 64084 → accepted capture rest ≡ refused 2 0
-  unfolding accepted lengthFits headerFits
+  unfolding acceptedTo lengthFitsTo headerFitsTo
   sixteen-longer c total l = rw (c, total, l, ne-eqb 64084 (88 + 8 * eventCount capture) (λ e. omega arith), and-false _)
 
   -- of such a one that its header states, only settings and events are left to ask
@@ -153,5 +153,5 @@ module _ {A : Type 0} (capture : List ℕ) (rest : Answer A) where
       headerWord capture 4 ≡ 80 →
       headerWord capture 5 ≡ 0 →
       accepted capture rest ≡ unless 3 (badSetting (settingWords capture)) (unless 4 (badEvent (pinLimit capture) (eventBytes capture) 8000) rest)
-  unfolding accepted lengthFits headerFits
+  unfolding acceptedTo lengthFitsTo headerFitsTo
   longest l total settings from events onwards zeros = rw (l, total, settings, from, events, onwards, zeros)

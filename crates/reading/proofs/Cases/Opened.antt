@@ -7,10 +7,10 @@ use lib.ListN.{length, getD, replicate}
 use Rattle.reading.specs.Search.{count}
 use Rattle.reading.specs.Words.{wordAt, wordBytes, bytesOf}
 use Rattle.reading.specs.Settings.{settingFits, badSetting}
-use Rattle.reading.specs.Capture.{Event, settingWords, eventsOf, lengthFits, headerFits, eventFits, badEvent}
+use Rattle.reading.specs.Capture.{Event, settingWords, eventsOf, lengthFitsTo, headerFitsTo, eventFits, badEvent}
 use Rattle.reading.specs.Verdict.{judgeBy, verdictBy}
 use Rattle.reading.specs.Schedule.{captureIn, captureOf, eventWords}
-use Rattle.reading.specs.Answers.{Answer, refused, answered, accepted, verdictIn}
+use Rattle.reading.specs.Answers.{Answer, refused, answered, acceptedTo, verdictIn}
 use Rattle.reading.specs.Openings.{Record, rowAfter, openingsOf, indexOf, recordsOf}
 use Rattle.reading.specs.OpenRow.{RowOutcome, indexIn, recordsIn, rowIn, openRowAnswer, openRowOutcome, lookedUp}
 use Rattle.reading.proofs.Cases.{ACTIVE, READ, WRITE, PRECHARGE, NOP, A10, LOW, bank, at, usual, sleeping}
@@ -27,7 +27,7 @@ lentWords n = replicate n 9
 
 -- bank, event, records, words; to unfold this is to unfold all that the answer is made of
 asks : List ℕ → ℕ → ℕ → ℕ → ℕ → RowOutcome
-unfolding openRowOutcome openRowAnswer indexIn recordsIn rowIn rowAfter openingsOf indexOf recordsOf captureIn eventWords bytesOf wordBytes wordAt settingWords eventsOf lengthFits headerFits badSetting settingFits badEvent eventFits accepted verdictIn verdictBy judgeBy
+unfolding openRowOutcome openRowAnswer indexIn recordsIn rowIn rowAfter openingsOf indexOf recordsOf captureIn eventWords bytesOf wordBytes wordAt settingWords eventsOf lengthFitsTo headerFitsTo badSetting settingFits badEvent eventFits acceptedTo verdictIn verdictBy judgeBy
 asks capture b j records words = openRowOutcome capture b j (lentRecords records) (lentWords words)
 
 -- every question about a bank, looked up in the records and the index alone

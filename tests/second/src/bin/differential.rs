@@ -10,8 +10,8 @@ use std::{env, fmt, io};
 
 use second::archive::Archive;
 use second::capture::{Capture, Refusal};
-use second::generate::{input, other_addresses, Dice, Input, Tally, MOST_CELLS};
-use second::{blank, cells, judge, packed, schedule};
+use second::generate::{input, long_recording, other_addresses, Dice, Input, Tally, MOST_CELLS};
+use second::{blank, cells, judge, judge_recording, packed, schedule};
 
 /// What fills buffers beforehand, so that an element written by mistake shows.
 const UNTOUCHED: u32 = 0xa5c3_965a;
@@ -19,6 +19,8 @@ const UNTOUCHED: u32 = 0xa5c3_965a;
 const FENCE: usize = 32;
 /// The most bytes that any answer needs.
 const MOST_BYTES: usize = 64_088;
+/// One input in so many is followed by a recording that is too long for a capture.
+const LONG_ONCE_IN: u32 = 1_000;
 
 fn main() -> ExitCode {
     match asked().and_then(|(inputs, seed, build)| run(inputs, seed, &build)) {
@@ -90,9 +92,14 @@ struct Comparison {
 
 impl Comparison {
     fn compare_next(&mut self) -> Result<(), Difference> {
+        if self.dice.once_in(LONG_ONCE_IN) {
+            let recording = long_recording(&mut self.dice);
+            self.compare_recordings(&recording)?;
+        }
         match input(&mut self.dice) {
             Input::Capture(capture) => {
                 self.compare_judges(&capture)?;
+                self.compare_recordings(&capture)?;
                 self.compare_cells(&capture)?;
                 self.compare_blanks(&capture)?;
                 self.compare_addresses(&capture)
@@ -117,6 +124,20 @@ impl Comparison {
             buffer: Vec::new(),
         });
         same("judge", &expected, found, || hex(capture))
+    }
+
+    fn compare_recordings(&mut self, recording: &[u8]) -> Result<(), Difference> {
+        let answer = judge_recording(recording);
+        self.tally.count_recording(recording, answer);
+        let expected = Left {
+            answer: packed::of_answer(answer),
+            buffer: Vec::<u8>::new(),
+        };
+        let found = self.archive.recording(recording).map(|answer| Left {
+            answer,
+            buffer: Vec::new(),
+        });
+        same("recording", &expected, found, || hex(recording))
     }
 
     fn compare_cells(&mut self, capture: &[u8]) -> Result<(), Difference> {

@@ -59,6 +59,27 @@ fn full_capture(dice: &mut Dice, edition: Edition) -> Vec<u8> {
     build(dice, edition, &list, MOST_EVENTS, fault_once_in)
 }
 
+/// More events than a capture may hold, clean or broken behind them; now and then with an event
+/// behind the broken one that does not fit.
+pub fn long_recording(dice: &mut Dice) -> Vec<u8> {
+    let edition = dice.pick(&[Edition::Zero, Edition::One]);
+    let kind = dice.pick(&[Kind::Short, Kind::RealPart]);
+    let mut list = settings::capture_settings(dice, Edition::Zero, kind);
+    list[T_REFI_SETTING] = dice.between(200, 10_000);
+    let clean = MOST_EVENTS + dice.between(1, 1_500);
+    let mut builder = Builder::new(dice, edition, &list);
+    builder.fill(clean, 0);
+    if builder.dice.percent(60) {
+        builder.fill(clean + 200, 2);
+    }
+    if builder.dice.percent(20) {
+        let cycle = builder.events.last().map_or(0, |event| event.cycle);
+        let pins = Command::Nop.pins();
+        builder.events.push(Event { cycle, pins });
+    }
+    builder.bytes(&list)
+}
+
 /// Refreshes up to the last cycles that a capture may name, and some commands there.
 fn late_capture(dice: &mut Dice, edition: Edition) -> Vec<u8> {
     let kind = dice.pick(&[Kind::Short, Kind::RealPart, Kind::Limits]);

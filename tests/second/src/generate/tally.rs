@@ -39,6 +39,9 @@ const SHOWN: [&str; 6] = [
     "a column or a row with CKE low",
 ];
 
+/// What recordings that are too long for captures have to show.
+const LONG: [&str; 3] = ["clean", "broken", "refusal 4"];
+
 /// How often a question was answered, refused with each number, and refused for settings
 /// that contradict each other.
 #[derive(Clone, Debug, Default)]
@@ -70,6 +73,9 @@ type Layout = (usize, Option<Edition>);
 #[derive(Clone, Debug, Default)]
 pub struct Tally {
     captures: BTreeMap<Layout, OfCaptures>,
+    pub recordings: Answers,
+    /// Of recordings with more events than a capture may have: clean, broken, refused with 4.
+    pub long_recordings: [u64; LONG.len()],
     pub open: Answers,
     pub closed: Answers,
     pub no_policy: Answers,
@@ -163,6 +169,24 @@ impl Tally {
         }
     }
 
+    pub fn count_recording(&mut self, recording: &[u8], answer: Answer) {
+        let long = Capture::read(recording).is_err_and(|refusal| refusal.number == 1);
+        let shown = match answer {
+            Answer::Clean { .. } => Some(0),
+            Answer::Broken { .. } => Some(1),
+            Answer::Refused { number: 4, .. } => Some(2),
+            Answer::Refused { .. } => None,
+        };
+        if let Some(shown) = shown.filter(|_| long) {
+            self.long_recordings[shown] += 1;
+        }
+        let refusal = match answer {
+            Answer::Refused { number, place } => Some(Refusal { number, place }),
+            _ => None,
+        };
+        self.recordings.count(refusal, &first_settings(recording));
+    }
+
     pub fn count_cells(&mut self, capture: &[u8], answer: Result<u32, Refusal>) {
         let interrupted = answer.is_ok()
             && part_after(capture, LookBack::Running)
@@ -209,6 +233,12 @@ impl Tally {
                 let layout = (settings, edition);
                 counts.extend(self.of(layout).counts(layout));
             }
+        }
+        counts.push(("recording: judged".to_string(), self.recordings.given));
+        counts.extend(refusals("recording", &self.recordings, &OF_JUDGE));
+        counts.push(contradictions("recording", &self.recordings));
+        for (name, count) in LONG.iter().zip(self.long_recordings) {
+            counts.push((format!("recording of over 8,000 events: {name}"), count));
         }
         for (rows, answers) in [("open rows", &self.open), ("closed rows", &self.closed)] {
             counts.push((format!("{rows}: written"), answers.given));
