@@ -1,5 +1,5 @@
 /* Morgazell for C and C++ programs on x86-64 Linux: judging captures of Mobile DDR commands, listing the cells of their
- * bursts, writing schedules, blanking addresses. Valid C99 and C++17.
+ * bursts, writing schedules, blanking addresses, reading and writing exports of a handheld analyser. Valid C99 and C++17.
  *
  * Every call but morgazell_version answers one number:
  *
@@ -18,20 +18,25 @@
  *              settings count is 16 under 88 or over 64,088, or not as long
  *              as it says; a recording may be longer
  *        2     the capture's header is wrong; a settings list not of 14       0
- *              words
+ *              words, or with an edition above 1
  *        3     a setting is out of its range, or the mode word not valid;     the lowest such setting; 7
  *              else tRC is above tRAS + tRP
- *        4     pin bits 20-31 are set, or 21-31 with 16 settings, or a        the lowest such event
+ *       11     records not of 6 bytes each; over 8,000 of them; a stamp that    0; 8,000; the lowest such record
+ *              is that of the record before
+ *        4     pin bits 20-31 are set, or 21-31 with 16 settings, or a        the lowest such event or record
  *              cycle is above 2,000,000,000 or does not rise
  *       10     a row policy that is none, neither 0 nor 1                     0
  *        5     over 2,000 requests; else bits 27-30 of a request are set,     2,000; the lowest such request
  *              or the part lacks its cell
  *        6     refresh cannot be kept                                         the request
  *        8     cells are asked of a capture that is not clean                 the event that breaks a rule
+ *       12     an export of a capture with 16 settings, or with a first       0
+ *              cycle above 65,535, or that would have over 8,000 records
  *        7     the buffer is shorter than the answer                          the length needed, in its elements
  *
  * They are tried in this order and the first that applies is given. morgazell_judge and morgazell_recording can give 1 to 4,
- * morgazell_cells 1 to 4, 8 and 7, morgazell_schedule 2, 3, 10, 5, 6 and 7, morgazell_blank 1 to 4 and 7.
+ * morgazell_cells 1 to 4, 8 and 7, morgazell_schedule 2, 3, 10, 5, 6 and 7, morgazell_blank 1 to 4 and 7,
+ * morgazell_read_export 2, 3, 11, 4 and 7, morgazell_write_export 1 to 4, 12 and 7.
  *
  * A capture is words of 32 bits, lowest byte first: six of header (its length in bytes; 14 or 16, the settings count; 24,
  * where they start; the number of events, at most 8,000; 80 or 88, where these start; 0 or 1, the edition), the settings,
@@ -76,8 +81,9 @@
  * call at the same time, each with buffers of its own; inputs may be shared.
  *
  * Stack. The most that a call takes, in bytes, the return address included: morgazell_judge 1024, morgazell_recording 1024,
- * morgazell_cells 1280, morgazell_schedule 66560, morgazell_blank 512, morgazell_version 136; besides, what memcpy and memset
- * of the C library take. The archive wants nothing of anyone but these two, and not even these where it is built for the smallest size. */
+ * morgazell_cells 1280, morgazell_schedule 66560, morgazell_blank 512, morgazell_read_export 512, morgazell_write_export 512,
+ * morgazell_version 136; besides, what memcpy and memset of the C library take. The archive wants nothing of anyone but
+ * these two, and not even these where it is built for the smallest size. */
 #ifndef MORGAZELL_H
 #define MORGAZELL_H
 
@@ -102,14 +108,18 @@ extern "C" {
 #define MORGAZELL_REFUSED_BUFFER 7
 #define MORGAZELL_REFUSED_BROKEN 8
 #define MORGAZELL_REFUSED_POLICY 10
+#define MORGAZELL_REFUSED_RECORDS 11
+#define MORGAZELL_REFUSED_EXPORT 12
 
-/* The most that there can be: events and bytes of a capture, bytes of a schedule, cells of a burst list, requests. A buffer
- * of that many bytes or cells is never too short. */
+/* The most that there can be: events and bytes of a capture, bytes of a schedule, cells of a burst list, requests, records and
+ * bytes of an export. A buffer of that many bytes or cells is never too short. */
 #define MORGAZELL_MOST_EVENTS 8000
 #define MORGAZELL_LONGEST_CAPTURE 64088
 #define MORGAZELL_LONGEST_SCHEDULE 64080
 #define MORGAZELL_MOST_CELLS 128000
 #define MORGAZELL_MOST_REQUESTS 2000
+#define MORGAZELL_MOST_RECORDS 8000
+#define MORGAZELL_LONGEST_EXPORT 48000
 
 /* What judges: 10000 * the first number of the version + 100 * the second + the third; 10203 for 1.2.3. */
 uint32_t morgazell_version(void);
@@ -143,6 +153,18 @@ uint64_t morgazell_schedule(const uint32_t *settings, size_t settings_len,
  * high or low; all else is as it was: A10, banks, cycles, settings, rows that the part lacks, and all pins of every other
  * event, whatever stands on them. morgazell_judge says of what was written what it says of the capture. */
 uint64_t morgazell_blank(const uint8_t *capture, size_t len, uint8_t *out, size_t out_len);
+
+/* The records of a handheld analyser as a capture of the settings, which are fourteen, and of the edition, 0 or 1, from out[0]
+ * on; bytes behind it stay. A record is six bytes: a stamp of 16 bits, which counts cycles and goes round, and the pins, lowest
+ * byte first. The first cycle is the first stamp; each later one adds the difference of stamps modulo 65,536.
+ * MORGAZELL_LONGEST_SCHEDULE bytes are always enough. What is read is never refused as a capture. */
+uint64_t morgazell_read_export(const uint8_t *records, size_t len, const uint32_t *settings, size_t settings_len,
+                               uint32_t edition, uint8_t *out, size_t out_len);
+
+/* The capture as such records, from out[0] on; bytes behind them stay. Where the next event is more than 65,535 cycles away a
+ * NOP comes 65,535 cycles after the last record, again and again. Reading them back under the capture's settings and edition
+ * gives the capture with those NOPs. MORGAZELL_LONGEST_EXPORT bytes are always enough. */
+uint64_t morgazell_write_export(const uint8_t *capture, size_t len, uint8_t *out, size_t out_len);
 
 static inline unsigned morgazell_refusal(uint64_t answer) { return (unsigned)(answer >> 56); }
 

@@ -1,11 +1,13 @@
 /* The archive behind standard input and output, so that a program on any processor can ask it.
  *
  * A question is five words and what they count:
- *     0      1 morgazell_judge, 2 morgazell_cells, 3 morgazell_schedule, 4 morgazell_blank, 5 morgazell_recording
- *     1, 2   elements of the inputs: bytes of a capture and 0; words of settings and of requests
+ *     0      1 morgazell_judge, 2 morgazell_cells, 3 morgazell_schedule, 4 morgazell_blank, 5 morgazell_recording,
+ *            6 morgazell_read_export, 7 morgazell_write_export
+ *     1, 2   elements of the inputs: bytes of a capture and 0; words of settings and of requests; bytes of records and words
+ *            of settings
  *     3      elements of the lent buffer
  *     4      elements behind it that the call must not touch
- * then for a schedule its row policy, a word; then the inputs, then the buffer with what lies behind it. The answer is the
+ * then for a schedule its row policy, for records the edition, a word; then the inputs, then the buffer with what lies behind it. The answer is the
  * packed number and, in the same length, the buffer with what lies behind it. Words are little-endian, as the processor
  * has them.
  *
@@ -17,7 +19,7 @@
 
 #include "morgazell.h"
 
-enum { JUDGE = 1, CELLS = 2, SCHEDULE = 3, BLANK = 4, RECORDING = 5 };
+enum { JUDGE = 1, CELLS = 2, SCHEDULE = 3, BLANK = 4, RECORDING = 5, READ_EXPORT = 6, WRITE_EXPORT = 7 };
 
 #define PAGE 4096
 /* Room for any question of the tests: recordings somewhat over the longest capture, buffers for any answer. */
@@ -65,7 +67,7 @@ static void *lent(uint8_t *start, uint32_t elements)
     return elements == 0 ? NULL : start;
 }
 
-static uint64_t call(const uint32_t *question, uint32_t policy, uint8_t *inputs[2], uint8_t *buffer)
+static uint64_t call(const uint32_t *question, uint32_t chosen, uint8_t *inputs[2], uint8_t *buffer)
 {
     const void *first = lent(inputs[0], question[1]);
     const void *second = lent(inputs[1], question[2]);
@@ -76,11 +78,15 @@ static uint64_t call(const uint32_t *question, uint32_t policy, uint8_t *inputs[
     case CELLS:
         return morgazell_cells(first, question[1], out, question[3]);
     case SCHEDULE:
-        return morgazell_schedule(first, question[1], second, question[2], policy, out, question[3]);
+        return morgazell_schedule(first, question[1], second, question[2], chosen, out, question[3]);
     case BLANK:
         return morgazell_blank(first, question[1], out, question[3]);
     case RECORDING:
         return morgazell_recording(first, question[1]);
+    case READ_EXPORT:
+        return morgazell_read_export(first, question[1], second, question[2], chosen, out, question[3]);
+    case WRITE_EXPORT:
+        return morgazell_write_export(first, question[1], out, question[3]);
     default:
         fail("no such function");
         return 0;
@@ -92,17 +98,18 @@ int main(void)
     static uint32_t question[5];
     uint8_t *ends[3] = {fenced_end(), fenced_end(), fenced_end()};
     while (fread(question, sizeof question, 1, stdin) == 1) {
-        size_t input = question[0] == SCHEDULE ? 4 : 1;
+        size_t first = question[0] == SCHEDULE ? 4 : 1;
+        size_t second = question[0] == SCHEDULE || question[0] == READ_EXPORT ? 4 : 1;
         size_t element = question[0] == CELLS ? 4 : 1;
         size_t whole = element * ((size_t)question[3] + question[4]);
         uint8_t *inputs[2];
-        uint32_t policy = 0;
-        if (question[0] == SCHEDULE)
-            take(&policy, sizeof policy);
-        inputs[0] = placed(ends[0], input * question[1]);
-        inputs[1] = placed(ends[1], input * question[2]);
+        uint32_t chosen = 0;
+        if (question[0] == SCHEDULE || question[0] == READ_EXPORT)
+            take(&chosen, sizeof chosen);
+        inputs[0] = placed(ends[0], first * question[1]);
+        inputs[1] = placed(ends[1], second * question[2]);
         uint8_t *buffer = placed(ends[2], whole);
-        uint64_t answer = call(question, policy, inputs, buffer);
+        uint64_t answer = call(question, chosen, inputs, buffer);
         give(&answer, sizeof answer);
         give(buffer, whole);
         fflush(stdout);

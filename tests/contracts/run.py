@@ -30,6 +30,7 @@ use Rattle.drafts.proofs.Unique as drafts
 use Rattle.serving.proofs.Unique as serving
 use Rattle.schedule.proofs.Unique as schedule
 use Rattle.hidden.proofs.Unique as hidden
+use Rattle.exports.proofs.Unique as exports
 use Rattle.demands.proofs.Finding as finding
 use Rattle.demands.proofs.Judging as judging
 """.splitlines()

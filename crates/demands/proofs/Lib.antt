@@ -10,6 +10,8 @@ pub mod EditionZero
 pub mod Blanking
 pub mod Unaccepted
 pub mod Judged
+pub mod Converting
+pub mod Exporting
 mod Finding
 mod Settled
 pub mod AsBefore

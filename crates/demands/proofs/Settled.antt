@@ -10,6 +10,7 @@ use Rattle.drafts.proofs.Unique as drafts
 use Rattle.serving.proofs.Unique as serving
 use Rattle.schedule.proofs.Unique as schedule
 use Rattle.hidden.proofs.Unique as hidden
+use Rattle.exports.proofs.Unique as exports
 use Rattle.demands.proofs.Finding as finding
 use Rattle.demands.proofs.Judging as judging
 use Rattle.words.proofs.word_at.Reads as words-word-at
@@ -72,6 +73,8 @@ use Rattle.judge.proofs.walk.Reads as judge-walk
 use Rattle.judge.proofs.judge_to.Reads as judge-judge-to
 use Rattle.judge.proofs.judge.Reads as judge-judge
 use Rattle.hidden.proofs.blank.Reads as hidden-blank
+use Rattle.exports.proofs.read.Reads as exports-read
+use Rattle.exports.proofs.write.Reads as exports-write
 use Rattle.requests.proofs.asks_write.Reads as requests-asks-write
 use Rattle.requests.proofs.bank.Reads as requests-bank
 use Rattle.requests.proofs.row.Reads as requests-row
@@ -111,6 +114,8 @@ use Rattle.morgazell.proofs.morgazell_recording.Reads as morgazell-morgazell-re
 use Rattle.morgazell.proofs.morgazell_cells.Reads as morgazell-morgazell-cells
 use Rattle.morgazell.proofs.morgazell_schedule.Reads as morgazell-morgazell-schedule
 use Rattle.morgazell.proofs.morgazell_blank.Reads as morgazell-morgazell-blank
+use Rattle.morgazell.proofs.morgazell_read_export.Reads as morgazell-morgazell-read-export
+use Rattle.morgazell.proofs.morgazell_write_export.Reads as morgazell-morgazell-write-export
 use Rattle.morgazell.proofs.morgazell_version.Reads as morgazell-morgazell-version
 use Rattle.version.proofs.number.Reads as version-number
 use Rattle.wording.proofs.values.settings_of.Reads as wording-values-settings-of
@@ -532,6 +537,16 @@ pub hidden-blank-settles : (κs : _) (a : _) (z z′ : _) (e e′ : _) → hidde
     (z ≡ z′) × (now (e .1 .0) ≡ now (e′ .1 .0))
 hidden-blank-settles κs a z z′ e e′ p q = (hidden.one-answer z z′ (p .0 ∙ sym (q .0)), p .1 ∙ sym (q .1))
 
+-- ---- exports
+
+pub exports-read-settles : (κs : _) (a : _) (z z′ : _) (e e′ : _) → exports-read.Post κs a z e → exports-read.Post κs a z′ e′ →
+    (z ≡ z′) × (now (e .1 .1 .1 .0) ≡ now (e′ .1 .1 .1 .0))
+exports-read-settles κs a z z′ e e′ p q = (exports.one-answer z z′ (p .0 ∙ sym (q .0)), p .1 ∙ sym (q .1))
+
+pub exports-write-settles : (κs : _) (a : _) (z z′ : _) (e e′ : _) → exports-write.Post κs a z e → exports-write.Post κs a z′ e′ →
+    (z ≡ z′) × (now (e .1 .0) ≡ now (e′ .1 .0))
+exports-write-settles κs a z z′ e e′ p q = (exports.one-answer z z′ (p .0 ∙ sym (q .0)), p .1 ∙ sym (q .1))
+
 -- ---- morgazell
 
 pub morgazell-morgazell-judge-settles : (κs : _) (a : _) (z z′ : _) (e e′ : _) → morgazell-morgazell-judge.Post κs a z e → morgazell-morgazell-judge.Post κs a z′ e′ →
@@ -552,6 +567,14 @@ morgazell-morgazell-schedule-settles κs a z z′ e e′ p q = (p .0 ∙ sym (q 
 pub morgazell-morgazell-blank-settles : (κs : _) (a : _) (z z′ : _) (e e′ : _) → morgazell-morgazell-blank.Post κs a z e → morgazell-morgazell-blank.Post κs a z′ e′ →
     (z ≡ z′) × (now (e .1 .0) ≡ now (e′ .1 .0))
 morgazell-morgazell-blank-settles κs a z z′ e e′ p q = (p .0 ∙ sym (q .0), p .1 ∙ sym (q .1))
+
+pub morgazell-morgazell-read-export-settles : (κs : _) (a : _) (z z′ : _) (e e′ : _) → morgazell-morgazell-read-export.Post κs a z e → morgazell-morgazell-read-export.Post κs a z′ e′ →
+    (z ≡ z′) × (now (e .1 .1 .1 .0) ≡ now (e′ .1 .1 .1 .0))
+morgazell-morgazell-read-export-settles κs a z z′ e e′ p q = (p .0 ∙ sym (q .0), p .1 ∙ sym (q .1))
+
+pub morgazell-morgazell-write-export-settles : (κs : _) (a : _) (z z′ : _) (e e′ : _) → morgazell-morgazell-write-export.Post κs a z e → morgazell-morgazell-write-export.Post κs a z′ e′ →
+    (z ≡ z′) × (now (e .1 .0) ≡ now (e′ .1 .0))
+morgazell-morgazell-write-export-settles κs a z z′ e e′ p q = (p .0 ∙ sym (q .0), p .1 ∙ sym (q .1))
 
 pub morgazell-morgazell-version-settles : (κs : _) (a : _) (z z′ : _) (e e′ : _) → morgazell-morgazell-version.Post κs a z e → morgazell-morgazell-version.Post κs a z′ e′ →
     z ≡ z′

@@ -11,13 +11,16 @@ use lib.ListN.{length}
 use Rattle.reading.specs.Capture.{headerWord}
 use Rattle.cells.specs.declared.Listed.{Listed}
 use Rattle.hidden.specs.declared.Blanked.{Blanked}
-use Rattle.demands.specs.Allowed.{Lists, Blanks, RefusedByAll}
+use Rattle.exports.specs.declared.Converted.{Converted}
+use Rattle.demands.specs.Allowed.{Lists, Blanks, WritesExport, RefusedByAll}
 use Rattle.demands.specs.Captures.{leastBytes, BadLength, CaptureRefused}
 use Rattle.demands.specs.Captures as case
 use Rattle.demands.specs.Refused.{Accepted, unaccepted, unopened}
+use Rattle.demands.specs.Exports as exports
 use Rattle.demands.proofs.Opening.{accepted-exactly}
 use Rattle.demands.proofs.Refusing.{judge-refused, list-refused-exactly, list-refused}
 use Rattle.demands.proofs.Blanking.{blank-refused-exactly, blank-refused}
+use Rattle.demands.proofs.Converting.{write-refused-exactly, write-refused}
 
 -- Whatever is refused is refused so by every call.
 pub refused-by-all : (capture : List ℕ) (number place : ℕ) → CaptureRefused capture number place → RefusedByAll capture number place
@@ -28,6 +31,10 @@ refused-by-all capture number place c =
           λ out r left a.
           let e = list-refused-exactly capture out r left a number place .1 (unaccepted c) in
           (e, list-refused capture out left number place (subst (λ (x : Listed). Lists capture out x left) e a));
+      export =
+          λ out r left a.
+          let e = write-refused-exactly capture out r left a number place .1 (exports.WriteRefused.unopened c) in
+          (e, write-refused capture out left number place (subst (λ (x : Converted). WritesExport capture out x left) e a));
       blank =
           λ out r left a.
           let e = blank-refused-exactly capture out r left a number place .1 (unopened c) in

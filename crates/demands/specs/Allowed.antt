@@ -17,6 +17,10 @@ use Rattle.schedule.specs.Meaning as schedule
 use Rattle.hidden.specs.declared.Blanked.{Blanked}
 use Rattle.hidden.specs.declared.Blanked.the-variants as blanked
 use Rattle.hidden.specs.Meaning as hidden
+use Rattle.reading.specs.Export.{readOutcome, writeOutcome}
+use Rattle.exports.specs.declared.Converted.{Converted}
+use Rattle.exports.specs.declared.Converted.the-variants as converted
+use Rattle.exports.specs.Meaning as exports
 
 -- by `judge::judge_to`, where there may be so many events
 abbrev pub JudgesTo : ℕ → List ℕ → Verdict → Type 0
@@ -42,8 +46,17 @@ Schedules ws qs policy out r left = Meets (schedule.means r) left (scheduleOutco
 abbrev pub Blanks : List ℕ → List ℕ → Blanked → List ℕ → Type 0
 Blanks capture out r left = Meets (hidden.means r) left (blankOutcome capture out)
 
+-- by `exports::read`, lent `out`, which holds `left` afterwards
+abbrev pub ReadsExport : List ℕ → List ℕ → ℕ → List ℕ → Converted → List ℕ → Type 0
+ReadsExport x ws edition out r left = Meets (exports.means r) left (readOutcome x ws edition out)
+
+-- by `exports::write`, lent `out`, which holds `left` afterwards
+abbrev pub WritesExport : List ℕ → List ℕ → Converted → List ℕ → Type 0
+WritesExport capture out r left = Meets (exports.means r) left (writeOutcome capture out)
+
 -- by every call that is asked about a capture: it is refused so, and what was lent is left as it was
 pub record RefusedByAll (capture : List ℕ) (number place : ℕ) : Type 0 where
   pub judge : (r : Verdict) → Judges capture r → r ≡ verdict.Refused number place
   pub list : (out : List ℕ) (r : Listed) (left : List ℕ) → Lists capture out r left → (r ≡ listed.Refused number place) × (left ≡ out)
+  pub export : (out : List ℕ) (r : Converted) (left : List ℕ) → WritesExport capture out r left → (r ≡ converted.Refused number place) × (left ≡ out)
   pub blank : (out : List ℕ) (r : Blanked) (left : List ℕ) → Blanks capture out r left → (r ≡ blanked.Refused number place) × (left ≡ out)

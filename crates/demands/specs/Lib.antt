@@ -10,3 +10,4 @@ pub mod Limit
 pub mod OldEdition
 pub mod ClosedRows
 pub mod Judged
+pub mod Exports

@@ -58,7 +58,7 @@ counted f from (suc n) i e = go (f from) e (counted f (suc from) n i)
     go true v ih = let z : from ≡ i = cc in omega arith
     go false v ih = omega (arith, ih v)
 
-below : (f : ℕ → Bool) (n i : ℕ) → lowest f n ≡ some i → i < n
+pub below : (f : ℕ → Bool) (n i : ℕ) → lowest f n ≡ some i → i < n
 below f n i e = omega (arith, counted f 0 n i e)
 
 -- ---- a capture: refused with a number from 1 to 4 and a small place, or short
@@ -67,14 +67,14 @@ few : (most : ℕ) (capture : List ℕ) → given 0 (not (lengthFitsTo most capt
     eventCount capture ≤ most
 few most capture a b = sized capture most (not-false _ (not-given 0 _ a)) (not-false _ (not-given 0 _ b)) .few
 
-at-given : (k : ℕ) → Value k → (b : Bool) (place : ℕ) → given k b ≡ some place → Value place
+pub at-given : (k : ℕ) → Value k → (b : Bool) (place : ℕ) → given k b ≡ some place → Value place
 at-given k small true place e = let z : k ≡ place = cc in rw (sym z) small
 at-given k small false place e = let z : _≡_ {A = ℕ} 0 1 = cc in absurd (omega arith)
 
-at-zero : (b : Bool) (place : ℕ) → given 0 b ≡ some place → Value place
+pub at-zero : (b : Bool) (place : ℕ) → given 0 b ≡ some place → Value place
 at-zero = at-given 0 (omega arith)
 
-bad-setting : (ws : List ℕ) (place : ℕ) → length ws ≤ 16 → badSetting ws ≡ some place → Value place
+pub bad-setting : (ws : List ℕ) (place : ℕ) → length ws ≤ 16 → badSetting ws ≡ some place → Value place
 unfolding badSetting
 bad-setting ws place l e = go (outOfRange ws (length ws)) refl e
   where
@@ -156,11 +156,11 @@ judge-fits most small capture =
 
 -- ---- calls that fill a buffer
 
-abbrev Filled : List ℕ → Answer (List ℕ) → Type 0
+abbrev pub Filled : List ℕ → Answer (List ℕ) → Type 0
 Filled buffer a = Fits (countTold (leaves a buffer .answer))
 
 -- the length needed is given as the place or as the count
-room : (buffer out : List ℕ) → Value (length out) → Filled buffer (fitting buffer out)
+pub room : (buffer out : List ℕ) → Value (length out) → Filled buffer (fitting buffer out)
 room buffer out l = go (ltb (length buffer) (length out))
   where
     go : (b : Bool) → Filled buffer (unless 7 (given (length out) b) (answered out))

@@ -11,10 +11,12 @@ use Rattle.reading.specs.Capture.{Event, mostEvents, mostRecorded, eventCount, 
 use Rattle.reading.specs.Verdict as is
 use Rattle.reading.specs.Answers.{Answer, Report, refused, answered, verdictIn, judgeAnswerTo, judgeAnswer, recordingAnswer, cellsOutcome, scheduleOutcome}
 use Rattle.reading.specs.Blank.{blankOutcome}
+use Rattle.reading.specs.Export.{readOutcome, writeOutcome}
 use Rattle.reading.proofs.Meaning.{eventOf}
 use Rattle.words.proofs.Counting.{at-count}
 use Rattle.morgazell.specs.Packing.{Told, refusal, count, breach, word, packed, told, numberIn, ruleIn, valueIn, unpacked, verdictTold, judgeTold, countTold, judgeAnswerOf, countAnswerOf}
 use Rattle.morgazell.proofs.Fitting.{Number, Value, Fits, on-accepted, accepted-few, events-length, broken-at, judge-fits, cells-fits, schedule-fits, blank-fits}
+use Rattle.morgazell.proofs.Exports.{read-fits, write-fits}
 
 word-back : (number rule value : ℕ) → number < 2 ^ 8 → rule < 2 ^ 8 → Value value → unpacked (word number rule value) ≡ told number rule value
 unfolding unpacked
@@ -124,3 +126,22 @@ blank-back capture buffer = count-back (blankOutcome capture buffer .answer) (bl
 pub blank-tells : (a b x y : List ℕ) → packed (countTold (blankOutcome a x .answer)) ≡ packed (countTold (blankOutcome b y .answer)) →
     blankOutcome a x .answer ≡ blankOutcome b y .answer
 blank-tells a b x y = count-tells (blankOutcome a x .answer) (blankOutcome b y .answer) (blank-fits a x) (blank-fits b y)
+
+module _ (records settings : List ℕ) (edition : ℕ) (buffer : List ℕ) where
+  abbrev readAnswer : Answer ℕ
+  readAnswer = readOutcome records settings edition buffer .answer
+
+  pub read-export-back : countAnswerOf (unpacked (packed (countTold readAnswer))) ≡ readAnswer
+  read-export-back = count-back readAnswer (read-fits records settings edition buffer)
+
+pub read-export-tells : (a b s t : List ℕ) (m n : ℕ) (x y : List ℕ) → packed (countTold (readAnswer a s m x)) ≡ packed (countTold (readAnswer b t n y)) →
+    readAnswer a s m x ≡ readAnswer b t n y
+read-export-tells a b s t m n x y = count-tells (readAnswer a s m x) (readAnswer b t n y) (read-fits a s m x) (read-fits b t n y)
+
+pub write-export-back : (capture buffer : List ℕ) →
+    countAnswerOf (unpacked (packed (countTold (writeOutcome capture buffer .answer)))) ≡ writeOutcome capture buffer .answer
+write-export-back capture buffer = count-back (writeOutcome capture buffer .answer) (write-fits capture buffer)
+
+pub write-export-tells : (a b x y : List ℕ) → packed (countTold (writeOutcome a x .answer)) ≡ packed (countTold (writeOutcome b y .answer)) →
+    writeOutcome a x .answer ≡ writeOutcome b y .answer
+write-export-tells a b x y = count-tells (writeOutcome a x .answer) (writeOutcome b y .answer) (write-fits a x) (write-fits b y)

@@ -1,5 +1,6 @@
 // The calls for C and Rust programs. Each answers one number, whose bits `specs/Packing` and include/morgazell.h describe.
 use cells::Listed;
+use exports::Converted;
 use hidden::Blanked;
 use judge::Verdict;
 use schedule::Scheduled;
@@ -7,6 +8,7 @@ ghost use mathlib.Core.Path.{_≡_};
 ghost use Prim.Native.Nat.{_<_};
 ghost use Rattle.reading.specs.Answers.{judgeAnswerTo, judgeAnswer, recordingAnswer, cellsOutcome, scheduleOutcome};
 ghost use Rattle.reading.specs.Blank.{blankOutcome};
+ghost use Rattle.reading.specs.Export.{readOutcome, writeOutcome};
 ghost use Rattle.version.specs.Version.{version};
 ghost use Rattle.morgazell.specs.Packing.{word, packed, judgeTold, countTold};
 
@@ -90,6 +92,37 @@ pub extern "C" fn morgazell_blank(capture: &[u8], out: &mut [u8]) -> u64
     match blanked {
         Blanked::Refused { number, place } => pack(number, 0, place),
         Blanked::Written { bytes } => pack(0, 0, bytes),
+    }
+}
+
+// These records of a handheld analyser as a capture of these settings and this edition; bytes behind it in the buffer stay.
+#[no_mangle]
+pub extern "C" fn morgazell_read_export(
+    records: &[u8],
+    settings: &[u32],
+    edition: u32,
+    out: &mut [u8],
+) -> u64
+    ensures { λ r. ⌜ r ≡ packed (countTold (readOutcome (now (records .entry)) (now (settings .entry)) edition (now (out .entry)) .answer)) ⌝ }
+    ensures { λ _. ⌜ now (out .exit) ≡ readOutcome (now (records .entry)) (now (settings .entry)) edition (now (out .entry)) .buffer ⌝ }
+{
+    let converted = exports::read(records, settings, edition, out);
+    match converted {
+        Converted::Refused { number, place } => pack(number, 0, place),
+        Converted::Written { bytes } => pack(0, 0, bytes),
+    }
+}
+
+// These bytes as a capture, as records of a handheld analyser; bytes behind them in the buffer stay.
+#[no_mangle]
+pub extern "C" fn morgazell_write_export(capture: &[u8], out: &mut [u8]) -> u64
+    ensures { λ r. ⌜ r ≡ packed (countTold (writeOutcome (now (capture .entry)) (now (out .entry)) .answer)) ⌝ }
+    ensures { λ _. ⌜ now (out .exit) ≡ writeOutcome (now (capture .entry)) (now (out .entry)) .buffer ⌝ }
+{
+    let converted = exports::write(capture, out);
+    match converted {
+        Converted::Refused { number, place } => pack(number, 0, place),
+        Converted::Written { bytes } => pack(0, 0, bytes),
     }
 }
 

@@ -17,6 +17,8 @@ enum Function {
     Schedule = 3,
     Blank = 4,
     Recording = 5,
+    ReadExport = 6,
+    WriteExport = 7,
 }
 
 pub struct Archive {
@@ -79,6 +81,24 @@ impl Archive {
     pub fn blank(&mut self, capture: &[u8], out: &mut [u8], lent: usize) -> io::Result<u64> {
         let counts = [capture.len(), 0, lent, out.len() - lent];
         self.ask(Function::Blank, counts, capture.to_vec(), out)
+    }
+
+    pub fn read_export(
+        &mut self,
+        records: &[u8],
+        settings: &[u32],
+        edition: u32,
+        out: &mut [u8],
+        lent: usize,
+    ) -> io::Result<u64> {
+        let counts = [records.len(), settings.len(), lent, out.len() - lent];
+        let inputs = [bytes_of(&[edition]), records.to_vec(), bytes_of(settings)].concat();
+        self.ask(Function::ReadExport, counts, inputs, out)
+    }
+
+    pub fn write_export(&mut self, capture: &[u8], out: &mut [u8], lent: usize) -> io::Result<u64> {
+        let counts = [capture.len(), 0, lent, out.len() - lent];
+        self.ask(Function::WriteExport, counts, capture.to_vec(), out)
     }
 
     /// Ends the program, which must have nothing to complain of.

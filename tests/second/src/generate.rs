@@ -5,6 +5,8 @@ mod addresses;
 mod captures;
 mod damage;
 mod dice;
+mod export_tally;
+mod exports;
 mod requests;
 mod settings;
 mod tally;
@@ -13,6 +15,8 @@ pub use addresses::other_addresses;
 pub use captures::{busy_capture, guided_capture, long_recording};
 pub use damage::damaged_capture;
 pub use dice::Dice;
+pub use export_tally::{ExportTally, Shown};
+pub use exports::{export, far_capture, settings_of, Export};
 pub use requests::{request_list, row_policy};
 pub use tally::{Tally, MOST_CELLS, NO_RULE};
 

@@ -7,6 +7,7 @@ pub mod blank;
 pub mod c;
 pub mod capture;
 pub mod command;
+pub mod export;
 pub mod generate;
 pub mod memory;
 pub mod month;
@@ -22,6 +23,7 @@ pub mod why;
 
 pub use blank::blank;
 pub use capture::Refusal;
+pub use export::{read_export, write_export};
 pub use memory::{plain, replay, Outcome};
 pub use month::month;
 pub use play::play;

@@ -9,9 +9,15 @@ use std::process::ExitCode;
 use std::{env, fmt, io};
 
 use second::archive::Archive;
-use second::capture::{Capture, Refusal};
-use second::generate::{input, long_recording, other_addresses, Dice, Input, Tally, MOST_CELLS};
-use second::{blank, cells, judge, judge_recording, packed, schedule};
+use second::capture::{bytes_of_edition, Capture, Refusal};
+use second::export::with_nops;
+use second::generate::{
+    export, far_capture, input, long_recording, other_addresses, settings_of, Dice, Export,
+    ExportTally, Input, Tally, MOST_CELLS,
+};
+use second::{
+    blank, cells, judge, judge_recording, packed, read_export, schedule, write_export,
+};
 
 /// What fills buffers beforehand, so that an element written by mistake shows.
 const UNTOUCHED: u32 = 0xa5c3_965a;
@@ -46,6 +52,7 @@ fn run(inputs: u64, seed: u64, build: &str) -> Result<(), String> {
     let mut comparison = Comparison {
         dice: Dice::new(seed),
         tally: Tally::default(),
+        exports: ExportTally::default(),
         archive: Archive::start(build).map_err(|error| format!("the archive: {error}"))?,
     };
     for number in 0..inputs {
@@ -53,11 +60,17 @@ fn run(inputs: u64, seed: u64, build: &str) -> Result<(), String> {
             .compare_next()
             .map_err(|difference| format!("input {number} of seed {seed}: {difference}"))?;
     }
-    let Comparison { tally, archive, .. } = comparison;
+    let Comparison {
+        tally,
+        exports,
+        archive,
+        ..
+    } = comparison;
     archive.finish().map_err(|error| error.to_string())?;
     println!("{inputs} inputs of seed {seed}, {build} build: no difference");
     println!("{tally}");
-    let missing = tally.missing();
+    println!("{exports}");
+    let missing = [tally.missing(), exports.missing()].concat();
     if missing.is_empty() {
         Ok(())
     } else {
@@ -87,14 +100,27 @@ struct Left<T> {
 struct Comparison {
     dice: Dice,
     tally: Tally,
+    exports: ExportTally,
     archive: Archive,
 }
 
 impl Comparison {
+    /// One in eight is an export, or a capture for one.
     fn compare_next(&mut self) -> Result<(), Difference> {
         if self.dice.once_in(LONG_ONCE_IN) {
             let recording = long_recording(&mut self.dice);
             self.compare_recordings(&recording)?;
+        }
+        match self.dice.below(16) {
+            0 => {
+                let export = export(&mut self.dice);
+                return self.compare_reads(&export);
+            }
+            1 => {
+                let capture = far_capture(&mut self.dice);
+                return self.compare_writes(&capture);
+            }
+            _ => {}
         }
         match input(&mut self.dice) {
             Input::Capture(capture) => {
@@ -102,7 +128,8 @@ impl Comparison {
                 self.compare_recordings(&capture)?;
                 self.compare_cells(&capture)?;
                 self.compare_blanks(&capture)?;
-                self.compare_addresses(&capture)
+                self.compare_addresses(&capture)?;
+                self.compare_writes(&capture)
             }
             Input::Requests {
                 settings,
@@ -253,6 +280,99 @@ impl Comparison {
         Ok(())
     }
 
+    /// The archive reads an export as this crate does; and where it is read, what was read is
+    /// accepted, and written again it is the export, byte for byte.
+    fn compare_reads(&mut self, export: &Export) -> Result<(), Difference> {
+        let untouched = UNTOUCHED as u8;
+        let Export {
+            records,
+            settings,
+            edition,
+        } = export;
+        let shown = || format!("{} settings {settings:?} edition {edition}", hex(records));
+        let read = |buffer: &mut [u8]| read_export(records, settings, *edition, buffer);
+        let needed = needed(read(&mut vec![untouched; MOST_BYTES]));
+        for length in self.lengths(needed, MOST_BYTES) {
+            let mut buffer = vec![untouched; length + FENCE];
+            let answer = read(&mut buffer[..length]);
+            self.exports.count_read(export, answer);
+            let expected = Left {
+                answer: packed::of_count(answer),
+                buffer,
+            };
+            let mut buffer = vec![untouched; length + FENCE];
+            let asked = &mut self.archive;
+            let answer = asked.read_export(records, settings, *edition, &mut buffer, length);
+            let found = answer.map(|answer| Left { answer, buffer });
+            same("read_export", &expected, found, shown)?;
+            if answer_is_written(expected.answer) {
+                let capture = &expected.buffer[..expected.answer as usize];
+                let back = Left {
+                    answer: records.len() as u64,
+                    buffer: records.clone(),
+                };
+                let mut buffer = vec![untouched; records.len()];
+                let answer = asked.write_export(capture, &mut buffer, records.len());
+                let found = answer.map(|answer| Left { answer, buffer });
+                same("write_export of what was read", &back, found, shown)?;
+            }
+        }
+        Ok(())
+    }
+
+    /// The archive writes a capture as this crate does; and where it is written, what was
+    /// written is read back as the capture with NOPs, and judged as that is.
+    fn compare_writes(&mut self, capture: &[u8]) -> Result<(), Difference> {
+        let untouched = UNTOUCHED as u8;
+        let needed = needed(write_export(capture, &mut vec![untouched; MOST_BYTES]));
+        for length in self.lengths(needed, MOST_BYTES) {
+            let mut buffer = vec![untouched; length + FENCE];
+            let answer = write_export(capture, &mut buffer[..length]);
+            self.exports.count_written(capture, answer);
+            let expected = Left {
+                answer: packed::of_count(answer),
+                buffer,
+            };
+            let mut buffer = vec![untouched; length + FENCE];
+            let answer = self.archive.write_export(capture, &mut buffer, length);
+            let found = answer.map(|answer| Left { answer, buffer });
+            same("write_export", &expected, found, || hex(capture))?;
+            if answer_is_written(expected.answer) {
+                let export = &expected.buffer[..expected.answer as usize];
+                self.compare_back(capture, export)?;
+            }
+        }
+        Ok(())
+    }
+
+    fn compare_back(&mut self, capture: &[u8], export: &[u8]) -> Result<(), Difference> {
+        let shown = || hex(capture);
+        let (settings, edition) = settings_of(capture);
+        let read = Capture::read(capture).expect("what is written was accepted");
+        let whole = bytes_of_edition(edition, &settings, &with_nops(&read.events));
+        let back = Left {
+            answer: whole.len() as u64,
+            buffer: whole.clone(),
+        };
+        let mut buffer = vec![0; whole.len()];
+        let length = buffer.len();
+        let asked = &mut self.archive;
+        let answer = asked.read_export(export, &settings, edition, &mut buffer, length);
+        let found = answer.map(|answer| Left { answer, buffer });
+        same("read_export of what was written", &back, found, shown)?;
+        let (before, after) = (judge(capture), judge(&whole));
+        self.exports.count_back(before, after);
+        let expected = Left {
+            answer: packed::of_answer(after),
+            buffer: Vec::<u8>::new(),
+        };
+        let found = self.archive.judge(&whole).map(|answer| Left {
+            answer,
+            buffer: Vec::new(),
+        });
+        same("judge of what was read back", &expected, found, shown)
+    }
+
     /// Two buffer lengths to try: one with room behind the answer, one just long enough or
     /// too short. A refused call gets a short one, and now and then one of any length.
     fn lengths(&mut self, needed: Option<usize>, most: usize) -> [usize; 2] {
@@ -272,6 +392,11 @@ impl Comparison {
             }
         }
     }
+}
+
+/// Whether an answer counts what was written.
+fn answer_is_written(answer: u64) -> bool {
+    answer >> 32 == 0
 }
 
 fn needed(answer: Result<u32, Refusal>) -> Option<usize> {
