@@ -1,14 +1,17 @@
 /* Morgazell for C and C++ programs on x86-64 Linux: judging captures of Mobile DDR commands, listing the cells of their
- * bursts, writing schedules, blanking addresses, reading and writing exports of a handheld analyser. Valid C99 and C++17.
+ * bursts, writing schedules, blanking addresses, reading and writing exports of a handheld analyser, telling which rows were
+ * open. Valid C99 and C++17.
  *
  * Every call but morgazell_version answers one number:
  *
  *     bits 56-63   the refusal, by its number below; 0: not refused
- *     bits 48-55   the broken rule, 1 to 15 without 6; 0: none (only morgazell_judge and morgazell_recording give one)
+ *     bits 48-55   the broken rule, 1 to 15 without 6; 0: none (only morgazell_judge and morgazell_recording give one); 1
+ *                  where a row is open (only morgazell_open_row)
  *     bits 32-47   0
  *     bits  0-31   refused:           the place
  *                  a rule is broken:  the event, from 0; the events before it were judged and broke none
  *                  neither, a count:  events judged, cells written, bytes written
+ *                  morgazell_open_row: the row, 0 where the bank is idle
  *
  * Nothing is lost by that: refusal and place, rule and event, and the count are got back from the number, and what else the
  * judge knows of a broken event, its cycle, stands in the capture.
@@ -29,14 +32,16 @@
  *        5     over 2,000 requests; else bits 27-30 of a request are set,     2,000; the lowest such request
  *              or the part lacks its cell
  *        6     refresh cannot be kept                                         the request
- *        8     cells are asked of a capture that is not clean                 the event that breaks a rule
+ *        8     cells or rows are asked of a capture that is not clean         the event that breaks a rule
+ *       13     a bank above 3, or an event at or above the number of events   0
  *       12     an export of a capture with 16 settings, or with a first       0
  *              cycle above 65,535, or that would have over 8,000 records
  *        7     the buffer is shorter than the answer                          the length needed, in its elements
  *
  * They are tried in this order and the first that applies is given. morgazell_judge and morgazell_recording can give 1 to 4,
  * morgazell_cells 1 to 4, 8 and 7, morgazell_schedule 2, 3, 10, 5, 6 and 7, morgazell_blank 1 to 4 and 7,
- * morgazell_read_export 2, 3, 11, 4 and 7, morgazell_write_export 1 to 4, 12 and 7.
+ * morgazell_open_row 1 to 4, 8, 13 and 7, for its records before its index, morgazell_read_export 2, 3, 11, 4 and 7,
+ * morgazell_write_export 1 to 4, 12 and 7.
  *
  * A capture is words of 32 bits, lowest byte first: six of header (its length in bytes; 14 or 16, the settings count; 24,
  * where they start; the number of events, at most 8,000; 80 or 88, where these start; 0 or 1, the edition), the settings,
@@ -166,11 +171,23 @@ uint64_t morgazell_read_export(const uint8_t *records, size_t len, const uint32_
  * gives the capture with those NOPs. MORGAZELL_LONGEST_EXPORT bytes are always enough. */
 uint64_t morgazell_write_export(const uint8_t *capture, size_t len, uint8_t *out, size_t out_len);
 
+/* Of a bank: how many openings stand before its own in the index, and how many it has. */
+struct morgazell_bank {
+    uint32_t before, count;
+};
+
+/* The row of the bank that was open after the event of a clean capture, by event numbers and not cycles. records[0] to
+ * records[3] are filled, and the index from index[0] on: three words an opening, bank 0's first, its row, the event of the
+ * ACTIVE that began it and the last event after which it still stood open. What lies behind them stays, and a refused call
+ * leaves both as they were. 24,000 words are always enough. */
+uint64_t morgazell_open_row(const uint8_t *capture, size_t len, uint32_t bank, uint32_t event,
+                            struct morgazell_bank *records, size_t records_len, uint32_t *index, size_t index_len);
+
 static inline unsigned morgazell_refusal(uint64_t answer) { return (unsigned)(answer >> 56); }
 
 static inline unsigned morgazell_rule(uint64_t answer) { return (unsigned)(answer >> 48) & 255; }
 
-/* The place, the event or the count. */
+/* The place, the event, the count or the row. */
 static inline uint32_t morgazell_value(uint64_t answer) { return (uint32_t)answer; }
 
 #ifdef __cplusplus

@@ -2,13 +2,14 @@
  *
  * A question is five words and what they count:
  *     0      1 morgazell_judge, 2 morgazell_cells, 3 morgazell_schedule, 4 morgazell_blank, 5 morgazell_recording,
- *            6 morgazell_read_export, 7 morgazell_write_export
+ *            6 morgazell_read_export, 7 morgazell_write_export, 8 morgazell_open_row
  *     1, 2   elements of the inputs: bytes of a capture and 0; words of settings and of requests; bytes of records and words
- *            of settings
+ *            of settings; bytes of a capture and lent records
  *     3      elements of the lent buffer
- *     4      elements behind it that the call must not touch
- * then for a schedule its row policy, for records the edition, a word; then the inputs, then the buffer with what lies behind it. The answer is the
- * packed number and, in the same length, the buffer with what lies behind it. Words are little-endian, as the processor
+ *     4      elements behind it, and behind the records, that the call must not touch
+ * then for a schedule its row policy, for an export the edition, a word, and for an open row the bank and the event; then the
+ * inputs, records with what lies behind them, then the buffer with what lies behind it. The answer is the packed number and,
+ * in the same length, the records and the buffer with what lies behind them. Words are little-endian, as the processor
  * has them.
  *
  * Inputs end where a page begins that nothing may touch, so a read behind an input ends the program. */
@@ -19,7 +20,16 @@
 
 #include "morgazell.h"
 
-enum { JUDGE = 1, CELLS = 2, SCHEDULE = 3, BLANK = 4, RECORDING = 5, READ_EXPORT = 6, WRITE_EXPORT = 7 };
+enum {
+    JUDGE = 1,
+    CELLS = 2,
+    SCHEDULE = 3,
+    BLANK = 4,
+    RECORDING = 5,
+    READ_EXPORT = 6,
+    WRITE_EXPORT = 7,
+    OPEN_ROW = 8
+};
 
 #define PAGE 4096
 /* Room for any question of the tests: recordings somewhat over the longest capture, buffers for any answer. */
@@ -67,10 +77,10 @@ static void *lent(uint8_t *start, uint32_t elements)
     return elements == 0 ? NULL : start;
 }
 
-static uint64_t call(const uint32_t *question, uint32_t chosen, uint8_t *inputs[2], uint8_t *buffer)
+static uint64_t call(const uint32_t *question, const uint32_t *asked, uint8_t *inputs[2], uint8_t *buffer)
 {
     const void *first = lent(inputs[0], question[1]);
-    const void *second = lent(inputs[1], question[2]);
+    void *second = lent(inputs[1], question[2]);
     void *out = lent(buffer, question[3]);
     switch (question[0]) {
     case JUDGE:
@@ -78,15 +88,17 @@ static uint64_t call(const uint32_t *question, uint32_t chosen, uint8_t *inputs[
     case CELLS:
         return morgazell_cells(first, question[1], out, question[3]);
     case SCHEDULE:
-        return morgazell_schedule(first, question[1], second, question[2], chosen, out, question[3]);
+        return morgazell_schedule(first, question[1], second, question[2], asked[0], out, question[3]);
     case BLANK:
         return morgazell_blank(first, question[1], out, question[3]);
     case RECORDING:
         return morgazell_recording(first, question[1]);
     case READ_EXPORT:
-        return morgazell_read_export(first, question[1], second, question[2], chosen, out, question[3]);
+        return morgazell_read_export(first, question[1], second, question[2], asked[0], out, question[3]);
     case WRITE_EXPORT:
         return morgazell_write_export(first, question[1], out, question[3]);
+    case OPEN_ROW:
+        return morgazell_open_row(first, question[1], asked[0], asked[1], second, question[2], out, question[3]);
     default:
         fail("no such function");
         return 0;
@@ -98,19 +110,26 @@ int main(void)
     static uint32_t question[5];
     uint8_t *ends[3] = {fenced_end(), fenced_end(), fenced_end()};
     while (fread(question, sizeof question, 1, stdin) == 1) {
+        int rows = question[0] == OPEN_ROW;
+        int chosen = question[0] == SCHEDULE || question[0] == READ_EXPORT;
         size_t first = question[0] == SCHEDULE ? 4 : 1;
-        size_t second = question[0] == SCHEDULE || question[0] == READ_EXPORT ? 4 : 1;
-        size_t element = question[0] == CELLS ? 4 : 1;
+        size_t element = question[0] == CELLS || rows ? 4 : 1;
+        size_t second = rows ? sizeof(struct morgazell_bank) * ((size_t)question[2] + question[4])
+                             : (chosen ? 4 : 1) * (size_t)question[2];
         size_t whole = element * ((size_t)question[3] + question[4]);
         uint8_t *inputs[2];
-        uint32_t chosen = 0;
-        if (question[0] == SCHEDULE || question[0] == READ_EXPORT)
-            take(&chosen, sizeof chosen);
+        uint32_t asked[2] = {0, 0};
+        if (chosen)
+            take(asked, sizeof asked[0]);
+        if (rows)
+            take(asked, sizeof asked);
         inputs[0] = placed(ends[0], first * question[1]);
-        inputs[1] = placed(ends[1], second * question[2]);
+        inputs[1] = placed(ends[1], second);
         uint8_t *buffer = placed(ends[2], whole);
-        uint64_t answer = call(question, chosen, inputs, buffer);
+        uint64_t answer = call(question, asked, inputs, buffer);
         give(&answer, sizeof answer);
+        if (rows)
+            give(inputs[1], second);
         give(buffer, whole);
         fflush(stdout);
     }

@@ -1,7 +1,8 @@
 #!/usr/bin/env python3
 """Every public function of every library crate has its law in crates/demands/proofs/Settled.antt: its contract settles its
 result and the contents of every buffer lent to it. The law's lines are made here from the function, and that file is these
-lines, to the letter, and its proofs. The exceptions are those that docs/PROMISES.md names.
+lines, to the letter, and its proofs. The exceptions are those that docs/PROMISES.md names. A function whose proof is a walk by
+hand has its law in crates/demands/proofs/Held.antt instead: what its contract ensures, word for word as one fact.
 
 The test is then given laws and sources made wrong on purpose (faults.py), and has to tell of each."""
 import collections
@@ -13,6 +14,7 @@ import faults
 
 ROOT = os.path.join(os.path.dirname(os.path.abspath(__file__)), "..", "..")
 LAWS = os.path.join("crates", "demands", "proofs", "Settled.antt")
+HELD = os.path.join("crates", "demands", "proofs", "Held.antt")
 
 # They read and print for the programs: all of `console`, and of `wording` what is lent the mark of an output.
 READING = "console"
@@ -118,9 +120,22 @@ def lines_of(function):
     ]
 
 
+def by_hand(function):
+    """Its proof is a walk by hand, so the check makes no reading of its contract to state a law about."""
+    proof = os.path.join("crates", function.crate, "proofs", *function.path, "Proof.antt")
+    return os.path.exists(os.path.join(ROOT, proof)) and "walk-meets" in read(proof)
+
+
+def unheld(texts, held):
+    """The functions proved by hand and the laws about them that do not belong to each other."""
+    wanted = {"-".join([f.crate] + f.path).replace("_", "-") for text in texts for f in functions(*text) if by_hand(f)}
+    there = set(re.findall(r"^  pub (\S+)-says : ", held, re.M))
+    return ["no law in %s: %s" % (HELD, name) for name in sorted(wanted ^ there)]
+
+
 def wrong(texts, laws):
     """What is missing in the laws, and what stands there beside them."""
-    public = [function for text in texts for function in functions(*text)]
+    public = [function for text in texts for function in functions(*text) if not by_hand(function)]
     wanted = collections.Counter(BROUGHT)
     for function in public:
         wanted.update(lines_of(function))
@@ -136,7 +151,9 @@ def wrong(texts, laws):
 def main():
     # A law stands on one line, or on two where it is long.
     texts, laws = list(sources()), read(LAWS).replace(" →\n    ", " → ")
-    found = wrong(texts, laws)
+    found = wrong(texts, laws) + unheld(texts, read(HELD))
+    if "mod Held" not in read("crates", "demands", "proofs", "Lib.antt").splitlines():
+        found.append("the laws of functions proved by hand are not declared, so nothing checks them")
     if "mod Settled" not in read("crates", "demands", "proofs", "Lib.antt").splitlines():
         found.append("the laws are not declared, so nothing checks them")
     made = [] if found else list(faults.made(texts, laws))

@@ -37,7 +37,7 @@ fn names_bank(bank: usize, w: u32) -> bool
 }
 
 // A PRECHARGE of the bank, or of all.
-fn shuts_bank(bank: usize, w: u32) -> bool
+pub fn shuts_bank(bank: usize, w: u32) -> bool
     ensures { λ r. ⌜ r ≡ shutsBank bank w ⌝ }
 {
     if pins::code(w) != pins::PRECHARGE {

@@ -77,7 +77,7 @@ module _ (s : Settings) (p : Part) (e : Event) where
       go false f = sym (λ i. firstCells s (stays f 0 i) (stays f 1 i) (stays f 2 i) (stays f 3 i))
 
   -- a row is what fourteen pins can say
-  low-after : ((b : ℕ) → p .banks b .row < 16384) → (b : ℕ) → next .banks b .row < 16384
+  pub low-after : ((b : ℕ) → p .banks b .row < 16384) → (b : ℕ) → next .banks b .row < 16384
   low-after low b = rw (row-is s p e b) (go (opens && eqb b (bankOf (e .pins))))
     where
       go : (v : Bool) → cond v (addressOf (e .pins)) (p .banks b .row) < 16384

@@ -12,6 +12,8 @@ pub mod Unaccepted
 pub mod Judged
 pub mod Converting
 pub mod Exporting
+pub mod OpenRow
 mod Finding
 mod Settled
+mod Held
 pub mod AsBefore

@@ -96,6 +96,7 @@ use Rattle.drafts.proofs.refresh.Reads as drafts-refresh
 use Rattle.serving.proofs.margin.Reads as serving-margin
 use Rattle.serving.proofs.serve.Reads as serving-serve
 use Rattle.schedule.proofs.schedule.Reads as schedule-schedule
+use Rattle.beats.proofs.shuts_bank.Reads as beats-shuts-bank
 use Rattle.beats.proofs.mode_after.Reads as beats-mode-after
 use Rattle.beats.proofs.column.Reads as beats-column
 use Rattle.beats.proofs.first_cell.Reads as beats-first-cell
@@ -109,6 +110,10 @@ use Rattle.cells.proofs.kept_beats.Reads as cells-kept-beats
 use Rattle.cells.proofs.burst_at.Reads as cells-burst-at
 use Rattle.cells.proofs.passed.Reads as cells-passed
 use Rattle.cells.proofs.burst_cells.Reads as cells-burst-cells
+use Rattle.browser.proofs.event_at.Reads as browser-event-at
+use Rattle.openings.proofs.stands.Reads as openings-stands
+use Rattle.openings.proofs.write.Reads as openings-write
+use Rattle.asking.proofs.open_row.Reads as asking-open-row
 use Rattle.morgazell.proofs.morgazell_judge.Reads as morgazell-morgazell-judge
 use Rattle.morgazell.proofs.morgazell_recording.Reads as morgazell-morgazell-recording
 use Rattle.morgazell.proofs.morgazell_cells.Reads as morgazell-morgazell-cells
@@ -486,6 +491,9 @@ schedule-schedule-settles κs a z z′ e e′ p q = (schedule.one-answer z z′ 
 
 -- ---- beats
 
+pub beats-shuts-bank-settles : (κs : _) (a : _) (z z′ : _) (e e′ : _) → beats-shuts-bank.Post κs a z e → beats-shuts-bank.Post κs a z′ e′ → z ≡ z′
+beats-shuts-bank-settles κs a z z′ e e′ p q = p ∙ sym q
+
 pub beats-mode-after-settles : (κs : _) (a : _) (z z′ : _) (e e′ : _) → beats-mode-after.Post κs a z e → beats-mode-after.Post κs a z′ e′ → z ≡ z′
 beats-mode-after-settles κs a z z′ e e′ p q = p ∙ sym q
 
@@ -530,6 +538,26 @@ cells-passed-settles κs a z z′ e e′ p q = (p .0 ∙ sym (q .0), p .1 ∙ sy
 pub cells-burst-cells-settles : (κs : _) (a : _) (z z′ : _) (e e′ : _) → cells-burst-cells.Post κs a z e → cells-burst-cells.Post κs a z′ e′ →
     (z ≡ z′) × (now (e .1 .0) ≡ now (e′ .1 .0))
 cells-burst-cells-settles κs a z z′ e e′ p q = (cells.one-answer z z′ (p .0 ∙ sym (q .0)), p .1 ∙ sym (q .1))
+
+-- ---- browser
+
+pub browser-event-at-settles : (κs : _) (a : _) (z z′ : _) (e e′ : _) → browser-event-at.Post κs a z e → browser-event-at.Post κs a z′ e′ → z ≡ z′
+browser-event-at-settles κs a z z′ e e′ p q = p ∙ sym q
+
+-- ---- openings
+
+pub openings-stands-settles : (κs : _) (a : _) (z z′ : _) (e e′ : _) → openings-stands.Post κs a z e → openings-stands.Post κs a z′ e′ → z ≡ z′
+openings-stands-settles κs a z z′ e e′ p q = p ∙ sym q
+
+pub openings-write-settles : (κs : _) (a : _) (z z′ : _) (e e′ : _) → openings-write.Post κs a z e → openings-write.Post κs a z′ e′ →
+    now (e .1 .1 .0) ≡ now (e′ .1 .1 .0)
+openings-write-settles κs a z z′ e e′ p q = p ∙ sym q
+
+-- ---- asking
+
+pub asking-open-row-settles : (κs : _) (a : _) (z z′ : _) (e e′ : _) → asking-open-row.Post κs a z e → asking-open-row.Post κs a z′ e′ →
+    (z ≡ z′) × (now (e .1 .1 .1 .1 .0) ≡ now (e′ .1 .1 .1 .1 .0))
+asking-open-row-settles κs a z z′ e e′ p q = (p .0 ∙ sym (q .0), p .1 ∙ sym (q .1))
 
 -- ---- hidden
 

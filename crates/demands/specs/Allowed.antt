@@ -1,10 +1,11 @@
 -- What the contracts of the public functions allow: a result and, where a buffer is lent, its contents afterwards.
 use Prim.Native.Nat.{ℕ}
-use mathlib.Core.List.{List}
+use mathlib.Core.List.{List, map}
 use mathlib.Core.Path.{_≡_}
 use Rattle.reading.specs.Capture.{mostEvents, mostRecorded}
 use Rattle.reading.specs.Answers.{judgeAnswerTo, cellsOutcome, scheduleOutcome}
 use Rattle.reading.specs.Blank.{blankOutcome}
+use Rattle.reading.specs.OpenRow.{openRowOutcome}
 use Rattle.capture.specs.Calls.{Meets}
 use Rattle.judge.specs.declared.Verdict.{Verdict}
 use Rattle.judge.specs.declared.Verdict.the-variants as verdict
@@ -21,6 +22,9 @@ use Rattle.reading.specs.Export.{readOutcome, writeOutcome}
 use Rattle.exports.specs.declared.Converted.{Converted}
 use Rattle.exports.specs.declared.Converted.the-variants as converted
 use Rattle.exports.specs.Meaning as exports
+use Rattle.banks.specs.declared.Bank.{Bank}
+use Rattle.banks.specs.Banks.{bankOf, recordOf}
+use Rattle.morgazell.specs.Packing.{packed, rowTold}
 
 -- by `judge::judge_to`, where there may be so many events
 abbrev pub JudgesTo : ℕ → List ℕ → Verdict → Type 0
@@ -53,6 +57,13 @@ ReadsExport x ws edition out r left = Meets (exports.means r) left (readOutcome 
 -- by `exports::write`, lent `out`, which holds `left` afterwards
 abbrev pub WritesExport : List ℕ → List ℕ → Converted → List ℕ → Type 0
 WritesExport capture out r left = Meets (exports.means r) left (writeOutcome capture out)
+
+-- by `morgazell::morgazell_open_row`, lent records and an index, which hold `left` and `words` afterwards
+abbrev pub Tells : List ℕ → ℕ → ℕ → List Bank → List ℕ → ℕ → List Bank → List ℕ → Type 0
+Tells capture bank event records index r left words =
+    (r ≡ packed (rowTold (openRowOutcome capture bank event (map recordOf records) index .answer)))
+    × (left ≡ map bankOf (openRowOutcome capture bank event (map recordOf records) index .records))
+    × (words ≡ openRowOutcome capture bank event (map recordOf records) index .index)
 
 -- by every call that is asked about a capture: it is refused so, and what was lent is left as it was
 pub record RefusedByAll (capture : List ℕ) (number place : ℕ) : Type 0 where

@@ -6,10 +6,11 @@ use mathlib.Core.Option.{none, some}
 use mathlib.Core.Path.{_≡_}
 use lib.ListN.{length}
 use Rattle.reading.specs.Settings.{settingsOf, badSetting}
-use Rattle.reading.specs.Capture.{Event, eventsOf}
+use Rattle.reading.specs.Capture.{Event, eventCount, eventsOf}
 use Rattle.reading.specs.Part.{start}
 use Rattle.reading.specs.Schedule.{planned, late, badRequest, scheduleOf, captureOf}
 use Rattle.reading.specs.Answers.{settingsIn, cellsIn}
+use Rattle.reading.specs.OpenRow.{indexIn}
 use Rattle.reading.proofs.Meaning.{Unbroken, BrokenAt}
 use Rattle.demands.specs.Captures.{CaptureRefused}
 -- what refusals 1 to 4 say of a capture, and none of them
@@ -38,6 +39,24 @@ pub data BlankRefused (capture out : List ℕ) (number place : ℕ) : Type 0 whe
   unopened : CaptureRefused capture number place → BlankRefused capture out number place
   -- 7: the bytes of the capture
   scant : Accepted capture → number ≡ 7 → place ≡ length capture → length out < place → BlankRefused capture out number place
+
+-- a question about a bank and an event, where so many records and words of an index are lent
+pub data RowRefused (capture : List ℕ) (bank event records words number place : ℕ) : Type 0 where
+  -- 1 to 4
+  unread : CaptureRefused capture number place → RowRefused capture bank event records words number place
+  -- 8: the first event that breaks a rule
+  unsound : Accepted capture → number ≡ 8 → (rule cycle : ℕ) →
+      BrokenAt (settingsIn capture) (start (settingsIn capture)) (eventsOf capture) place rule cycle →
+      RowRefused capture bank event records words number place
+  -- 13: a bank above 3, or an event at or above N
+  unasked : Accepted capture → Clean capture → number ≡ 13 → place ≡ 0 → (bank ≤ 3 → eventCount capture ≤ event) →
+      RowRefused capture bank event records words number place
+  -- 7: four records
+  unlent : Accepted capture → Clean capture → bank ≤ 3 → event < eventCount capture → number ≡ 7 → place ≡ 4 → records < 4 →
+      RowRefused capture bank event records words number place
+  -- 7: the words that the index needs
+  unwritten : Accepted capture → Clean capture → bank ≤ 3 → event < eventCount capture → 4 ≤ records → number ≡ 7 →
+      place ≡ length (indexIn capture) → words < place → RowRefused capture bank event records words number place
 
 -- settings that fit
 pub record Fine (ws : List ℕ) : Type 0 where

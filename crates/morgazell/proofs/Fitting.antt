@@ -1,14 +1,14 @@
 -- Whatever document 01 answers fits the bits that it is packed into.
 use Prim.Native.Nat.{ℕ, zero, suc, _+_, _*_, _^_, _≤_, _<_}
 use mathlib.Core.Bool.{Bool, true, false, cond, not}
-use mathlib.Core.List.{List, [], _∷_, map, List·Memᴰ, List·Memᴰ·not-nil, List·Memᴰ·cases-cons}
+use mathlib.Core.List.{List, [], _∷_, _++_, map, List·Memᴰ, List·Memᴰ·not-nil, List·Memᴰ·cases-cons}
 use mathlib.Core.Logic.{_⊎_, inl, inr}
 use mathlib.Core.Option.{Option, none, some}
 use mathlib.Core.Path.{_≡_, refl, sym, _∙_, subst}
 use native.Mathlib.Omega.{arith}
 use borrow.Author.Tests.{eqb-true, ltb-false, not-false}
 use lib.Dec.{eqb, ltb}
-use lib.ListN.{length, length-append, length-map, length-reverse, getD}
+use lib.ListN.{length, length-append, length-map, length-reverse, take, getD}
 use Rattle.reading.specs.Search.{find, lowest, orElse, given}
 use Rattle.reading.specs.Search as search
 use Rattle.reading.specs.Settings.{Settings, settingsOf, settingFits, outOfRange, contradiction, badSetting}
@@ -22,6 +22,8 @@ use Rattle.reading.specs.Cells.{burstsOf, cellsOf}
 use Rattle.reading.specs.Schedule.{Schedule, planned, late, policyFits, closesRows, requestFits, badRequest, scheduleFrom, scheduleBy, scheduleOf, served, whenServed, captureOf}
 use Rattle.reading.specs.Answers.{Answer, Report, refused, answered, unless, acceptedTo, settingsIn, verdictIn, judgeAnswerTo, leaves, fitting, notClean, cellsIn, cellsOutcome, whenPlanned, scheduleOutcome}
 use Rattle.reading.specs.Blank.{blanked, blankOutcome}
+use Rattle.reading.specs.Openings.{Opening, opens, lastOpen, openingsFrom, openingsOf, indexOf, rowOf, rowAfter}
+use Rattle.reading.specs.OpenRow.{indexIn, rowIn, questionFits, openRowAnswer}
 use Rattle.reading.proofs.Meaning.{BrokenAt, verdict-broken}
 use Rattle.reading.proofs.Cuts.{All, nil, cons, Whole, bursts-whole}
 use Rattle.reading.proofs.Laws.{not-given}
@@ -30,10 +32,12 @@ use Rattle.capture.proofs.Accepted.{sized, count-range, words-count, accepted-s
 use Rattle.capture.proofs.Whole.{size}
 use Rattle.beats.proofs.Columns.{half-le}
 use Rattle.judge.proofs.Events.{length-count}
+use Rattle.cells.proofs.Rows.{low-after}
+use Rattle.openings.proofs.Writing.{words-length}
 use Rattle.alike.proofs.Blanked.{blanked-length}
 use Rattle.plan.proofs.Ready.{few-requests}
 use Rattle.plan.proofs.Captured as plan
-use Rattle.morgazell.specs.Packing.{Told, refusal, count, breach, verdictTold, judgeTold, countTold}
+use Rattle.morgazell.specs.Packing.{Told, refusal, count, breach, verdictTold, judgeTold, countTold, rowTold, Packs}
 
 -- a number of eight bits that is not 0, and one of 32
 abbrev pub Number : ℕ → Type 0
@@ -227,6 +231,78 @@ unfolding blankOutcome
 blank-fits capture buffer =
     on-accepted (Filled buffer) mostEvents (omega arith) capture _ (λ number place n v. (n, v))
     (λ open-to. room buffer (blanked capture) (blanked-few capture open-to))
+
+-- ---- open rows: an opening an event at most, and rows of fourteen bits
+
+openings-length : (s : Settings) (b : ℕ) (p : Part) (i : ℕ) (es : List Event) → length (openingsFrom s b p i es) ≤ length es
+openings-length s b p i [] = omega arith
+openings-length s b p i (e ∷ es) = go (opens (commandOf (e .pins)) b) (openings-length s b (step s p e) (suc i) es)
+  where
+    go : (y : Bool) → length (openingsFrom s b (step s p e) (suc i) es) ≤ length es →
+        length (cond y (record { row = step s p e .banks b .row; first = i; last = lastOpen s b (step s p e) i es } ∷ openingsFrom s b (step s p e) (suc i) es)
+        (openingsFrom s b (step s p e) (suc i) es)) ≤ suc (length es)
+    go true l = omega (arith, l)
+    go false l = omega (arith, l)
+
+index-few : (capture : List ℕ) → eventCount capture ≤ 8000 → Value (length (indexIn capture))
+unfolding indexIn indexOf openingsOf
+index-few capture short =
+    let s = settingsIn capture in
+    let es = eventsOf capture in
+    let o : ℕ → List Opening = λ b. openingsFrom s b (start s) 0 es in
+    let few : (b : ℕ) → length (o b) ≤ length es = λ b. openings-length s b (start s) 0 es in
+    omega (
+      arith,
+      words-length (o 0 ++ o 1 ++ o 2 ++ o 3),
+      length-append (o 0 ++ o 1 ++ o 2) (o 3),
+      length-append (o 0 ++ o 1) (o 2),
+      length-append (o 0) (o 1),
+      few 0,
+      few 1,
+      few 2,
+      few 3,
+      events-length capture short,
+    )
+
+rows-low : (s : Settings) (p : Part) (es : List Event) → ((b : ℕ) → p .banks b .row < 16384) → (b : ℕ) → run s p es .banks b .row < 16384
+rows-low s p [] low b = low b
+rows-low s p (e ∷ es) low b = rows-low s (step s p e) es (low-after s p e low) b
+
+abbrev RowFits : Option ℕ → Type 0
+RowFits o = Fits (rowTold (answered o))
+
+row-in-fits : (capture : List ℕ) (bank event : ℕ) → RowFits (rowIn capture bank event)
+unfolding rowIn rowAfter
+row-in-fits capture bank event =
+    let s = settingsIn capture in
+    let k = run s (start s) (take (suc event) (eventsOf capture)) .banks bank in
+    go (k .opened) (k .row) (rows-low s (start s) (take (suc event) (eventsOf capture)) (λ b. omega arith) bank)
+  where
+    go : (y : Bool) (row : ℕ) → row < 16384 → RowFits (cond y (some row) none)
+    go true row l = (omega arith, omega (arith, l))
+    go false row l = omega arith
+
+pub row-fits : (capture : List ℕ) (bank event records words : ℕ) → Fits (rowTold (openRowAnswer capture bank event records words))
+unfolding openRowAnswer
+row-fits capture bank event records words =
+    on-accepted (λ (a : Answer (Option ℕ)). Fits (rowTold a)) capture _ (λ number place n v. (n, v))
+    (λ open-to.
+    go (accepted-few capture open-to) (notClean (verdictIn capture)) (not (questionFits capture bank event)) (ltb records 4) (ltb words needed) refl)
+  where
+    needed : ℕ
+    needed = length (indexIn capture)
+
+    go : eventCount capture ≤ 8000 → (o : Option ℕ) (x y z : Bool) → notClean (verdictIn capture) ≡ o →
+        Fits (rowTold (unless 8 o (unless 13 (given 0 x) (unless 7 (given 4 y) (unless 7 (given needed z) (answered (rowIn capture bank event)))))))
+    go short (some place) x y z e = (omega arith, not-clean-fits capture short (verdictIn capture) refl place e)
+    go short none true y z e = (omega arith, omega arith)
+    go short none false true z e = (omega arith, omega arith)
+    go short none false false true e = (omega arith, index-few capture short)
+    go short none false false false e = row-in-fits capture bank event
+
+pub row-packs : (a : Answer (Option ℕ)) → Fits (rowTold a) → Packs a
+row-packs (refused number place) f = f .0 .1
+row-packs (answered row) f = tt
 
 -- ---- schedules
 

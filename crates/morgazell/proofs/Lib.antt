@@ -3,3 +3,4 @@ pub mod Fitting
 pub mod Exports
 pub mod Saying
 pub mod Reversible
+mod OpenRows

@@ -2,6 +2,7 @@
 use Prim.Native.Nat.{ℕ, _^_, _<_}
 use mathlib.Core.Bool.{false}
 use mathlib.Core.List.{List}
+use mathlib.Core.Option.{Option, none, some}
 use mathlib.Core.Path.{_≡_, refl, sym, ap, _∙_}
 use native.Mathlib.Nat.{zero-add}
 use native.Mathlib.Omega.{arith}
@@ -12,10 +13,11 @@ use Rattle.reading.specs.Verdict as is
 use Rattle.reading.specs.Answers.{Answer, Report, refused, answered, verdictIn, judgeAnswerTo, judgeAnswer, recordingAnswer, cellsOutcome, scheduleOutcome}
 use Rattle.reading.specs.Blank.{blankOutcome}
 use Rattle.reading.specs.Export.{readOutcome, writeOutcome}
+use Rattle.reading.specs.OpenRow.{openRowAnswer}
 use Rattle.reading.proofs.Meaning.{eventOf}
 use Rattle.words.proofs.Counting.{at-count}
-use Rattle.morgazell.specs.Packing.{Told, refusal, count, breach, word, packed, told, numberIn, ruleIn, valueIn, unpacked, verdictTold, judgeTold, countTold, judgeAnswerOf, countAnswerOf}
-use Rattle.morgazell.proofs.Fitting.{Number, Value, Fits, on-accepted, accepted-few, events-length, broken-at, judge-fits, cells-fits, schedule-fits, blank-fits}
+use Rattle.morgazell.specs.Packing.{Told, refusal, count, breach, word, packed, told, numberIn, ruleIn, valueIn, unpacked, verdictTold, judgeTold, countTold, rowTold, judgeAnswerOf, countAnswerOf, rowAnswerOf}
+use Rattle.morgazell.proofs.Fitting.{Number, Value, Fits, on-accepted, accepted-few, events-length, broken-at, judge-fits, cells-fits, schedule-fits, blank-fits, row-fits}
 use Rattle.morgazell.proofs.Exports.{read-fits, write-fits}
 
 word-back : (number rule value : ℕ) → number < 2 ^ 8 → rule < 2 ^ 8 → Value value → unpacked (word number rule value) ≡ told number rule value
@@ -145,3 +147,21 @@ write-export-back capture buffer = count-back (writeOutcome capture buffer .answ
 pub write-export-tells : (a b x y : List ℕ) → packed (countTold (writeOutcome a x .answer)) ≡ packed (countTold (writeOutcome b y .answer)) →
     writeOutcome a x .answer ≡ writeOutcome b y .answer
 write-export-tells a b x y = count-tells (writeOutcome a x .answer) (writeOutcome b y .answer) (write-fits a x) (write-fits b y)
+
+-- ---- open rows
+
+module _ (capture : List ℕ) (bank event records words : ℕ) where
+  abbrev rowAnswer : Answer (Option ℕ)
+  rowAnswer = openRowAnswer capture bank event records words
+
+  pub row-back : rowAnswerOf (unpacked (packed (rowTold rowAnswer))) ≡ rowAnswer
+  row-back = ap rowAnswerOf (unpacked-packed (rowTold rowAnswer) (row-fits capture bank event records words)) ∙ go rowAnswer
+    where
+      go : (a : Answer (Option ℕ)) → rowAnswerOf (rowTold a) ≡ a
+      go (refused number place) = refl
+      go (answered none) = refl
+      go (answered (some row)) = refl
+
+pub row-tells : (a b : List ℕ) (j k e f r t x y : ℕ) → packed (rowTold (rowAnswer a j e r x)) ≡ packed (rowTold (rowAnswer b k f t y)) →
+    rowAnswer a j e r x ≡ rowAnswer b k f t y
+row-tells a b j k e f r t x y h = sym (row-back a j e r x) ∙ ap (λ (w : ℕ). rowAnswerOf (unpacked w)) h ∙ row-back b k f t y

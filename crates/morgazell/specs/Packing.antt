@@ -1,7 +1,9 @@
--- Answers as one number: bits 56-63 the refusal, bits 48-55 the broken rule, bits 0-31 the place, the event or the count.
-use Prim.Native.Nat.{ℕ, _+_, _*_, _/_, _%_, _^_}
+-- Answers as one number: bits 56-63 the refusal, bits 48-55 the broken rule or 1 for an open row, bits 0-31 the place, the event,
+-- the count or the row.
+use Prim.Native.Nat.{ℕ, _+_, _*_, _/_, _%_, _^_, _<_}
 use mathlib.Core.Bool.{cond}
 use mathlib.Core.List.{List}
+use mathlib.Core.Option.{Option, none, some}
 use lib.Dec.{eqb}
 use Rattle.reading.specs.Capture.{eventCount, eventBytes, eventAt}
 use Rattle.reading.specs.Verdict as is
@@ -13,7 +15,7 @@ pub data Told : Type 0 where
   refusal : ℕ → ℕ → Told
   -- events judged, cells written, bytes written
   count : ℕ → Told
-  -- the lowest rule and the event
+  -- the lowest rule and the event; or 1 and the row that is open
   breach : ℕ → ℕ → Told
 
 abbrev pub word : ℕ → ℕ → ℕ → ℕ
@@ -38,6 +40,17 @@ judgeTold (answered r) = verdictTold (r .judged) (r .verdict)
 abbrev pub countTold : Answer ℕ → Told
 countTold (refused number place) = refusal number place
 countTold (answered n) = count n
+
+-- a row that is open, or 0 for idle
+abbrev pub rowTold : Answer (Option ℕ) → Told
+rowTold (refused number place) = refusal number place
+rowTold (answered none) = count 0
+rowTold (answered (some row)) = breach 1 row
+
+-- the refusal fits its bits
+abbrev pub Packs : Answer (Option ℕ) → Type 0
+Packs (refused number place) = number < 2 ^ 8
+Packs (answered row) = Unit {0}
 
 -- ---- and back
 
@@ -72,3 +85,8 @@ abbrev pub countAnswerOf : Told → Answer ℕ
 countAnswerOf (refusal number place) = refused number place
 countAnswerOf (count n) = answered n
 countAnswerOf (breach rule event) = answered 0
+
+abbrev pub rowAnswerOf : Told → Answer (Option ℕ)
+rowAnswerOf (refusal number place) = refused number place
+rowAnswerOf (count n) = answered none
+rowAnswerOf (breach one row) = answered (some row)

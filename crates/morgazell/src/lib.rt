@@ -1,4 +1,7 @@
 // The calls for C and Rust programs. Each answers one number, whose bits `specs/Packing` and include/morgazell.h describe.
+use banks::Asked;
+use banks::Bank;
+use banks::Told;
 use cells::Listed;
 use exports::Converted;
 use hidden::Blanked;
@@ -6,11 +9,14 @@ use judge::Verdict;
 use schedule::Scheduled;
 ghost use mathlib.Core.Path.{_≡_};
 ghost use Prim.Native.Nat.{_<_};
+ghost use mathlib.Core.List.{map};
 ghost use Rattle.reading.specs.Answers.{judgeAnswerTo, judgeAnswer, recordingAnswer, cellsOutcome, scheduleOutcome};
 ghost use Rattle.reading.specs.Blank.{blankOutcome};
 ghost use Rattle.reading.specs.Export.{readOutcome, writeOutcome};
+ghost use Rattle.reading.specs.OpenRow.{openRowOutcome};
+ghost use Rattle.banks.specs.Banks.{means, bankOf, recordOf};
 ghost use Rattle.version.specs.Version.{version};
-ghost use Rattle.morgazell.specs.Packing.{word, packed, judgeTold, countTold};
+ghost use Rattle.morgazell.specs.Packing.{word, packed, judgeTold, countTold, rowTold, Packs};
 
 const REFUSAL: u64 = 0x100_0000_0000_0000;
 
@@ -124,6 +130,38 @@ pub extern "C" fn morgazell_write_export(capture: &[u8], out: &mut [u8]) -> u64
         Converted::Refused { number, place } => pack(number, 0, place),
         Converted::Written { bytes } => pack(0, 0, bytes),
     }
+}
+
+// What was told of a bank.
+fn packed_row(t: Told) -> u64
+    requires { ⌜ Packs (means (t .answer)) ⌝ }
+    ensures { λ r. ⌜ r ≡ packed (rowTold (means (t .answer))) ⌝ }
+{
+    let answer = t.answer;
+    match answer {
+        Asked::Refused { number, place } => pack(number, 0, place),
+        Asked::Open { row } => pack(0, 1, row),
+        Asked::Idle => pack(0, 0, 0),
+    }
+}
+
+// Which row of the bank was open after the event, in these bytes as a capture. The four records and the index are filled; what
+// lies behind them stays.
+#[no_mangle]
+pub extern "C" fn morgazell_open_row(
+    capture: &[u8],
+    bank: u32,
+    event: u32,
+    records: &mut [Bank],
+    index: &mut [u32],
+) -> u64
+    ensures { λ r. ⌜ (r ≡ packed (rowTold (openRowOutcome (now (capture .entry)) bank event (map recordOf (now (records .entry))) (now (index .entry)) .answer)))
+        × (now (records .exit) ≡ map bankOf (openRowOutcome (now (capture .entry)) bank event (map recordOf (now (records .entry))) (now (index .entry)) .records))
+        × (now (index .exit) ≡ openRowOutcome (now (capture .entry)) bank event (map recordOf (now (records .entry))) (now (index .entry)) .index) ⌝ }
+{
+    let t = asking::open_row(capture, bank, event, records.len(), index);
+    banks::fill(records, t);
+    packed_row(t)
 }
 
 // 10203 for version 1.2.3.

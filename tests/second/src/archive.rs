@@ -7,6 +7,9 @@
 use std::io::{self, BufReader, Read, Write};
 use std::process::{Child, ChildStdin, ChildStdout, Command, Stdio};
 
+use crate::capture::words;
+use crate::openings::Record;
+
 const RUNNER: &str = concat!(env!("CARGO_MANIFEST_DIR"), "/../x86");
 const SERVERS: &str = concat!(env!("CARGO_MANIFEST_DIR"), "/../../target/c");
 
@@ -19,6 +22,7 @@ enum Function {
     Recording = 5,
     ReadExport = 6,
     WriteExport = 7,
+    OpenRow = 8,
 }
 
 pub struct Archive {
@@ -99,6 +103,36 @@ impl Archive {
     pub fn write_export(&mut self, capture: &[u8], out: &mut [u8], lent: usize) -> io::Result<u64> {
         let counts = [capture.len(), 0, lent, out.len() - lent];
         self.ask(Function::WriteExport, counts, capture.to_vec(), out)
+    }
+
+    /// The records and the index come back with as many elements behind what is lent.
+    pub fn open_row(
+        &mut self,
+        capture: &[u8],
+        question: [u32; 2],
+        records: &mut [Record],
+        index: &mut [u32],
+        behind: usize,
+    ) -> io::Result<u64> {
+        let counts = [
+            capture.len(),
+            records.len() - behind,
+            index.len() - behind,
+            behind,
+        ];
+        let inputs = [bytes_of(&question), capture.to_vec()].concat();
+        let pairs: Vec<u32> = records.iter().flat_map(|r| [r.before, r.count]).collect();
+        let mut bytes = [bytes_of(&pairs), bytes_of(index)].concat();
+        let answer = self.ask(Function::OpenRow, counts, inputs, &mut bytes)?;
+        let words = words(&bytes);
+        for (record, pair) in records.iter_mut().zip(words.chunks_exact(2)) {
+            *record = Record {
+                before: pair[0],
+                count: pair[1],
+            };
+        }
+        index.copy_from_slice(&words[2 * records.len()..]);
+        Ok(answer)
     }
 
     /// Ends the program, which must have nothing to complain of.

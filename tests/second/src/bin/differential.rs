@@ -15,8 +15,9 @@ use second::generate::{
     export, far_capture, input, long_recording, other_addresses, settings_of, Dice, Export,
     ExportTally, Input, Tally, MOST_CELLS,
 };
+use second::openings::Record;
 use second::{
-    blank, cells, judge, judge_recording, packed, read_export, schedule, write_export,
+    blank, cells, judge, judge_recording, open_row, packed, read_export, schedule, write_export,
 };
 
 /// What fills buffers beforehand, so that an element written by mistake shows.
@@ -27,6 +28,8 @@ const FENCE: usize = 32;
 const MOST_BYTES: usize = 64_088;
 /// One input in so many is followed by a recording that is too long for a capture.
 const LONG_ONCE_IN: u32 = 1_000;
+/// The most words that an index has.
+const MOST_WORDS: usize = 3 * 8_000;
 
 fn main() -> ExitCode {
     match asked().and_then(|(inputs, seed, build)| run(inputs, seed, &build)) {
@@ -128,6 +131,7 @@ impl Comparison {
                 self.compare_recordings(&capture)?;
                 self.compare_cells(&capture)?;
                 self.compare_blanks(&capture)?;
+                self.compare_rows(&capture)?;
                 self.compare_addresses(&capture)?;
                 self.compare_writes(&capture)
             }
@@ -200,6 +204,51 @@ impl Comparison {
             let answer = self.archive.blank(capture, &mut buffer, length);
             let found = answer.map(|answer| Left { answer, buffer });
             same("blank", &expected, found, || hex(capture))?;
+        }
+        Ok(())
+    }
+
+    /// A question that fits more often than not, and three records now and then.
+    fn compare_rows(&mut self, capture: &[u8]) -> Result<(), Difference> {
+        let events = Capture::read(capture).map_or(0, |read| read.events.len()) as u32;
+        let untouched = Record {
+            before: UNTOUCHED,
+            count: UNTOUCHED,
+        };
+        let index = &mut vec![UNTOUCHED; MOST_WORDS];
+        let needed = match open_row(capture, 0, 0, &mut [untouched; 4], index) {
+            Ok(_) => index.iter().position(|&word| word == UNTOUCHED),
+            Err(_) => None,
+        };
+        for length in self.lengths(needed, MOST_WORDS) {
+            let bank = self.dice.below(5);
+            let event = self.dice.below(events + 1);
+            let lent = if self.dice.once_in(8) {
+                3
+            } else {
+                4 + self.dice.below(3) as usize
+            };
+            let mut records = vec![untouched; lent + FENCE];
+            let mut buffer = vec![UNTOUCHED; length + FENCE];
+            let (mine, words) = (&mut records[..lent], &mut buffer[..length]);
+            let answer = open_row(capture, bank, event, mine, words);
+            self.tally.count_row(capture, answer);
+            let expected = Left {
+                answer: packed::of_row(answer),
+                buffer: told(&records, &buffer),
+            };
+            let mut records = vec![untouched; lent + FENCE];
+            let mut buffer = vec![UNTOUCHED; length + FENCE];
+            let asked = [bank, event];
+            let answer = self
+                .archive
+                .open_row(capture, asked, &mut records, &mut buffer, FENCE);
+            let found = answer.map(|answer| Left {
+                answer,
+                buffer: told(&records, &buffer),
+            });
+            let shown = || format!("bank {bank} event {event} of {}", hex(capture));
+            same("open row", &expected, found, shown)?;
         }
         Ok(())
     }
@@ -397,6 +446,14 @@ impl Comparison {
 /// Whether an answer counts what was written.
 fn answer_is_written(answer: u64) -> bool {
     answer >> 32 == 0
+}
+
+/// What the records and the index hold.
+fn told(records: &[Record], index: &[u32]) -> Vec<u32> {
+    let pairs = records
+        .iter()
+        .flat_map(|record| [record.before, record.count]);
+    pairs.chain(index.iter().copied()).collect()
 }
 
 fn needed(answer: Result<u32, Refusal>) -> Option<usize> {

@@ -28,6 +28,7 @@ const OF_NO_POLICY: [u32; 3] = [2, 3, 10];
 /// Those of a capture whose sixth word is no edition.
 const OF_NO_EDITION: [u32; 1] = [2];
 const OF_BLANK: [u32; 5] = [1, 2, 3, 4, 7];
+const OF_ROW: [u32; 7] = [1, 2, 3, 4, 8, 13, 7];
 
 /// What captures that are blanked have to show.
 const SHOWN: [&str; 6] = [
@@ -90,6 +91,9 @@ pub struct OfCaptures {
     /// Of the burst lists written, those with a write cut short by READ or PRECHARGE.
     pub interrupted: u64,
     pub blanks: Answers,
+    pub rows: Answers,
+    /// Of the questions answered, those about a bank that is idle.
+    pub idle: u64,
     pub shown: [u64; SHOWN.len()],
     /// Clean captures whose burst cells are others under other addresses.
     pub other_cells: u64,
@@ -135,6 +139,9 @@ impl OfCaptures {
             counts.push((format!("blank: {name}"), count));
         }
         counts.push(("blank: other burst cells".to_string(), self.other_cells));
+        counts.push(("open row: open".to_string(), self.rows.given - self.idle));
+        counts.push(("open row: idle".to_string(), self.idle));
+        counts.extend(refusals("open row", &self.rows, &OF_ROW));
         counts
     }
 
@@ -142,6 +149,7 @@ impl OfCaptures {
         let mut counts = refusals("judge", &self.verdicts, &OF_NO_EDITION);
         counts.extend(refusals("cells", &self.cell_lists, &OF_NO_EDITION));
         counts.extend(refusals("blank", &self.blanks, &OF_NO_EDITION));
+        counts.extend(refusals("open row", &self.rows, &OF_NO_EDITION));
         counts
     }
 }
@@ -196,6 +204,12 @@ impl Tally {
             .cell_lists
             .count(answer.err(), &first_settings(capture));
         counts.interrupted += u64::from(interrupted);
+    }
+
+    pub fn count_row(&mut self, capture: &[u8], answer: Result<Option<u32>, Refusal>) {
+        let counts = self.of_capture(capture);
+        counts.idle += u64::from(answer == Ok(None));
+        counts.rows.count(answer.err(), &first_settings(capture));
     }
 
     pub fn count_blank(&mut self, capture: &[u8], answer: Result<u32, Refusal>) {

@@ -1,0 +1,2 @@
+-- Filling the records one after the other.
+pub mod Filling
