@@ -19,13 +19,13 @@ use Rattle.banks.specs.declared.Asked.{Asked}
 use Rattle.banks.specs.declared.Bank.{Bank}
 use Rattle.banks.specs.declared.Told.{Told}
 use Rattle.banks.specs.Banks.{bankAt, bankOf, rowAsked, toldOf}
-use Rattle.openings.specs.declared.Tally.{Tally}
-use Rattle.openings.specs.declared.Standing.{Standing}
-use Rattle.openings.specs.Walks.{Few, noneYet, talliedFrom, eventsUpTo, openedByAll, standAfter, rowStood}
-use Rattle.openings.proofs.AsStood.{row-stood}
-use Rattle.openings.proofs.Opened.{index-so}
-use Rattle.openings.proofs.Tallying.{few-more, tallied-few, tallied-so}
-use Rattle.openings.proofs.Writing.{words-length}
+use Rattle.rows.specs.declared.Tally.{Tally}
+use Rattle.rows.specs.declared.Standing.{Standing}
+use Rattle.rows.specs.Walks.{Few, noneYet, talliedFrom, eventsUpTo, openedByAll, standAfter, rowStood}
+use Rattle.rows.proofs.AsStood.{row-stood}
+use Rattle.rows.proofs.Opened.{index-so}
+use Rattle.rows.proofs.Tallying.{few-more, tallied-few, tallied-so}
+use Rattle.rows.proofs.Writing.{words-length}
 
 -- ---- the records of four banks
 

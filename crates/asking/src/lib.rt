@@ -3,8 +3,8 @@ use banks::Asked;
 use banks::Bank;
 use banks::Told;
 use judge::Verdict;
-use openings::Standing;
-use openings::Tally;
+use rows::Standing;
+use rows::Tally;
 use settings::Checked;
 ghost use mathlib.Core.Path.{_≡_};
 ghost use mathlib.Core.List.{map};
@@ -14,7 +14,7 @@ ghost use Rattle.reading.specs.Openings.{recordsFrom};
 ghost use Rattle.reading.specs.OpenRow.{openRowAnswer, indexIn, recordsIn, over};
 ghost use Rattle.settings.specs.Meaning as check;
 ghost use Rattle.banks.specs.Banks.{bankOf, rowAsked, toldOf};
-ghost use Rattle.openings.specs.Walks.{Few, rowStood};
+ghost use Rattle.rows.specs.Walks.{Few, rowStood};
 ghost use Rattle.asking.specs.Asked.{cleanSaid, questionSaid, noRecords};
 
 // Refusals 1 to 4, and 8.
@@ -123,15 +123,15 @@ pub fn open_row(capture: &[u8], bank: u32, event: u32, records: usize, index: &m
     if let Checked::Refused { number, place } = asked {
         return refused(number, place);
     }
-    let tally = openings::count(capture, n);
+    let tally = rows::count(capture, n);
     let banks = records_of(tally);
     let last = banks[3];
     let words = 3 * (last.before + last.count);
     if index.len() < words as usize {
         return refused(7, words);
     }
-    openings::write(capture, n, index);
-    let stands = openings::stands(capture, bank as usize, event + 1);
+    rows::write(capture, n, index);
+    let stands = rows::stands(capture, bank as usize, event + 1);
     let answer = answer_of(stands);
     Told { answer, banks }
 }

@@ -17,13 +17,13 @@ use Rattle.reading.specs.Search.{lesser}
 use Rattle.reading.specs.OpenRow.{openRowOutcome}
 use Rattle.banks.specs.Banks.{bankOf, recordOf, filledFrom}
 use Rattle.browser.specs.Browsed.{seenAt}
-use Rattle.openings.specs.Walks.{noneYet, talliedFrom}
+use Rattle.rows.specs.Walks.{noneYet, talliedFrom}
 use Rattle.morgazell.specs.Packing.{packed, rowTold}
 use Rattle.browser.proofs.start as browser-start
 use Rattle.browser.proofs.next as browser-next
 use Rattle.browser.proofs.onward as browser-onward
 use Rattle.browser.proofs.look as browser-look
-use Rattle.openings.proofs.count as openings-count
+use Rattle.rows.proofs.count as rows-count
 use Rattle.banks.proofs.fill as banks-fill
 use Rattle.morgazell.proofs.morgazell_open_row as morgazell-morgazell-open-row
 
@@ -44,9 +44,9 @@ module _ {M : Type 1} (𝓤 : URA M) (H : Heap 𝓤) (A : Atoms 𝓤) (mem : Mem
       browser-look.clauses 𝓤 H A mem run κs a .ensures g z e ≡ fact 𝓤 (z ≡ seenAt (now (a .0)) (a .1 .0))
   browser-look-says κs a g z e = refl
 
-  pub openings-count-says : (κs : _) (a : _) (g : _) (z : _) (e : _) →
-      openings-count.clauses 𝓤 H A mem run κs a .ensures g z e ≡ fact 𝓤 (z ≡ talliedFrom (now (a .0)) noneYet 0 (a .1 .0))
-  openings-count-says κs a g z e = refl
+  pub rows-count-says : (κs : _) (a : _) (g : _) (z : _) (e : _) →
+      rows-count.clauses 𝓤 H A mem run κs a .ensures g z e ≡ fact 𝓤 (z ≡ talliedFrom (now (a .0)) noneYet 0 (a .1 .0))
+  rows-count-says κs a g z e = refl
 
   pub banks-fill-says : (κs : _) (a : _) (g : _) (z : _) (e : _) →
       banks-fill.clauses 𝓤 H A mem run κs a .ensures g z e ≡

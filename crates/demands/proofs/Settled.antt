@@ -111,8 +111,8 @@ use Rattle.cells.proofs.burst_at.Reads as cells-burst-at
 use Rattle.cells.proofs.passed.Reads as cells-passed
 use Rattle.cells.proofs.burst_cells.Reads as cells-burst-cells
 use Rattle.browser.proofs.event_at.Reads as browser-event-at
-use Rattle.openings.proofs.stands.Reads as openings-stands
-use Rattle.openings.proofs.write.Reads as openings-write
+use Rattle.rows.proofs.stands.Reads as rows-stands
+use Rattle.rows.proofs.write.Reads as rows-write
 use Rattle.asking.proofs.open_row.Reads as asking-open-row
 use Rattle.morgazell.proofs.morgazell_judge.Reads as morgazell-morgazell-judge
 use Rattle.morgazell.proofs.morgazell_recording.Reads as morgazell-morgazell-recording
@@ -546,12 +546,12 @@ browser-event-at-settles κs a z z′ e e′ p q = p ∙ sym q
 
 -- ---- openings
 
-pub openings-stands-settles : (κs : _) (a : _) (z z′ : _) (e e′ : _) → openings-stands.Post κs a z e → openings-stands.Post κs a z′ e′ → z ≡ z′
-openings-stands-settles κs a z z′ e e′ p q = p ∙ sym q
+pub rows-stands-settles : (κs : _) (a : _) (z z′ : _) (e e′ : _) → rows-stands.Post κs a z e → rows-stands.Post κs a z′ e′ → z ≡ z′
+rows-stands-settles κs a z z′ e e′ p q = p ∙ sym q
 
-pub openings-write-settles : (κs : _) (a : _) (z z′ : _) (e e′ : _) → openings-write.Post κs a z e → openings-write.Post κs a z′ e′ →
+pub rows-write-settles : (κs : _) (a : _) (z z′ : _) (e e′ : _) → rows-write.Post κs a z e → rows-write.Post κs a z′ e′ →
     now (e .1 .1 .0) ≡ now (e′ .1 .1 .0)
-openings-write-settles κs a z z′ e e′ p q = p ∙ sym q
+rows-write-settles κs a z z′ e e′ p q = p ∙ sym q
 
 -- ---- asking
 

@@ -33,7 +33,7 @@ use Rattle.capture.proofs.Whole.{size}
 use Rattle.beats.proofs.Columns.{half-le}
 use Rattle.judge.proofs.Events.{length-count}
 use Rattle.cells.proofs.Rows.{low-after}
-use Rattle.openings.proofs.Writing.{words-length}
+use Rattle.rows.proofs.Writing.{words-length}
 use Rattle.alike.proofs.Blanked.{blanked-length}
 use Rattle.plan.proofs.Ready.{few-requests}
 use Rattle.plan.proofs.Captured as plan

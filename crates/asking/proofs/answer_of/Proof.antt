@@ -1,5 +1,5 @@
-use Rattle.openings.specs.Walks.{rowStood}
-use Rattle.openings.specs.declared.Standing.{Standing}
+use Rattle.rows.specs.Walks.{rowStood}
+use Rattle.rows.specs.declared.Standing.{Standing}
 use Rattle.banks.specs.Banks.{rowAsked}
 use mathlib.Core.Path.{sym, ap}
 use borrow.Author.Needs.{needs}

@@ -1,7 +1,7 @@
 use Rattle.asking.proofs.Finding.{last-small, long, few-events, counted-few, counted-so, words-needed, writes, wrote, stood-so, answered-told}
 use Rattle.asking.proofs.Refusing.{clean-so, fits-so, unclean, unfit, short, enough, refused-told}
 use Rattle.asking.specs.Asked.{cleanSaid, questionSaid, noRecords}
-use Rattle.openings.specs.Walks.{Few}
+use Rattle.rows.specs.Walks.{Few}
 use Rattle.banks.specs.Banks.{bankAt, bankOf}
 use Rattle.settings.specs.Meaning as check
 use Rattle.reading.specs.OpenRow.{indexIn, recordsIn, over}
@@ -24,9 +24,9 @@ use Rattle.asking.proofs.question.Reads as question-reads
 use Rattle.asking.proofs.records_of.Reads as records-of-reads
 use Rattle.asking.proofs.refused.Reads as refused-reads
 use Rattle.capture.proofs.event_count.Reads as event-count-reads
-use Rattle.openings.proofs.count.Reads as count-reads
-use Rattle.openings.proofs.stands.Reads as stands-reads
-use Rattle.openings.proofs.write.Reads as write-reads
+use Rattle.rows.proofs.count.Reads as count-reads
+use Rattle.rows.proofs.stands.Reads as stands-reads
+use Rattle.rows.proofs.write.Reads as write-reads
 
 -- the capture, where it was found clean
 abbrev capture-of : tie.After-enum-told → List ℕ
