@@ -112,6 +112,55 @@ def refresh_with_open_row(part, seed):
     return with_fault(part, seed, fault, 3)
 
 
+def row_that_is_not_there(part, seed):
+    def fault(c):
+        c.close_rows()
+        c.active(1, 21 | 1 << part["rowbits"])
+    return with_fault(part, seed, fault, 1)
+
+
+def active_before_trp(part, seed):
+    def fault(c):
+        c.open_row(1, 300)
+        t = c.precharge(1)
+        c.put(t + part["tRP"] - 1, ACTIVE | bank(1) | 301)
+    return with_fault(part, seed, fault, 5)
+
+
+def active_before_trrd(part, seed):
+    def fault(c):
+        c.close_rows()
+        c.put(max(c.next, *c.open_ready), NOP)
+        t = c.active(0, 9)
+        c.put(t + part["tRRD"] - 1, ACTIVE | bank(3) | 10)
+    return with_fault(part, seed, fault, 7)
+
+
+def precharge_before_tras(part, seed):
+    def fault(c):
+        c.close_rows()
+        t = c.active(2, 5)
+        c.put(t + part["tRAS"] - 1, PRECHARGE | bank(2))
+    return with_fault(part, seed, fault, 9)
+
+
+def write_into_read_data(part, seed):
+    def fault(c):
+        c.open_row(1, 300)
+        t = c.read(1, 8)
+        c.put(t + c.latency + c.h - 1, WRITE | bank(1) | column(16))
+    return with_fault(part, seed, fault, 12)
+
+
+def read_into_auto_precharge(part, seed):
+    def fault(c):
+        c.open_row(0, 9)
+        c.open_row(3, 1200)
+        t = c.read(0, 8, auto=True)
+        c.put(t + c.h - 1, READ | bank(3) | column(4))
+    return with_fault(part, seed, fault, 13)
+
+
 def mode_set_latency_4(part, seed):
     def fault(c):
         c.mode_set(mode_word(4, False, 4))
@@ -378,6 +427,14 @@ SAMPLES = [
     ("tWTR-blanked", ("MT46H64M16LF", "-5 CL3"), blanked_one("tWTR"), "the sample tWTR, rows and columns blanked"),
     ("schedule-open-rows", ("MT46H64M16LF", "-5 CL3"), open_rows, "written by `morgazell_schedule`, rows left open"),
     ("schedule-closed-rows", ("MT46H64M16LF", "-5 CL3"), closed_rows, "the same requests, each row closed behind its burst"),
+    ("row-not-there", ("IS43LR32400G", "-6 CL3"), row_that_is_not_there, "ACTIVE of a row that a part of 12 row bits lacks"),
+    ("tRP", ("MT46H64M32LF", "-48 CL3"), active_before_trp, "ACTIVE a cycle before tRP is over"),
+    ("tRRD", ("MT46H64M16LF", "-5 CL3"), active_before_trrd, "ACTIVE of another bank a cycle before tRRD is over"),
+    ("tRAS", ("MT46H32M32LF", "-75 CL3"), precharge_before_tras, "PRECHARGE a cycle before tRAS is over"),
+    ("write-into-read-data", ("W948D6KBHX", "-5 CL3"), write_into_read_data,
+     "WRITE a cycle before the data of a READ is off the bus"),
+    ("read-into-auto-precharge", ("MT46H128M16LF", "-48 CL3"), read_into_auto_precharge,
+     "READ a cycle before a READ with auto precharge has ended"),
 ]
 
 
