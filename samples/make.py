@@ -154,8 +154,8 @@ def write_into_read_data(part, seed):
 
 def read_into_auto_precharge(part, seed):
     def fault(c):
-        c.open_row(0, 9)
         c.open_row(3, 1200)
+        c.open_row(0, 9)
         t = c.read(0, 8, auto=True)
         c.put(t + c.h - 1, READ | bank(3) | column(4))
     return with_fault(part, seed, fault, 13)
