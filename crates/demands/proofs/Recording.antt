@@ -1,6 +1,6 @@
 -- Recordings, which have no limit but what a header's words can state: demands 1 and 2, about whatever the contract of
 -- `judge::judge_to` allows; and what they are to captures.
-use Prim.Native.Nat.{ℕ, _≤_, _<_}
+use Prim.Native.Nat.{ℕ, _^_, _≤_, _<_}
 use mathlib.Core.Bool.{Bool, true, false, not, and-false}
 use mathlib.Core.List.{List}
 use mathlib.Core.Logic.{_↔_, _⊎_, inl, inr}
@@ -187,6 +187,14 @@ recording-length recording bytes = (
         (length recording < eventsStart (countIn recording)) ⊎ (headerWord recording 0 ≡ length recording → ⊥)
     go e (yes l) = inl l
     go e (no l) = inr (λ s. never _ _ _ (rw (length-right recording bytes (omega arith) s) at e))
+
+-- Never with 2 for how many events its header counts: no word counts more than a recording may have.
+pub recording-unlimited : (recording : List ℕ) → Bytes recording → eventCount recording ≤ mostRecorded
+recording-unlimited recording bytes = omega (arith, word-fits recording 12 bytes)
+
+-- No sum of a header wraps on a machine of 64 bits, whatever its words: 2^32 - 1 events behind sixteen settings.
+pub sums-fit : (settings n : ℕ) → settings ≤ 16 → n ≤ mostRecorded → captureSize settings n < 2 ^ 64
+sums-fit settings n l m = omega arith
 
 -- There are at most 536,870,901 events, and one less with sixteen settings: no word states the bytes of more.
 pub recording-most : (recording : List ℕ) → Bytes recording → AcceptedTo mostRecorded recording →
