@@ -19,3 +19,4 @@ pub mod Blank
 pub mod Export
 pub mod Openings
 pub mod OpenRow
+pub mod Player
