@@ -21,11 +21,10 @@ fn stands(capture: &[u8], bank: usize, n: u32) -> Standing {
 
 fn say_row(out: &mut Out, first: bool, bank: u32, row: u32) {
     if first {
-        say_number(out, b"; open bank ", bank);
-    } else {
-        say_number(out, b", bank ", bank);
+        say(out, b"; open");
     }
-    say_number(out, b" row ", row);
+    say_number(out, b" ", bank);
+    say_number(out, b":", row);
 }
 
 // One bank, where none before it was open: whether none is still.
@@ -45,6 +44,6 @@ pub fn say_open(out: &mut Out, capture: &[u8], n: u32) {
     none = say_bank(out, capture, none, 2, n);
     none = say_bank(out, capture, none, 3, n);
     if none {
-        say(out, b"; all banks idle");
+        say(out, b"; all idle");
     }
 }
