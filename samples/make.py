@@ -11,7 +11,7 @@ import sys
 HERE = os.path.dirname(os.path.abspath(__file__))
 TESTS = os.path.join(HERE, "..", "tests")
 sys.path.insert(0, TESTS)
-from captures import (A10, ACTIVE, AUTO_REFRESH, LOW, NOP, PRECHARGE, READ, WRITE, bank, blanked, broken_lines, capture,
+from captures import (A10, ACTIVE, AUTO_REFRESH, LOW, NOP, PRECHARGE, READ, SLEEPY, WRITE, bank, blanked, broken_lines, capture,
                       cas_latency, clean_lines, column, events_in, mode_word, nine_owed)
 from controller import Controller
 from scheduler import CLOSED_ROWS, OPEN_ROWS, WRITES, scheduled
@@ -384,6 +384,19 @@ def case_b(part, seed):
     return capture(events), broken_lines(events, 8, 1)
 
 
+def rows_asked(part, seed):
+    """The first worked line of request K9."""
+    events = [(0, ACTIVE | 5), (2, ACTIVE | bank(1) | 6), (5, READ), (9, PRECHARGE), (12, ACTIVE | 7), (13, NOP)]
+    return capture(events), clean_lines(events)
+
+
+def rows_asked_asleep(part, seed):
+    """Rows left open in power-down and closed by auto precharge and by PRECHARGE of all, under the settings of the cases."""
+    events = [(0, ACTIVE | bank(2) | 9), (3, ACTIVE | 77), (6, READ | A10), (20, NOP | LOW), (60, NOP), (62, ACTIVE | 78),
+              (65, WRITE | bank(2)), (80, PRECHARGE | A10)]
+    return capture(events, SLEEPY), clean_lines(events)
+
+
 SAMPLES = [
     ("clean-MT46H128M16LF", ("MT46H128M16LF", "-48 CL3"), clean_run, "traffic that keeps every rule; columns of 11 bits"),
     ("clean-W948D6KBHX", ("W948D6KBHX", "-6 CL2"), clean_run, "the same at CAS latency 2"),
@@ -435,6 +448,9 @@ SAMPLES = [
      "WRITE a cycle before the data of a READ is off the bus"),
     ("read-into-auto-precharge", ("MT46H128M16LF", "-48 CL3"), read_into_auto_precharge,
      "READ a cycle before a READ with auto precharge has ended"),
+    ("open-rows", None, rows_asked, "for `openings`: rows of two banks, one closed, two left open at the end"),
+    ("open-rows-asleep", None, rows_asked_asleep,
+     "for `openings`, 16 settings: a row that stays open in power-down, and one that auto precharge closes at once"),
 ]
 
 
