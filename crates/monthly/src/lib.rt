@@ -90,7 +90,7 @@ fn twice_last(bytes: &[u8], n: u32) -> u32
 }
 
 // What is told of these bytes as a capture. The beats are counted where they stand: no cell is written.
-pub fn line(capture: &[u8]) -> Line
+pub fn told(capture: &[u8]) -> Line
     ensures { λ r. ⌜ lineMeans r ≡ lineOf (now (capture .entry)) ⌝ }
 {
     let verdict = judge::judge(capture);
@@ -116,7 +116,7 @@ pub fn line(capture: &[u8]) -> Line
 
 // ---- totals
 
-pub fn counts(verdict: Verdict) -> Counts
+pub fn tally(verdict: Verdict) -> Counts
     ensures { λ r. ⌜ r ≡ countsOf (means verdict) ⌝ }
 {
     match verdict {
@@ -169,7 +169,7 @@ pub fn add(t: Totals, x: Line) -> Totals
     ensures { λ r. ⌜ Held r ⌝ }
 {
     let verdict = x.verdict;
-    let c = counts(verdict);
+    let c = tally(verdict);
     Totals {
         captures: t.captures + 1,
         clean: t.clean + c.clean as u64,
