@@ -1,5 +1,5 @@
 #!/usr/bin/env python3
-"""Runs the report, the listing and blank with opens, reads and writes that fail. Where all can be read and written, they have
+"""Runs the report, the listing, blank and openings with opens, reads and writes that fail. Where all can be read and written, they have
 to print the right text, or write the right capture, and no complaint; where standard input or the file that was named
 fails, nothing and a complaint; where standard output fails, what is right up to some byte, and a complaint.
 
@@ -18,6 +18,7 @@ import tempfile
 HERE = os.path.dirname(os.path.abspath(__file__))
 ROOT = os.path.join(HERE, "..", "..")
 sys.path[:0] = [os.path.join(HERE, ".."), os.path.join(HERE, "..", "listing")]
+import openrows
 import rendering
 from captures import ACTIVE, LOW, NOP, READ, SLEEPY, USUAL, blanked, capture, setting
 from running import program
@@ -41,10 +42,13 @@ RUNS = [
     ("listing", capture(ASLEEP, SLEEPY), rendering.broken(ASLEEP, SLEEPY, 15, 2).encode()),
     ("listing", REFUSED, rendering.refused(REFUSED, 3, 1).encode()),
     ("blank", ADDRESSED, blanked(ADDRESSED)),
+    ("openings", capture(CLEAN), openrows.text(CLEAN).encode()),
+    ("openings", capture(BROKEN), b"refused 8 place 1\n"),
 ]
 
 # What each program does with its input and its output.
-DONE = {"report": ("judged", "printed"), "listing": ("judged", "printed"), "blank": ("written", "written")}
+DONE = {"report": ("judged", "printed"), "listing": ("judged", "printed"), "blank": ("written", "written"),
+        "openings": ("looked at", "printed")}
 
 # How a call fails: with what, how often in a row, and whether the program has to go on. 0 is a call that moves one byte.
 WAYS = [
