@@ -14,6 +14,7 @@ use Rattle.reading.specs.Capture.{Event, mostEvents, captureSize, countIn, even
 use Rattle.reading.specs.Commands.{commandOf}
 use Rattle.reading.specs.Part.{start}
 use Rattle.reading.specs.Rules.{rule14}
+use Rattle.reading.specs.Search as search
 use Rattle.reading.specs.Verdict as is
 use Rattle.reading.specs.Schedule.{captureIn}
 use Rattle.reading.specs.Answers.{Answer, Report, refused, answered, unless, accepted, settingsIn, judgeAnswer, fitting, leaves}
@@ -74,7 +75,7 @@ module _ (x ws : List ℕ) (edition : ℕ) (out left : List ℕ) (n : ℕ) (a : 
       let (c, l) = right x ws edition out (not-given 0 _ two) in
       let same = fits out (captureIn edition ws (recordsOf x)) h .0 in
       record {
-        known = record { fine = record { count = c; each = three }; edition = l };
+        known = record { fine = record { count = c; each = three }; is-there = l };
         fine = eleven;
         low = four;
         is = ap (take n) (a .1) ∙ w .front ∙ sym same;
@@ -95,7 +96,7 @@ module _ (x ws : List ℕ) (edition : ℕ) (out left : List ℕ) (n : ℕ) (a : 
   made : whole.Whole edition ws (recordsOf x)
   made =
       let r = read in
-      records.whole x bytes (whole-records x (r .fine)) (r .low) (r .known .edition) (r .known .fine .count) (r .known .fine .each)
+      records.whole x bytes (whole-records x (r .fine)) (r .low) (r .known .is-there) (r .known .fine .count) (r .known .fine .each)
 
   captured-read : {A : Type 0} (rest : Answer A) → accepted (take n left) rest ≡ rest
   captured-read rest = ap (λ (c : List ℕ). accepted c rest) (read .is) ∙ whole.captured made rest
@@ -328,7 +329,7 @@ broken-moves-up c out left n a rule event cycle j kept q k =
 
 -- Exactly what is reported, whichever rules it breaks: the first NOP between it and the event before at which more than eight
 -- refreshes are owed, with rule 14; or else the event.
-pub broken-exactly : (c out left : List ℕ) (n : ℕ) → WritesExport c out (Written n) left → (rule event cycle : ℕ) →
+pub broken-exactly : (c out left : List ℕ) (n : ℕ) (a : WritesExport c out (Written n) left) (rule event cycle : ℕ) →
     (j : Judges c (Broken (eventCount c) event rule event cycle)) →
     is.verdictOf (settingsIn (withNops c)) (eventsOf (withNops c)) ≡
     lateOr (lateNop (settingsIn c) (clock c out left n a rule event cycle j) (before c out left n a rule event cycle j) cycle)
@@ -399,8 +400,8 @@ module _ (x ws : List ℕ) (edition : ℕ) (out left : List ℕ) (n : ℕ) (a : 
   writes-to lent =
       ap (λ (y : Answer (List ℕ)). leaves y lent)
       (captured-read x ws edition out left n a bytes (rest (take n left) lent)
-      ∙ rw (exportable (take n left) lent may-write)
-      (ap (fitting lent) export-is))
+      ∙ (ap (λ (b : Bool). unless 12 (search.given 0 b) (fitting lent (exportOf (bridged (eventsOf (take n left)))))) (exportable (take n left) lent may-write)
+      ∙ ap (fitting lent) export-is))
 
 -- Writing what was read gives every export back.
 pub write-back : (x ws : List ℕ) (edition : ℕ) (out left : List ℕ) (n : ℕ) → ReadsExport x ws edition out (Written n) left → Bytes x →
