@@ -11,7 +11,7 @@ import sys
 HERE = os.path.dirname(os.path.abspath(__file__))
 TESTS = os.path.join(HERE, "..", "tests")
 sys.path.insert(0, TESTS)
-from captures import (A10, ACTIVE, AUTO_REFRESH, LOW, NOP, PRECHARGE, READ, USUAL, WRITE, bank, blanked, broken_lines, capture,
+from captures import (A10, ACTIVE, AUTO_REFRESH, LOW, NOP, PRECHARGE, READ, SLEEPY, WRITE, bank, blanked, broken_lines, capture,
                       cas_latency, clean_lines, column, events_in, export, mode_word, nine_owed, setting, with_nops)
 from controller import Controller
 from scheduler import CLOSED_ROWS, OPEN_ROWS, WRITES, scheduled
@@ -110,6 +110,55 @@ def refresh_with_open_row(part, seed):
         c.precharge(1)
         c.put(max(c.next, c.reads_done, t + 2 * part["tRC"]), AUTO_REFRESH)
     return with_fault(part, seed, fault, 3)
+
+
+def row_that_is_not_there(part, seed):
+    def fault(c):
+        c.close_rows()
+        c.active(1, 21 | 1 << part["rowbits"])
+    return with_fault(part, seed, fault, 1)
+
+
+def active_before_trp(part, seed):
+    def fault(c):
+        c.open_row(1, 300)
+        t = c.precharge(1)
+        c.put(t + part["tRP"] - 1, ACTIVE | bank(1) | 301)
+    return with_fault(part, seed, fault, 5)
+
+
+def active_before_trrd(part, seed):
+    def fault(c):
+        c.close_rows()
+        c.put(max(c.next, *c.open_ready), NOP)
+        t = c.active(0, 9)
+        c.put(t + part["tRRD"] - 1, ACTIVE | bank(3) | 10)
+    return with_fault(part, seed, fault, 7)
+
+
+def precharge_before_tras(part, seed):
+    def fault(c):
+        c.close_rows()
+        t = c.active(2, 5)
+        c.put(t + part["tRAS"] - 1, PRECHARGE | bank(2))
+    return with_fault(part, seed, fault, 9)
+
+
+def write_into_read_data(part, seed):
+    def fault(c):
+        c.open_row(1, 300)
+        t = c.read(1, 8)
+        c.put(t + c.latency + c.h - 1, WRITE | bank(1) | column(16))
+    return with_fault(part, seed, fault, 12)
+
+
+def read_into_auto_precharge(part, seed):
+    def fault(c):
+        c.open_row(3, 1200)
+        c.open_row(0, 9)
+        t = c.read(0, 8, auto=True)
+        c.put(t + c.h - 1, READ | bank(3) | column(4))
+    return with_fault(part, seed, fault, 13)
 
 
 def mode_set_latency_4(part, seed):
@@ -396,6 +445,19 @@ def case_b(part, seed):
     return capture(events), broken_lines(events, 8, 1)
 
 
+def rows_asked(part, seed):
+    """The first worked line of request K9."""
+    events = [(0, ACTIVE | 5), (2, ACTIVE | bank(1) | 6), (5, READ), (9, PRECHARGE), (12, ACTIVE | 7), (13, NOP)]
+    return capture(events), clean_lines(events)
+
+
+def rows_asked_asleep(part, seed):
+    """Rows left open in power-down and closed by auto precharge and by PRECHARGE of all, under the settings of the cases."""
+    events = [(0, ACTIVE | bank(2) | 9), (3, ACTIVE | 77), (6, READ | A10), (20, NOP | LOW), (60, NOP), (62, ACTIVE | 78),
+              (65, WRITE | bank(2)), (80, PRECHARGE | A10)]
+    return capture(events, SLEEPY), clean_lines(events)
+
+
 SAMPLES = [
     ("clean-MT46H128M16LF", ("MT46H128M16LF", "-48 CL3"), clean_run, "traffic that keeps every rule; columns of 11 bits"),
     ("clean-W948D6KBHX", ("W948D6KBHX", "-6 CL2"), clean_run, "the same at CAS latency 2"),
@@ -439,6 +501,17 @@ SAMPLES = [
     ("tWTR-blanked", ("MT46H64M16LF", "-5 CL3"), blanked_one("tWTR"), "the sample tWTR, rows and columns blanked"),
     ("schedule-open-rows", ("MT46H64M16LF", "-5 CL3"), open_rows, "written by `morgazell_schedule`, rows left open"),
     ("schedule-closed-rows", ("MT46H64M16LF", "-5 CL3"), closed_rows, "the same requests, each row closed behind its burst"),
+    ("row-not-there", ("IS43LR32400G", "-6 CL3"), row_that_is_not_there, "ACTIVE of a row that a part of 12 row bits lacks"),
+    ("tRP", ("MT46H64M32LF", "-48 CL3"), active_before_trp, "ACTIVE a cycle before tRP is over"),
+    ("tRRD", ("MT46H64M16LF", "-5 CL3"), active_before_trrd, "ACTIVE of another bank a cycle before tRRD is over"),
+    ("tRAS", ("MT46H32M32LF", "-75 CL3"), precharge_before_tras, "PRECHARGE a cycle before tRAS is over"),
+    ("write-into-read-data", ("W948D6KBHX", "-5 CL3"), write_into_read_data,
+     "WRITE a cycle before the data of a READ is off the bus"),
+    ("read-into-auto-precharge", ("MT46H128M16LF", "-48 CL3"), read_into_auto_precharge,
+     "READ a cycle before a READ with auto precharge has ended"),
+    ("open-rows", None, rows_asked, "for `openings`: rows of two banks, one closed, two left open at the end"),
+    ("open-rows-asleep", None, rows_asked_asleep,
+     "for `openings`, 16 settings: a row that stays open in power-down, and one that auto precharge closes at once"),
     ("far-apart", None, far_apart, "a tREFI of 100,000, and events up to 200,000 cycles apart"),
     ("read-after-a-pause", ("MT46H64M16LF", "-5 CL3"), read_after_a_pause, "READ of a closed bank after 100,000 cycles without a refresh"),
 ]

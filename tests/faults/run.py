@@ -18,6 +18,7 @@ import tempfile
 HERE = os.path.dirname(os.path.abspath(__file__))
 ROOT = os.path.join(HERE, "..", "..")
 sys.path[:0] = [os.path.join(HERE, ".."), os.path.join(HERE, "..", "listing")]
+import openrows
 import rendering
 from captures import ACTIVE, LOW, NOP, READ, SLEEPY, USUAL, blanked, capture, export, setting
 from running import program
@@ -43,13 +44,15 @@ RUNS = [
     ("listing", capture(ASLEEP, SLEEPY), rendering.broken(ASLEEP, SLEEPY, 15, 2).encode()),
     ("listing", REFUSED, rendering.refused(REFUSED, 3, 1).encode()),
     ("blank", ADDRESSED, blanked(ADDRESSED)),
+    ("openings", capture(CLEAN), openrows.text(CLEAN).encode()),
+    ("openings", capture(BROKEN), b"refused 8 place 1\n"),
     ("to_export", capture(FAR), export(FAR)),
     ("from_export", export(CLEAN), capture(CLEAN)),
 ]
 
 # What each program does with its input and its output.
 DONE = {"report": ("judged", "printed"), "listing": ("judged", "printed"), "blank": ("written", "written"),
-        "to_export": ("written", "written"), "from_export": ("written", "written")}
+        "openings": ("looked at", "printed"), "to_export": ("written", "written"), "from_export": ("written", "written")}
 
 # A file that a program is given before any other; how often it is opened and, in pieces of 40 bytes, read.
 BEFORE = {"from_export": ([SETTINGS], 1, 3)}

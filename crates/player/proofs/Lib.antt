@@ -1,0 +1,8 @@
+-- Laws of the player: lanes, the window as what cells hold, the two walks, and the way from a capture's bytes to them.
+mod Lanes
+pub mod Window
+mod Given
+mod Trying
+mod Running
+mod Calling
+pub mod Unique
