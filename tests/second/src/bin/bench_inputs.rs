@@ -95,6 +95,7 @@ fn captures() -> Vec<(&'static str, Vec<u8>)> {
         ("power-down between frames", power_down()),
         ("self refresh between frames", self_refresh()),
         ("asleep, NOP alone", asleep()),
+        ("four rows opened and closed", rows_opened()),
         (
             "edition 1, reads and writes",
             streaming(One, with_mode(BL_16), true),
@@ -174,6 +175,19 @@ fn self_refresh() -> Vec<u8> {
         Command::Nop.into(),
     ]);
     repeated(Zero, &that_sleeps(), &[], &events)
+}
+
+/// As many openings as 8,000 events can have: a PRECHARGE closes four rows, so 6,400. The
+/// times are the shortest, and tREFI is so long that nothing is refreshed.
+fn rows_opened() -> Vec<u8> {
+    let mut settings = PART;
+    settings[4..13].fill(1);
+    settings[13] = 1_000_000;
+    let mut group: Vec<Asked> = (0..4)
+        .map(|bank| Command::Active { bank, row: 77 + bank }.into())
+        .collect();
+    group.push(Command::Precharge { banks: All }.into());
+    repeated(Zero, &settings, &[], &group)
 }
 
 fn asleep() -> Vec<u8> {
