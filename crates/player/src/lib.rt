@@ -5,10 +5,8 @@ use judge::Verdict;
 use settings::Checked;
 use settings::Settings;
 use settings::mode;
-use settings::places::COLUMN_BITS;
 use settings::places::LANE;
 use settings::places::MODE;
-use settings::places::ROW_BITS;
 ghost use mathlib.Core.Path.{_≡_};
 ghost use mathlib.Core.Bool.{true};
 ghost use mathlib.Core.List.{map};
@@ -106,9 +104,8 @@ fn window_fits(s: &Settings, first: u32, size: usize) -> bool
     if MOST_WINDOW < size {
         return false;
     }
-    let rows: u64 = 4 * (1 << s[ROW_BITS]);
-    let cells = rows * (1 << s[COLUMN_BITS]);
-    (first as u64) + (size as u64) <= cells
+    let bank = beats::first_cell(s, 1, 0);
+    (first as u64) + (size as u64) <= 4 * (bank as u64)
 }
 
 fn holds(first: u32, size: usize, cell: u32) -> bool
