@@ -40,7 +40,7 @@ use Rattle.player.proofs.Window.{length-counted, data-length}
 
 -- a call answers so, and leaves this in the lent window and in the words read
 abbrev pub Ends : Answer ℕ → List ℕ → List ℕ → PlayOutcome → Type 0
-Ends answer window reads o = (answer ≡ o .answer) × (window ≡ o .window) × (reads ≡ o .reads)
+Ends answer window reads o = (answer ≡ o .answer) × ((window ≡ o .window) × (reads ≡ o .reads))
 
 -- ---- the words that are read
 
@@ -107,7 +107,7 @@ module _ (s : Settings) (es : List Event) (first : ℕ) (window writes reads : L
   refused-ends : {number place : ℕ} → answer ≡ refused number place → Ends (refused number place) window reads outcome
   refused-ends e =
       let o = ap (plays first window reads) (sym e) in
-      (ap (λ (p : PlayOutcome). p .answer) o, ap (λ (p : PlayOutcome). p .window) o, ap (λ (p : PlayOutcome). p .reads) o)
+      (ap (λ (p : PlayOutcome). p .answer) o, (ap (λ (p : PlayOutcome). p .window) o, ap (λ (p : PlayOutcome). p .reads) o))
 
   pub unfit : {v : Bool} → v ≡ windowFits s first (length window) → v ≡ false → Ends (refused 15 0) window reads outcome
   unfolding playing
@@ -157,12 +157,14 @@ module _ (s : Settings) (es : List Event) (first : ℕ) (window writes reads : L
             reads′ ≡ sets reads 0 (r .returned) → Ends (answered read) window′ reads′ outcome
         played-ends l ew er =
             let room : answer ≡ answered r =
-                short-so
-                ∙ ap (λ (w : Bool). unless 7 (given (length (r .returned)) w) (answered r)) (le-ltb (length reads) (length (r .returned)) (omega (arith, l, read-is))) in
+            short-so
+            ∙ ap (λ (w : Bool). unless 7 (given (length (r .returned)) w) (answered r)) (le-ltb (length reads) (length (r .returned)) (omega (arith, l, read-is))) in
             let o = ap (plays first window reads) (sym room) in (
               ap answered read-is ∙ ap (λ (p : PlayOutcome). p .answer) o,
-              ew ∙ ap (λ (p : PlayOutcome). p .window) o,
-              er ∙ front (r .returned) reads (omega (arith, l, read-is)) ∙ ap (λ (p : PlayOutcome). p .reads) o,
+              (
+                ew ∙ ap (λ (p : PlayOutcome). p .window) o,
+                er ∙ front (r .returned) reads (omega (arith, l, read-is)) ∙ ap (λ (p : PlayOutcome). p .reads) o,
+              ),
             )
 
 -- ---- the capture: refusals 1 to 4 and 8
@@ -201,7 +203,7 @@ module _ (capture : List ℕ) where
   unfolding playOutcome
   refused-play first window writes reads o said e =
       let same = ap (plays first window reads) (sym (unclean-so o said _ e)) in
-      (ap (λ (p : PlayOutcome). p .answer) same, ap (λ (p : PlayOutcome). p .window) same, ap (λ (p : PlayOutcome). p .reads) same)
+      (ap (λ (p : PlayOutcome). p .answer) same, (ap (λ (p : PlayOutcome). p .window) same, ap (λ (p : PlayOutcome). p .reads) same))
 
 module _ {c settings : List ℕ} {n : ℕ} {bytes : List ℕ} (x : Opened mostEvents c settings n bytes) where
   pub opened-playable : Playable settings bytes n

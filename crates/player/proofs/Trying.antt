@@ -116,7 +116,7 @@ module _ (settings bytes : List ℕ) (n first size supply : ℕ) where
               let can = playable-so s es first size left read x xs (inside ∙ e) (ap (λ (t : ℕ). leb t left) none-taken ∙ le-leb 0 left (omega arith)) in
               let lefts : left ≡ left - takes x = sym (ap (λ (t : ℕ). left - t) none-taken ∙ sub-zero left) in
               let beats-are : beats ≡ more s es first size left read x xs =
-                  c ∙ ap (λ (p : ℕ). 2 * p) (f .pairs-is) ∙ sym (more-so s es first size left read x xs kind) in
+              c ∙ ap (λ (p : ℕ). 2 * p) (f .pairs-is) ∙ sym (more-so s es first size left read x xs kind) in
               record {
                 at = next-at settings bytes n i z k l f (b .at);
                 within = omega arith;
@@ -138,7 +138,7 @@ module _ (settings bytes : List ℕ) (n first size supply : ℕ) where
             takes-on e m =
                 let can = playable-so s es first size left read x xs (inside ∙ e) (ap (λ (t : ℕ). leb t left) all-taken ∙ le-leb length left m) in
                 let none-read : read ≡ read + more s es first size left read x xs =
-                    sym (ap (λ (t : ℕ). read + t) (more-so s es first size left read x xs kind) ∙ add-zero read) in
+                sym (ap (λ (t : ℕ). read + t) (more-so s es first size left read x xs kind) ∙ add-zero read) in
                 record {
                   at = next-at settings bytes n i z k l f (b .at);
                   within = omega arith;

@@ -35,7 +35,7 @@ sub-at c =
     let start = loop .before .before .before in
     let a = start .args in
     let in-it = in-window (a .first) (length (a .window .now)) (cellIn (a .row) (a .mode) (a .column)) (2 * a .pairs) (start .pre .1 .0) (loop .loop .beat)
-        (called .before .loop-test .taken) (called .beat-cell .ensures) in
+    (called .before .loop-test .taken) (called .beat-cell .ensures) in
     in-it .0
 
 cast-at : tie.Need-cast-at Inv-loop μ-loop
@@ -48,7 +48,7 @@ mul-shown c =
     let start = loop .before .before .before in
     let a = start .args in
     let in-it = in-window (a .first) (length (a .window .now)) (cellIn (a .row) (a .mode) (a .column)) (2 * a .pairs) (start .pre .1 .0) (loop .loop .beat)
-        (called .before .loop-test .taken) (called .beat-cell .ensures) in
+    (called .before .loop-test .taken) (called .beat-cell .ensures) in
     omega (arith, in-it .1)
 
 shared-slice-read-shown : tie.Need-shared-slice-read-shown Inv-loop μ-loop
@@ -58,7 +58,7 @@ shared-slice-read-shown c =
     let start = loop .before .before .before in
     let a = start .args in
     let in-it = in-window (a .first) (length (a .window .now)) (cellIn (a .row) (a .mode) (a .column)) (2 * a .pairs) (start .pre .1 .0) (loop .loop .beat)
-        (called .before .loop-test .taken) (called .beat-cell .ensures) in
+    (called .before .loop-test .taken) (called .beat-cell .ensures) in
     in-it .1
 
 shown-requires : tie.Need-shown-requires Inv-loop μ-loop
@@ -71,7 +71,7 @@ mul-reads c =
     let start = loop .before .before .before in
     let a = start .args in
     let in-it = in-window (a .first) (length (a .window .now)) (cellIn (a .row) (a .mode) (a .column)) (2 * a .pairs) (start .pre .1 .0) (loop .loop .beat)
-        (called .before .loop-test .taken) (called .beat-cell .ensures) in
+    (called .before .loop-test .taken) (called .beat-cell .ensures) in
     omega (arith, start .pre .1 .1, loop .loop .inv .place, loop .loop .inv .size, called .before .loop-test .taken)
 
 slice-write-reads : tie.Need-slice-write-reads Inv-loop μ-loop
@@ -81,7 +81,7 @@ slice-write-reads c =
     let start = loop .before .before .before in
     let a = start .args in
     let in-it = in-window (a .first) (length (a .window .now)) (cellIn (a .row) (a .mode) (a .column)) (2 * a .pairs) (start .pre .1 .0) (loop .loop .beat)
-        (called .before .loop-test .taken) (called .beat-cell .ensures) in
+    (called .before .loop-test .taken) (called .beat-cell .ensures) in
     omega (arith, start .pre .1 .1, loop .loop .inv .place, loop .loop .inv .size, called .before .loop-test .taken)
 
 add-to : tie.Need-add-to Inv-loop μ-loop
@@ -91,7 +91,7 @@ add-to c =
     let start = loop .before .before .before in
     let a = start .args in
     let in-it = in-window (a .first) (length (a .window .now)) (cellIn (a .row) (a .mode) (a .column)) (2 * a .pairs) (start .pre .1 .0) (loop .loop .beat)
-        (called .before .loop-test .taken) (called .beat-cell .ensures) in
+    (called .before .loop-test .taken) (called .beat-cell .ensures) in
     omega (arith, start .pre .1 .1, loop .loop .inv .place, loop .loop .inv .size, called .before .loop-test .taken)
 
 add-beat : tie.Need-add-beat Inv-loop μ-loop
@@ -107,7 +107,7 @@ loop-again c =
     let start = loop .before .before .before in
     let a = start .args in
     let in-it = in-window (a .first) (length (a .window .now)) (cellIn (a .row) (a .mode) (a .column)) (2 * a .pairs) (start .pre .1 .0) (loop .loop .beat)
-        (called .before .loop-test .taken) (called .beat-cell .ensures) in
+    (called .before .loop-test .taken) (called .beat-cell .ensures) in
     goes-on (λ (j : ℕ). shownAt (a .lane) (a .first) (a .window .now) (cellIn (a .row) (a .mode) (a .column) j)) (a .reads .now) (a .next) (2 * a .pairs) (loop .loop .inv) (called .before .loop-test .taken)
     (c .shown .ensures ∙ ap (λ (k : ℕ). shownAt (a .lane) (a .first) (a .window .now) k) (called .beat-cell .ensures))
 

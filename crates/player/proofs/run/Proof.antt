@@ -74,8 +74,7 @@ store-requires c κs =
     let x = loop .events in
     let f = found (a .s .now) (a .bytes .now) (a .n) (x .i) (k .before .before .before .burst-at .ensures) (k .before .event .given .1) in
     let taken = k .before .before .before .before .before .events-test .taken in
-    let z = start .pre .0 .listable in
-    (
+    let z = start .pre .0 .listable in (
       in-row (a .s .now) (a .bytes .now) (a .n) (x .i) z (start .pre .1 .0) taken f,
       (holds-all (a .s .now) (a .bytes .now) (a .n) (a .first) (a .window .now) (a .writes .now) (a .reads .now) z (start .pre .1 .0) (x .inv) taken f, masks-fit (a .s .now) (a .bytes .now) (a .n) (a .first) (a .window .now) (a .writes .now) (a .reads .now) z (start .pre .1 .0) (x .inv) taken f (getD (a .s .now) 0 0) (start .pre .0 .coded) (c .before .if1 .taken)),
     )
@@ -131,8 +130,7 @@ fetch-requires c κs =
     let x = loop .events in
     let f = found (a .s .now) (a .bytes .now) (a .n) (x .i) (k .before .before .before .burst-at .ensures) (k .before .event .given .1) in
     let taken = k .before .before .before .before .before .events-test .taken in
-    let z = start .pre .0 .listable in
-    (
+    let z = start .pre .0 .listable in (
       in-row (a .s .now) (a .bytes .now) (a .n) (x .i) z (start .pre .1 .0) taken f,
       (holds-all (a .s .now) (a .bytes .now) (a .n) (a .first) (a .window .now) (a .writes .now) (a .reads .now) z (start .pre .1 .0) (x .inv) taken f, reads-fit (a .s .now) (a .bytes .now) (a .n) (a .first) (a .window .now) (a .writes .now) (a .reads .now) z (start .pre .1 .0) (x .inv) taken f (getD (a .s .now) 0 0) (start .pre .0 .coded) (c .before .before .if1 .left)),
     )

@@ -36,7 +36,7 @@ sub-at c =
     let start = loop .before .before .before in
     let a = start .args in
     let in-it = in-window (a .first) (length (a .window .now)) (cellIn (a .row) (a .mode) (a .column)) (2 * a .pairs) (start .pre .1 .0) (loop .loop .beat)
-        (called .before .loop-test .taken) (called .beat-cell .ensures) in
+    (called .before .loop-test .taken) (called .beat-cell .ensures) in
     in-it .0
 
 cast-at : tie.Need-cast-at Inv-loop μ-loop
@@ -52,7 +52,7 @@ add-pair c =
     let start = loop .before .before .before in
     let a = start .args in
     let in-it = in-window (a .first) (length (a .window .now)) (cellIn (a .row) (a .mode) (a .column)) (2 * a .pairs) (start .pre .1 .0) (loop .loop .beat)
-        (called .before .loop-test .taken) (called .beat-cell .ensures) in
+    (called .before .loop-test .taken) (called .beat-cell .ensures) in
     omega (arith, start .pre .1 .1, called .before .loop-test .taken, start .good .1 .1 .1 .1 .1 .1 .1 .0 .1)
 
 mul-pair : tie.Need-mul-pair Inv-loop μ-loop
@@ -62,7 +62,7 @@ mul-pair c =
     let start = loop .before .before .before in
     let a = start .args in
     let in-it = in-window (a .first) (length (a .window .now)) (cellIn (a .row) (a .mode) (a .column)) (2 * a .pairs) (start .pre .1 .0) (loop .loop .beat)
-        (called .before .loop-test .taken) (called .beat-cell .ensures) in
+    (called .before .loop-test .taken) (called .beat-cell .ensures) in
     omega (arith, start .pre .1 .1, called .before .loop-test .taken, start .good .1 .1 .1 .1 .1 .1 .1 .0 .1)
 
 mul-merge : tie.Need-mul-merge Inv-loop μ-loop
@@ -72,7 +72,7 @@ mul-merge c =
     let start = loop .before .before .before in
     let a = start .args in
     let in-it = in-window (a .first) (length (a .window .now)) (cellIn (a .row) (a .mode) (a .column)) (2 * a .pairs) (start .pre .1 .0) (loop .loop .beat)
-        (called .before .loop-test .taken) (called .beat-cell .ensures) in
+    (called .before .loop-test .taken) (called .beat-cell .ensures) in
     omega (arith, in-it .1, loop .loop .inv .size)
 
 slice-read-merge : tie.Need-slice-read-merge Inv-loop μ-loop
@@ -82,7 +82,7 @@ slice-read-merge c =
     let start = loop .before .before .before in
     let a = start .args in
     let in-it = in-window (a .first) (length (a .window .now)) (cellIn (a .row) (a .mode) (a .column)) (2 * a .pairs) (start .pre .1 .0) (loop .loop .beat)
-        (called .before .loop-test .taken) (called .beat-cell .ensures) in
+    (called .before .loop-test .taken) (called .beat-cell .ensures) in
     omega (arith, in-it .1, loop .loop .inv .size)
 
 mul-merge-2 : tie.Need-mul-merge-2 Inv-loop μ-loop
@@ -92,7 +92,7 @@ mul-merge-2 c =
     let start = loop .before .before .before in
     let a = start .args in
     let in-it = in-window (a .first) (length (a .window .now)) (cellIn (a .row) (a .mode) (a .column)) (2 * a .pairs) (start .pre .1 .0) (loop .loop .beat)
-        (called .before .loop-test .taken) (called .beat-cell .ensures) in
+    (called .before .loop-test .taken) (called .beat-cell .ensures) in
     omega (arith, start .pre .1 .1, called .before .loop-test .taken, start .good .1 .1 .1 .1 .1 .1 .1 .0 .1)
 
 shared-slice-read-merge : tie.Need-shared-slice-read-merge Inv-loop μ-loop
@@ -102,7 +102,7 @@ shared-slice-read-merge c =
     let start = loop .before .before .before in
     let a = start .args in
     let in-it = in-window (a .first) (length (a .window .now)) (cellIn (a .row) (a .mode) (a .column)) (2 * a .pairs) (start .pre .1 .0) (loop .loop .beat)
-        (called .before .loop-test .taken) (called .beat-cell .ensures) in
+    (called .before .loop-test .taken) (called .beat-cell .ensures) in
     omega (arith, start .pre .1 .1, called .before .loop-test .taken, start .good .1 .1 .1 .1 .1 .1 .1 .0 .1)
 
 add-merge : tie.Need-add-merge Inv-loop μ-loop
@@ -112,7 +112,7 @@ add-merge c =
     let start = loop .before .before .before in
     let a = start .args in
     let in-it = in-window (a .first) (length (a .window .now)) (cellIn (a .row) (a .mode) (a .column)) (2 * a .pairs) (start .pre .1 .0) (loop .loop .beat)
-        (called .before .loop-test .taken) (called .beat-cell .ensures) in
+    (called .before .loop-test .taken) (called .beat-cell .ensures) in
     omega (arith, start .pre .1 .1, called .before .loop-test .taken, start .good .1 .1 .1 .1 .1 .1 .1 .0 .1)
 
 mul-merge-3 : tie.Need-mul-merge-3 Inv-loop μ-loop
@@ -122,7 +122,7 @@ mul-merge-3 c =
     let start = loop .before .before .before in
     let a = start .args in
     let in-it = in-window (a .first) (length (a .window .now)) (cellIn (a .row) (a .mode) (a .column)) (2 * a .pairs) (start .pre .1 .0) (loop .loop .beat)
-        (called .before .loop-test .taken) (called .beat-cell .ensures) in
+    (called .before .loop-test .taken) (called .beat-cell .ensures) in
     omega (arith, start .pre .1 .1, called .before .loop-test .taken, start .good .1 .1 .1 .1 .1 .1 .1 .0 .1)
 
 shared-slice-read-merge-2 : tie.Need-shared-slice-read-merge-2 Inv-loop μ-loop
@@ -132,7 +132,7 @@ shared-slice-read-merge-2 c =
     let start = loop .before .before .before in
     let a = start .args in
     let in-it = in-window (a .first) (length (a .window .now)) (cellIn (a .row) (a .mode) (a .column)) (2 * a .pairs) (start .pre .1 .0) (loop .loop .beat)
-        (called .before .loop-test .taken) (called .beat-cell .ensures) in
+    (called .before .loop-test .taken) (called .beat-cell .ensures) in
     omega (arith, start .pre .1 .1, called .before .loop-test .taken, start .good .1 .1 .1 .1 .1 .1 .1 .0 .1)
 
 merge-requires : tie.Need-merge-requires Inv-loop μ-loop
@@ -145,7 +145,7 @@ mul-window c =
     let start = loop .before .before .before in
     let a = start .args in
     let in-it = in-window (a .first) (length (a .window .now)) (cellIn (a .row) (a .mode) (a .column)) (2 * a .pairs) (start .pre .1 .0) (loop .loop .beat)
-        (called .before .loop-test .taken) (called .beat-cell .ensures) in
+    (called .before .loop-test .taken) (called .beat-cell .ensures) in
     omega (arith, in-it .1, loop .loop .inv .size)
 
 slice-write-window : tie.Need-slice-write-window Inv-loop μ-loop
@@ -155,7 +155,7 @@ slice-write-window c =
     let start = loop .before .before .before in
     let a = start .args in
     let in-it = in-window (a .first) (length (a .window .now)) (cellIn (a .row) (a .mode) (a .column)) (2 * a .pairs) (start .pre .1 .0) (loop .loop .beat)
-        (called .before .loop-test .taken) (called .beat-cell .ensures) in
+    (called .before .loop-test .taken) (called .beat-cell .ensures) in
     omega (arith, in-it .1, loop .loop .inv .size)
 
 add-beat : tie.Need-add-beat Inv-loop μ-loop
@@ -171,7 +171,7 @@ loop-again c =
     let start = loop .before .before .before in
     let a = start .args in
     let in-it = in-window (a .first) (length (a .window .now)) (cellIn (a .row) (a .mode) (a .column)) (2 * a .pairs) (start .pre .1 .0) (loop .loop .beat)
-        (called .before .loop-test .taken) (called .beat-cell .ensures) in
+    (called .before .loop-test .taken) (called .beat-cell .ensures) in
     stores-on (lanesBy (a .lane)) (a .first) (cellIn (a .row) (a .mode) (a .column)) (λ (j : ℕ). datumAt (a .writes .now) (a .taken + j)) (2 * a .pairs) (a .window .now) (loop .loop .inv) (called .before .loop-test .taken)
     (ap (λ (k : ℕ). k - a .first) (called .beat-cell .ensures)) (c .merge .ensures)
 
