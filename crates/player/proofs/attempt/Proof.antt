@@ -126,7 +126,8 @@ events-again-2 c =
     let f = found (a .s .now) (a .bytes .now) (a .n) (x .i) (k .before .before .before .burst-at .ensures) (k .before .event .given .1) in
     let taken = k .before .before .before .before .before .events-test .taken in
     let z = start .pre .0 .listable in
-    reads-on (a .s .now) (a .bytes .now) (a .n) (a .first) (a .size) (a .supply) z (start .pre .1) (x .inv) taken f (c .before .before .holds-burst .ensures) (not-false _ (c .before .if1 .left)) (not-true _ (c .if2 .taken)) refl
+    reads-on (a .s .now) (a .bytes .now) (a .n) (a .first) (a .size) (a .supply) z (start .pre .1) (x .inv) taken f (c .before .before .holds-burst .ensures)
+    (not-false _ (c .before .if1 .left)) (not-true _ (c .if2 .taken)) refl
 
 burst-length-requires : tie.Need-burst-length-requires Inv-events μ-events
 burst-length-requires c κs = search needs
@@ -144,7 +145,8 @@ returns-2 c =
     let f = found (a .s .now) (a .bytes .now) (a .n) (x .i) (k .before .before .before .burst-at .ensures) (k .before .event .given .1) in
     let taken = k .before .before .before .before .before .events-test .taken in
     let z = start .pre .0 .listable in
-    lacks (a .s .now) (a .bytes .now) (a .n) (a .first) (a .size) (a .supply) z (start .pre .1) (x .inv) taken f (c .before .before .before .before .holds-burst .ensures) (not-false _ (c .before .before .if2 .left)) (c .before .burst-length .ensures) (not-false _ (c .before .before .before .if1 .left))
+    lacks (a .s .now) (a .bytes .now) (a .n) (a .first) (a .size) (a .supply) z (start .pre .1) (x .inv) taken f (c .before .before .before .before .holds-burst .ensures)
+    (not-false _ (c .before .before .if2 .left)) (c .before .burst-length .ensures) (not-false _ (c .before .before .before .if1 .left))
     (c .if3 .taken)
 
 add-i-3 : tie.Need-add-i-3 Inv-events μ-events
@@ -163,7 +165,8 @@ events-again-3 c =
     let f = found (a .s .now) (a .bytes .now) (a .n) (x .i) (k .before .before .before .burst-at .ensures) (k .before .event .given .1) in
     let taken = k .before .before .before .before .before .events-test .taken in
     let z = start .pre .0 .listable in
-    takes-on (a .s .now) (a .bytes .now) (a .n) (a .first) (a .size) (a .supply) z (start .pre .1) (x .inv) taken f (c .before .before .before .before .holds-burst .ensures) (not-false _ (c .before .before .if2 .left)) (c .before .burst-length .ensures) (not-false _ (c .before .before .before .if1 .left))
+    takes-on (a .s .now) (a .bytes .now) (a .n) (a .first) (a .size) (a .supply) z (start .pre .1) (x .inv) taken f (c .before .before .before .before .holds-burst .ensures)
+    (not-false _ (c .before .before .if2 .left)) (c .before .burst-length .ensures) (not-false _ (c .before .before .before .if1 .left))
     (omega (arith, c .if3 .left))
 
 returns-3 : tie.Need-returns-3 Inv-events μ-events

@@ -11,7 +11,8 @@ use Rattle.player.proofs.fetch.Statement.{statement}
 use Rattle.player.proofs.fetch.Tie as tie
 
 abbrev Inv-loop : tie.InvT-loop
-Inv-loop reads₀ next window first lane row mode column pairs to₀ beat₀ beat-end reads to beat = Stored (λ (j : ℕ). shownAt lane first window (cellIn row mode column j)) reads₀ next (2 * pairs) reads beat to
+Inv-loop reads₀ next window first lane row mode column pairs to₀ beat₀ beat-end reads to beat = Stored (λ (j : ℕ). shownAt lane first window (cellIn row mode column j))
+    reads₀ next (2 * pairs) reads beat to
 
 abbrev μ-loop : tie.MeasureT-loop
 μ-loop reads₀ next window first lane row mode column pairs to₀ beat₀ beat-end reads to beat = 2 * pairs - beat
@@ -108,7 +109,8 @@ loop-again c =
     let a = start .args in
     let in-it = in-window (a .first) (length (a .window .now)) (cellIn (a .row) (a .mode) (a .column)) (2 * a .pairs) (start .pre .1 .0) (loop .loop .beat)
     (called .before .loop-test .taken) (called .beat-cell .ensures) in
-    goes-on (λ (j : ℕ). shownAt (a .lane) (a .first) (a .window .now) (cellIn (a .row) (a .mode) (a .column) j)) (a .reads .now) (a .next) (2 * a .pairs) (loop .loop .inv) (called .before .loop-test .taken)
+    goes-on (λ (j : ℕ). shownAt (a .lane) (a .first) (a .window .now) (cellIn (a .row) (a .mode) (a .column) j)) (a .reads .now) (a .next) (2 * a .pairs) (loop .loop .inv)
+    (called .before .loop-test .taken)
     (c .shown .ensures ∙ ap (λ (k : ℕ). shownAt (a .lane) (a .first) (a .window .now) k) (called .beat-cell .ensures))
 
 same-length : tie.Need-same-length Inv-loop μ-loop
@@ -116,7 +118,8 @@ same-length c = c .before .loop .inv .size
 
 returns : tie.Need-returns Inv-loop μ-loop
 returns c =
-    let a = c .before .before .before .before .args in ends (λ (j : ℕ). shownAt (a .lane) (a .first) (a .window .now) (cellIn (a .row) (a .mode) (a .column) j)) (a .reads .now) (a .next) (2 * a .pairs) (c .before .loop .inv) (omega (arith, c .loop-test .left))
+    let a = c .before .before .before .before .args in ends (λ (j : ℕ). shownAt (a .lane) (a .first) (a .window .now) (cellIn (a .row) (a .mode) (a .column) j))
+    (a .reads .now) (a .next) (2 * a .pairs) (c .before .loop .inv) (omega (arith, c .loop-test .left))
 
 pub fetch-spec : {M : Type 1} → statement M
 fetch-spec =

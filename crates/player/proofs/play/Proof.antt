@@ -35,7 +35,8 @@ returns : tie.Need-returns
 returns c =
     let judged = c .before .before .before .before in
     let a = judged .before .before .before .before .before .args in
-    refused-play (a .capture .now) (a .first) (a .window .now) (a .writes .now) (a .reads .now) (c .before .before .before .unclean .result) (c .before .before .before .unclean .ensures ∙ ap cleanBy (judged .judge .ensures)) (c .before .checked .given .1)
+    refused-play (a .capture .now) (a .first) (a .window .now) (a .writes .now) (a .reads .now) (c .before .before .before .unclean .result)
+    (c .before .before .before .unclean .ensures ∙ ap cleanBy (judged .judge .ensures)) (c .before .checked .given .1)
 
 enum-told : tie.Need-enum-told
 enum-told c = search needs

@@ -31,7 +31,8 @@ returns-2 c =
     let tried = c .before .before in
     let a = tried .before .before .before .before .before .before .before .args in
     let told = c .enum-told .given .1 in
-    let ends = unplayed (settingsOf (a .s .now)) (eventsIn (a .bytes .now) (a .n)) (a .first) (a .window .now) (a .writes .now) (a .reads .now) (tried .before .before .window-fits .ensures) (not-false _ (tried .before .if1 .left)) (tried .attempt .result) (tried .attempt .ensures) told in
+    let ends = unplayed (settingsOf (a .s .now)) (eventsIn (a .bytes .now) (a .n)) (a .first) (a .window .now) (a .writes .now) (a .reads .now)
+    (tried .before .before .window-fits .ensures) (not-false _ (tried .before .if1 .left)) (tried .attempt .result) (tried .attempt .ensures) told in
     (ap means told ∙ ends .0, ends .1)
 
 cast-if2 : tie.Need-cast-if2
@@ -42,15 +43,33 @@ returns-3 c =
     let k = c .before in
     let a = k .before .before .before .before .before .before .before .before .before .before .args in
     let fit = not-false _ (k .before .before .before .before .if1 .left) in
-    no-room (settingsOf (a .s .now)) (eventsIn (a .bytes .now) (a .n)) (a .first) (a .window .now) (a .writes .now) (a .reads .now) (k .before .before .before .before .before .window-fits .ensures) fit (k .before .before .before .attempt .result) (k .before .before .before .attempt .ensures) (k .before .attempted .given .1) (c .if2 .taken)
+    no-room (settingsOf (a .s .now)) (eventsIn (a .bytes .now) (a .n)) (a .first) (a .window .now) (a .writes .now) (a .reads .now)
+    (k .before .before .before .before .before .window-fits .ensures) fit (k .before .before .before .attempt .result) (k .before .before .before .attempt .ensures)
+    (k .before .attempted .given .1) (c .if2 .taken)
 
 run-requires : tie.Need-run-requires
 run-requires c κs =
     let k = c .before .before .before in
     let a = k .before .before .before .before .before .before .before .before .before .before .args in
     let fit = not-false _ (k .before .before .before .before .if1 .left) in
-    let p = k .before .before .before .before .before .before .before .before .before .before .pre in
-    (p .0, (p .1, (all-playable (settingsOf (a .s .now)) (eventsIn (a .bytes .now) (a .n)) (a .first) (a .window .now) (a .writes .now) (a .reads .now) (k .before .before .before .before .before .window-fits .ensures) fit (k .before .before .before .attempt .result) (k .before .before .before .attempt .ensures) (k .before .attempted .given .1), omega (arith, read-so (settingsOf (a .s .now)) (eventsIn (a .bytes .now) (a .n)) (a .first) (a .window .now) (a .writes .now) (a .reads .now) (k .before .before .before .before .before .window-fits .ensures) fit (k .before .before .before .attempt .result) (k .before .before .before .attempt .ensures) (k .before .attempted .given .1), c .before .before .if2 .left))))
+    let p = k .before .before .before .before .before .before .before .before .before .before .pre in (
+      p .0,
+      (
+        p .1,
+        (
+          all-playable (settingsOf (a .s .now)) (eventsIn (a .bytes .now) (a .n)) (a .first) (a .window .now) (a .writes .now) (a .reads .now)
+              (k .before .before .before .before .before .window-fits .ensures) fit (k .before .before .before .attempt .result) (k .before .before .before .attempt .ensures)
+              (k .before .attempted .given .1),
+          omega (
+            arith,
+            read-so (settingsOf (a .s .now)) (eventsIn (a .bytes .now) (a .n)) (a .first) (a .window .now) (a .writes .now) (a .reads .now)
+                (k .before .before .before .before .before .window-fits .ensures) fit (k .before .before .before .attempt .result) (k .before .before .before .attempt .ensures)
+                (k .before .attempted .given .1),
+            c .before .before .if2 .left,
+          ),
+        ),
+      ),
+    )
 
 same-length : tie.Need-same-length
 same-length c = search needs
@@ -64,7 +83,9 @@ returns-4 c =
     let a = k .before .before .before .before .before .before .before .before .before .before .args in
     let fit = not-false _ (k .before .before .before .before .if1 .left) in
     let ran = c .before .before .before .before .run .ensures in
-    played-ends (settingsOf (a .s .now)) (eventsIn (a .bytes .now) (a .n)) (a .first) (a .window .now) (a .writes .now) (a .reads .now) (k .before .before .before .before .before .window-fits .ensures) fit (k .before .before .before .attempt .result) (k .before .before .before .attempt .ensures) (k .before .attempted .given .1) (omega (arith, c .before .before .before .before .before .before .before .if2 .left)) (ran .0) (ran .1)
+    played-ends (settingsOf (a .s .now)) (eventsIn (a .bytes .now) (a .n)) (a .first) (a .window .now) (a .writes .now) (a .reads .now)
+    (k .before .before .before .before .before .window-fits .ensures) fit (k .before .before .before .attempt .result) (k .before .before .before .attempt .ensures)
+    (k .before .attempted .given .1) (omega (arith, c .before .before .before .before .before .before .before .if2 .left)) (ran .0) (ran .1)
 
 pub play-on-spec : {M : Type 1} → statement M
 play-on-spec =

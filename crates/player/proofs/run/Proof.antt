@@ -10,7 +10,8 @@ use Rattle.player.proofs.run.Statement.{statement}
 use Rattle.player.proofs.run.Tie as tie
 
 abbrev Inv-events : tie.InvT-events
-Inv-events s bytes n first window₀ writes reads₀ lane firsts₀ mode₀ taken₀ next₀ i₀ window reads firsts mode taken next i = Ran s bytes n first window₀ writes reads₀ window reads firsts mode taken next i
+Inv-events s bytes n first window₀ writes reads₀ lane firsts₀ mode₀ taken₀ next₀ i₀ window reads firsts mode taken next i = Ran s bytes n first window₀ writes reads₀ window
+    reads firsts mode taken next i
 
 abbrev μ-events : tie.MeasureT-events
 μ-events s bytes n first window₀ writes reads₀ lane firsts₀ mode₀ taken₀ next₀ i₀ window reads firsts mode taken next i = n - i
@@ -28,7 +29,8 @@ events-holds : tie.Need-events-holds Inv-events μ-events
 events-holds c =
     let start = c .before .before .before .before .before .before .before in
     let a = start .args in
-    begins (a .s .now) (a .bytes .now) (a .n) (a .first) (a .window .now) (a .writes .now) (a .reads .now) (start .pre .0 .listable) (start .pre .1 .0) (c .before .first-cells .ensures) (start .pre .1 .1 .0) (start .pre .1 .1 .1)
+    begins (a .s .now) (a .bytes .now) (a .n) (a .first) (a .window .now) (a .writes .now) (a .reads .now) (start .pre .0 .listable) (start .pre .1 .0)
+    (c .before .first-cells .ensures) (start .pre .1 .1 .0) (start .pre .1 .1 .1)
 
 burst-at-requires : tie.Need-burst-at-requires Inv-events μ-events
 burst-at-requires c κs =
@@ -61,7 +63,8 @@ events-again c =
     let start = loop .before .before .before .before .before .before .before .before in
     let a = start .args in
     let x = loop .events in
-    passes (a .s .now) (a .bytes .now) (a .n) (a .first) (a .window .now) (a .writes .now) (a .reads .now) (start .pre .0 .listable) (start .pre .1 .0) (x .inv) (told .before .before .before .before .events-test .taken)
+    passes (a .s .now) (a .bytes .now) (a .n) (a .first) (a .window .now) (a .writes .now) (a .reads .now) (start .pre .0 .listable) (start .pre .1 .0) (x .inv)
+    (told .before .before .before .before .events-test .taken)
     (found-none (a .s .now) (a .bytes .now) (a .n) (x .i) (told .before .before .burst-at .ensures) (told .enum-told .given .1))
     (record { rowed = c .passed .ensures .1; moded = c .passed .ensures .0 })
 
@@ -76,7 +79,12 @@ store-requires c κs =
     let taken = k .before .before .before .before .before .events-test .taken in
     let z = start .pre .0 .listable in (
       in-row (a .s .now) (a .bytes .now) (a .n) (x .i) z (start .pre .1 .0) taken f,
-      (holds-all (a .s .now) (a .bytes .now) (a .n) (a .first) (a .window .now) (a .writes .now) (a .reads .now) z (start .pre .1 .0) (x .inv) taken f, masks-fit (a .s .now) (a .bytes .now) (a .n) (a .first) (a .window .now) (a .writes .now) (a .reads .now) z (start .pre .1 .0) (x .inv) taken f (getD (a .s .now) 0 0) (start .pre .0 .coded) (c .before .if1 .taken)),
+      (
+        holds-all (a .s .now) (a .bytes .now) (a .n) (a .first) (a .window .now) (a .writes .now) (a .reads .now) z (start .pre .1 .0) (x .inv) taken f,
+        masks-fit (a .s .now)
+            (a .bytes .now) (a .n) (a .first) (a .window .now) (a .writes .now) (a .reads .now) z (start .pre .1 .0) (x .inv) taken f (getD (a .s .now) 0 0)
+            (start .pre .0 .coded) (c .before .if1 .taken),
+      ),
     )
 
 burst-length-requires : tie.Need-burst-length-requires Inv-events μ-events
@@ -97,7 +105,8 @@ add-taken c =
     let z = start .pre .0 .listable in
     omega (
       arith,
-      all-taken (a .s .now) (a .bytes .now) (a .n) (a .first) (a .window .now) (a .writes .now) (a .reads .now) z (start .pre .1 .0) (x .inv) taken f (getD (a .s .now) 0 0) (start .pre .0 .coded) (c .before .before .before .before .before .if1 .taken),
+      all-taken (a .s .now) (a .bytes .now) (a .n) (a .first) (a .window .now) (a .writes .now) (a .reads .now) z (start .pre .1 .0) (x .inv) taken f (getD (a .s .now) 0 0)
+          (start .pre .0 .coded) (c .before .before .before .before .before .if1 .taken),
       c .burst-length .ensures,
       data-length (a .writes .now),
       start .good .1 .1 .1 .1 .1 .0 .1,
@@ -119,7 +128,8 @@ events-again-2 c =
     let f = found (a .s .now) (a .bytes .now) (a .n) (x .i) (k .before .before .before .burst-at .ensures) (k .before .event .given .1) in
     let taken = k .before .before .before .before .before .events-test .taken in
     let z = start .pre .0 .listable in
-    stores-on (a .s .now) (a .bytes .now) (a .n) (a .first) (a .window .now) (a .writes .now) (a .reads .now) z (start .pre .1 .0) (x .inv) taken f (getD (a .s .now) 0 0) (start .pre .0 .coded) (c .before .before .before .before .before .if1 .taken) (c .burst-length .ensures) (c .before .before .before .store .ensures)
+    stores-on (a .s .now) (a .bytes .now) (a .n) (a .first) (a .window .now) (a .writes .now) (a .reads .now) z (start .pre .1 .0) (x .inv) taken f (getD (a .s .now) 0 0)
+    (start .pre .0 .coded) (c .before .before .before .before .before .if1 .taken) (c .burst-length .ensures) (c .before .before .before .store .ensures)
 
 fetch-requires : tie.Need-fetch-requires Inv-events μ-events
 fetch-requires c κs =
@@ -132,7 +142,12 @@ fetch-requires c κs =
     let taken = k .before .before .before .before .before .events-test .taken in
     let z = start .pre .0 .listable in (
       in-row (a .s .now) (a .bytes .now) (a .n) (x .i) z (start .pre .1 .0) taken f,
-      (holds-all (a .s .now) (a .bytes .now) (a .n) (a .first) (a .window .now) (a .writes .now) (a .reads .now) z (start .pre .1 .0) (x .inv) taken f, reads-fit (a .s .now) (a .bytes .now) (a .n) (a .first) (a .window .now) (a .writes .now) (a .reads .now) z (start .pre .1 .0) (x .inv) taken f (getD (a .s .now) 0 0) (start .pre .0 .coded) (c .before .before .if1 .left)),
+      (
+        holds-all (a .s .now) (a .bytes .now) (a .n) (a .first) (a .window .now) (a .writes .now) (a .reads .now) z (start .pre .1 .0) (x .inv) taken f,
+        reads-fit (a .s .now)
+            (a .bytes .now) (a .n) (a .first) (a .window .now) (a .writes .now) (a .reads .now) z (start .pre .1 .0) (x .inv) taken f (getD (a .s .now) 0 0)
+            (start .pre .0 .coded) (c .before .before .if1 .left),
+      ),
     )
 
 cast-next : tie.Need-cast-next Inv-events μ-events
@@ -151,7 +166,14 @@ add-next c =
     let f = found (a .s .now) (a .bytes .now) (a .n) (x .i) (k .before .before .before .burst-at .ensures) (k .before .event .given .1) in
     let taken = k .before .before .before .before .before .events-test .taken in
     let z = start .pre .0 .listable in
-    omega (arith, reads-fit (a .s .now) (a .bytes .now) (a .n) (a .first) (a .window .now) (a .writes .now) (a .reads .now) z (start .pre .1 .0) (x .inv) taken f (getD (a .s .now) 0 0) (start .pre .0 .coded) (c .before .before .before .before .before .if1 .left), as-long (a .s .now) (a .bytes .now) (a .n) (a .first) (a .window .now) (a .writes .now) (a .reads .now) (x .inv), start .good .1 .1 .1 .1 .1 .1 .0 .1)
+    omega (
+      arith,
+      reads-fit (a .s .now) (a .bytes .now) (a .n) (a .first) (a .window .now) (a .writes .now) (a .reads .now) z (start .pre .1 .0) (x .inv) taken f
+          (getD (a .s .now) 0 0) (start .pre .0 .coded) (c .before .before .before .before .before .if1 .left),
+      as-long (a .s .now) (a .bytes .now) (a .n) (a .first)
+          (a .window .now) (a .writes .now) (a .reads .now) (x .inv),
+      start .good .1 .1 .1 .1 .1 .1 .0 .1,
+    )
 
 add-i-3 : tie.Need-add-i-3 Inv-events μ-events
 add-i-3 c = omega arith
@@ -169,19 +191,23 @@ events-again-3 c =
     let f = found (a .s .now) (a .bytes .now) (a .n) (x .i) (k .before .before .before .burst-at .ensures) (k .before .event .given .1) in
     let taken = k .before .before .before .before .before .events-test .taken in
     let z = start .pre .0 .listable in
-    reads-on (a .s .now) (a .bytes .now) (a .n) (a .first) (a .window .now) (a .writes .now) (a .reads .now) z (start .pre .1 .0) (x .inv) taken f (getD (a .s .now) 0 0) (start .pre .0 .coded) (c .before .before .before .before .before .if1 .left) (c .before .before .fetch .ensures)
+    reads-on (a .s .now) (a .bytes .now) (a .n) (a .first) (a .window .now) (a .writes .now) (a .reads .now) z (start .pre .1 .0) (x .inv) taken f (getD (a .s .now) 0 0)
+    (start .pre .0 .coded) (c .before .before .before .before .before .if1 .left) (c .before .before .fetch .ensures)
 
 same-length : tie.Need-same-length Inv-events μ-events
 same-length c =
-    let a = c .before .before .before .before .before .before .before .before .before .args in as-wide (a .s .now) (a .bytes .now) (a .n) (a .first) (a .window .now) (a .writes .now) (a .reads .now) (c .before .events .inv)
+    let a = c .before .before .before .before .before .before .before .before .before .args in as-wide (a .s .now) (a .bytes .now) (a .n) (a .first) (a .window .now)
+    (a .writes .now) (a .reads .now) (c .before .events .inv)
 
 same-length-2 : tie.Need-same-length-2 Inv-events μ-events
 same-length-2 c =
-    let a = c .before .before .before .before .before .before .before .before .before .args in as-long (a .s .now) (a .bytes .now) (a .n) (a .first) (a .window .now) (a .writes .now) (a .reads .now) (c .before .events .inv)
+    let a = c .before .before .before .before .before .before .before .before .before .args in as-long (a .s .now) (a .bytes .now) (a .n) (a .first) (a .window .now)
+    (a .writes .now) (a .reads .now) (c .before .events .inv)
 
 returns : tie.Need-returns Inv-events μ-events
 returns c =
-    let a = c .before .before .before .before .before .before .before .before .before .args in ends (a .s .now) (a .bytes .now) (a .n) (a .first) (a .window .now) (a .writes .now) (a .reads .now) (c .before .events .inv) (omega (arith, c .events-test .left))
+    let a = c .before .before .before .before .before .before .before .before .before .args in ends (a .s .now) (a .bytes .now) (a .n) (a .first) (a .window .now)
+    (a .writes .now) (a .reads .now) (c .before .events .inv) (omega (arith, c .events-test .left))
 
 pub run-spec : {M : Type 1} → statement M
 run-spec =

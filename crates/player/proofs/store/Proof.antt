@@ -22,7 +22,8 @@ mul-beat-end c = omega (arith, c .before .before .pre .0 .short)
 
 loop-holds : tie.Need-loop-holds Inv-loop μ-loop
 loop-holds c =
-    let a = c .before .before .args in stores-none (lanesBy (a .lane)) (a .first) (cellIn (a .row) (a .mode) (a .column)) (λ (j : ℕ). datumAt (a .writes .now) (a .taken + j)) (2 * a .pairs) (a .window .now)
+    let a = c .before .before .args in stores-none (lanesBy (a .lane)) (a .first) (cellIn (a .row) (a .mode) (a .column)) (λ (j : ℕ). datumAt (a .writes .now) (a .taken + j))
+    (2 * a .pairs) (a .window .now)
 
 beat-cell-requires : tie.Need-beat-cell-requires Inv-loop μ-loop
 beat-cell-requires c κs =
@@ -172,7 +173,8 @@ loop-again c =
     let a = start .args in
     let in-it = in-window (a .first) (length (a .window .now)) (cellIn (a .row) (a .mode) (a .column)) (2 * a .pairs) (start .pre .1 .0) (loop .loop .beat)
     (called .before .loop-test .taken) (called .beat-cell .ensures) in
-    stores-on (lanesBy (a .lane)) (a .first) (cellIn (a .row) (a .mode) (a .column)) (λ (j : ℕ). datumAt (a .writes .now) (a .taken + j)) (2 * a .pairs) (a .window .now) (loop .loop .inv) (called .before .loop-test .taken)
+    stores-on (lanesBy (a .lane)) (a .first) (cellIn (a .row) (a .mode) (a .column)) (λ (j : ℕ). datumAt (a .writes .now) (a .taken + j)) (2 * a .pairs) (a .window .now)
+    (loop .loop .inv) (called .before .loop-test .taken)
     (ap (λ (k : ℕ). k - a .first) (called .beat-cell .ensures)) (c .merge .ensures)
 
 same-length : tie.Need-same-length Inv-loop μ-loop
@@ -180,7 +182,8 @@ same-length c = c .before .loop .inv .size
 
 returns : tie.Need-returns Inv-loop μ-loop
 returns c =
-    let a = c .before .before .before .before .args in stores-all (lanesBy (a .lane)) (a .first) (cellIn (a .row) (a .mode) (a .column)) (λ (j : ℕ). datumAt (a .writes .now) (a .taken + j)) (2 * a .pairs) (a .window .now) (c .before .loop .inv) (omega (arith, c .loop-test .left))
+    let a = c .before .before .before .before .args in stores-all (lanesBy (a .lane)) (a .first) (cellIn (a .row) (a .mode) (a .column))
+    (λ (j : ℕ). datumAt (a .writes .now) (a .taken + j)) (2 * a .pairs) (a .window .now) (c .before .loop .inv) (omega (arith, c .loop-test .left))
 
 pub store-spec : {M : Type 1} → statement M
 store-spec =
