@@ -10,7 +10,8 @@ enum { ROOM = 1 << 18, PAINT = 0x5c, REQUESTS = 2000 };
 
 static uint8_t stack[ROOM];
 static uint8_t capture[LONGEST], bytes[LONGEST];
-static uint32_t cells[16 * MOST_EVENTS], requests[REQUESTS];
+static uint32_t cells[16 * MOST_EVENTS], requests[REQUESTS], words[MORGAZELL_MOST_INDEX];
+static struct morgazell_bank banks[4];
 static size_t len;
 static ucontext_t here, there;
 
@@ -33,6 +34,8 @@ CALL(list, morgazell_cells(capture, len, cells, 16 * MOST_EVENTS))
 CALL(list_short, morgazell_cells(capture, len, cells, 100))
 CALL(blank, morgazell_blank(capture, len, bytes, LONGEST))
 CALL(blank_short, morgazell_blank(capture, len, bytes, 100))
+CALL(row, morgazell_open_row(capture, len, 0, 3999, banks, 4, words, MORGAZELL_MOST_INDEX))
+CALL(row_short, morgazell_open_row(capture, len, 3, 0, banks, 4, words, 2))
 CALL(schedule, morgazell_schedule(SETTINGS, 14, requests, REQUESTS, MORGAZELL_OPEN_ROWS, bytes, LONGEST))
 
 /* The frame of the caller itself is counted too. */
@@ -80,7 +83,7 @@ int main(void)
 {
     static const uint32_t LAST[] = {NOP,     ACTIVE | 1, READ,    WRITE,        0x40400,  0x60000,  REFRESH,
                                     0x32,    0x10000,    0x1E0000, REFRESH | 0x100000, ACTIVE | 0x100000, 0xFFFFFFFF};
-    size_t judging = 0, recording = 0, listing = 0, blanking = 0, scheduling;
+    size_t judging = 0, recording = 0, listing = 0, blanking = 0, asking = 0, scheduling;
     for (uint32_t settings = 14; settings <= 16; settings++)
         for (size_t i = 0; i < 2 * sizeof LAST / sizeof LAST[0]; i++) {
             make(settings, i % 2, LAST[i / 2]);
@@ -88,6 +91,7 @@ int main(void)
             recording = most(recording, taken(record));
             listing = most(listing, most(taken(list), taken(list_short)));
             blanking = most(blanking, most(taken(blank), taken(blank_short)));
+            asking = most(asking, most(taken(row), taken(row_short)));
         }
     for (uint32_t i = 0; i < REQUESTS; i++)
         requests[i] = i % 3 << 31 | (i * 7919) % 0x2000000;
@@ -95,7 +99,7 @@ int main(void)
     requests[REQUESTS - 1] = 0xFFFFFFFF;
     scheduling = most(scheduling, taken(schedule));
     printf("morgazell_judge %zu\nmorgazell_recording %zu\nmorgazell_cells %zu\nmorgazell_schedule %zu\nmorgazell_blank %zu\n"
-           "morgazell_version %zu\n",
-           judging, recording, listing, scheduling, blanking, taken(version));
+           "morgazell_open_row %zu\nmorgazell_version %zu\n",
+           judging, recording, listing, scheduling, blanking, asking, taken(version));
     return 0;
 }

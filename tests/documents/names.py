@@ -11,6 +11,9 @@ FOLDERS = [".ci", "crates", "docs", "examples", "include", "package", "samples",
 # Crates of the kit; what they have is not ours to look for.
 KIT = {"io", "libc", "os", "std"}
 
+# tests/run has its tests in these groups.
+GROUPS = {"sources", "programs", "archive"}
+
 LAW = re.compile(r"^\s*(?:(?:abbrev|unfoldable|pub|data|record)\s+)*([^\s:(){}]+)\s*:", re.M)
 ITEM = re.compile(r"\b(?:fn|struct|enum|const|static|mod|type)\s+(\w+)")
 
@@ -70,8 +73,9 @@ def edits():
 
 @functools.cache
 def tests():
-    """The names that tests/run knows."""
-    return frozenset(re.search(r'^all="([^"]*)"', read("tests", "run"), re.M).group(1).split())
+    """The names of tests that tests/run knows, by its three groups."""
+    groups = re.findall(r'^(?:%s)="([^"]*)"' % "|".join(GROUPS), read("tests", "run"), re.M)
+    return frozenset(name for group in groups for name in group.split())
 
 
 @functools.cache

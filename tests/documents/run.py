@@ -72,7 +72,7 @@ def wrong_paths(page, text):
 def wrong_commands(text):
     for said in commands(text):
         for test in re.findall(r"\btests/run((?: [a-z]+)+)", said):
-            yield from ("tests/run has no %s" % name for name in test.split() if name not in names.tests())
+            yield from ("tests/run has no %s" % name for name in test.split() if name not in names.tests() | names.GROUPS)
         for verb, crates in re.findall(r"\brt (check|dev|must-fail|try)((?: [a-z_]+)+)", said):
             yield from ("rt %s of %s, which is no crate" % (verb, name) for name in crates.split() if name not in names.crates())
 

@@ -3,6 +3,7 @@ import os
 import re
 
 import captures
+import openrows
 from captures import (LOW, SLEEPY, broken_lines, burst_length, cas_latency, clean_lines, event_in, is_interleaved,
                       settings_in)
 
@@ -92,6 +93,12 @@ def kind_of(pins, before):
     return name if name in ("AUTO REFRESH", "MODE REGISTER SET") else None
 
 
+def open_rows(rows):
+    """Behind a judged event."""
+    each = " ".join(f"{bank}:{rows[bank]}" for bank in sorted(rows))
+    return f"; open {each}" if each else "; all idle"
+
+
 def event_lines(events, settings, broken):
     first, end = max(0, broken - 8), min(len(events), broken + 5)
     pins = [0] + [pins for _, pins in events]
@@ -99,7 +106,8 @@ def event_lines(events, settings, broken):
     last.pop(None, None)
     marked = [("^", i) for i in sorted(last.values())]
     marked += [(">" if i == broken else " ", i) for i in range(first, end)]
-    return [f"{mark} event {i} cycle {events[i][0]} {command(events[i][1], settings[2])}" for mark, i in marked]
+    behind = {i: open_rows(rows) for i, rows in enumerate(openrows.rows_after(events[:broken])) if first <= i}
+    return [f"{mark} event {i} cycle {events[i][0]} {command(events[i][1], settings[2])}{behind.get(i, '')}" for mark, i in marked]
 
 
 def text(lines):

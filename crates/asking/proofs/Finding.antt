@@ -8,7 +8,7 @@ use native.Mathlib.Omega.{arith}
 use lib.ListN.{length, getD, take, drop, length-append}
 use lib.Seq.{sets}
 use Rattle.reading.specs.Search.{count}
-use Rattle.reading.specs.Capture.{Event, captureSize, countIn, eventCount, eventBytes, eventAt, eventsOf}
+use Rattle.reading.specs.Capture.{Event, mostEvents, captureSize, countIn, eventCount, eventBytes, eventAt, eventsOf}
 use Rattle.reading.specs.Verdict.{clean}
 use Rattle.reading.specs.Answers.{Answer, refused, answered, accepted, settingsIn, verdictIn}
 use Rattle.reading.specs.Openings.{Opening, Record, openingsOf, openingWords, indexOf, recordsFrom, recordsOf, rowAfter}
@@ -56,7 +56,7 @@ take-count f from zero (suc k) l = absurd (omega (arith, l))
 take-count {A} f from (suc n) (suc k) l = ap (λ (m : List A). f from ∷ m) (take-count f (suc from) n k (omega (arith, l)))
 
 module _ (capture : List ℕ) (open-to : accepted capture (answered (tt {0})) ≡ answered tt) (cleaned : verdictIn capture ≡ clean) where
-  sized : Sized capture
+  sized : Sized mostEvents capture
   sized = accepted-sound capture open-to .sized
 
   pub long : captureSize (countIn capture) (eventCount capture) ≤ length capture

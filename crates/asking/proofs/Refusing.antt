@@ -9,9 +9,9 @@ use borrow.Author.Tests.{le-leb, lt-leb, lt-ltb, le-ltb, leb-true, ltb-true, ltb
 use lib.Dec.{leb, ltb}
 use lib.ListN.{length}
 use Rattle.reading.specs.Search.{given}
-use Rattle.reading.specs.Capture.{eventCount}
+use Rattle.reading.specs.Capture.{mostEvents, eventCount}
 use Rattle.reading.specs.Verdict.{Verdict, clean, broken}
-use Rattle.reading.specs.Answers.{Answer, refused, answered, unless, accepted, Report, verdictIn, judgeAnswer, notClean}
+use Rattle.reading.specs.Answers.{Answer, refused, answered, unless, accepted, Report, verdictIn, judgeAnswer, judgeAnswerTo, notClean}
 use Rattle.reading.specs.Openings.{Record}
 use Rattle.reading.specs.OpenRow.{indexIn, rowIn, questionFits, openRowAnswer, over}
 use Rattle.capture.proofs.Outcome.{follow}
@@ -30,8 +30,8 @@ cleanBy (answered r) = unless 8 (notClean (r .verdict)) (answered tt)
 
 module _ (capture : List ℕ) where
   by-judge : cleanBy (judgeAnswer capture) ≡ cleanSaid capture
-  unfolding judgeAnswer cleanSaid
-  by-judge = ap cleanBy (followed capture _) ∙ (go (accepted capture (answered tt)) _ ∙ sym (followed capture _))
+  unfolding judgeAnswerTo cleanSaid
+  by-judge = ap cleanBy (followed mostEvents capture _) ∙ (go (accepted capture (answered tt)) _ ∙ sym (followed mostEvents capture _))
     where
       go : (a : Answer (Unit {0})) (r : Report) → cleanBy (follow a (answered r)) ≡ follow a (unless 8 (notClean (r .verdict)) (answered tt))
       go (refused number place) r = refl
@@ -54,7 +54,7 @@ module _ (capture : List ℕ) where
   pub clean-so : cleanSaid capture ≡ answered tt → (accepted capture (answered (tt {0})) ≡ answered tt) × (verdictIn capture ≡ clean)
   unfolding cleanSaid
   clean-so e =
-      let both = accepted-then (accepted capture (answered tt)) (notClean (verdictIn capture)) (sym (followed capture _) ∙ e) in
+      let both = accepted-then (accepted capture (answered tt)) (notClean (verdictIn capture)) (sym (followed mostEvents capture _) ∙ e) in
       (both .0, none-unclean (verdictIn capture) (both .1))
 
 -- ---- 13, and 7 for the records
@@ -108,9 +108,9 @@ module _ (capture : List ℕ) (bank event records words : ℕ) where
   in-parts : openRowAnswer capture bank event records words ≡ follow (cleanSaid capture) (follow asked rest)
   unfolding openRowAnswer cleanSaid questionSaid
   in-parts =
-      followed capture _
+      followed mostEvents capture _
       ∙ (go (accepted capture (answered tt)) (notClean (verdictIn capture)) (given 0 (not (questionFits capture bank event))) (given 4 (ltb records 4)) rest
-      ∙ ap (λ (a : Answer (Unit {0})). follow a (follow asked rest)) (sym (followed capture _)))
+      ∙ ap (λ (a : Answer (Unit {0})). follow a (follow asked rest)) (sym (followed mostEvents capture _)))
     where
       go : (a : Answer (Unit {0})) (x y z : Option ℕ) (rest : Answer (Option ℕ)) → follow a (unless 8 x (unless 13 y (unless 7 z rest))) ≡
           follow (follow a (unless 8 x (answered tt))) (follow (unless 13 y (unless 7 z (answered tt))) rest)

@@ -11,7 +11,7 @@ use lib.Dec.{ltb, eqb}
 use lib.ListN.{length}
 use Rattle.reading.specs.Search.{given, orElse, lowest}
 use Rattle.reading.specs.Settings.{settingsCount, sleepingCount, badSetting}
-use Rattle.reading.specs.Capture.{newestEdition, headerWord, countIn, captureSize, eventsOf}
+use Rattle.reading.specs.Capture.{mostEvents, newestEdition, headerWord, countIn, captureSize, eventsOf}
 use Rattle.reading.specs.Schedule.{captureIn}
 use Rattle.reading.specs.Answers.{Answer, refused, unless, accepted, fitting}
 use Rattle.reading.specs.Export.{mostRecords, recordCount, recordsOf, stands, badExport, badPins, readOutcome, reach, bridged, exportOf, firstCycle, unwritable, writeOutcome}
@@ -263,7 +263,7 @@ module _ (c out : List ℕ) where
 
     write-case : writeOutcome c out .answer ≡ refused number place → WriteRefused c out number place
     unfolding writeOutcome
-    write-case k = go (refused-in c rest (leaves-refused (accepted c rest) out k .0))
+    write-case k = go (refused-in mostEvents c rest (leaves-refused (accepted c rest) out k .0))
       where
         go : (opened c ≡ refused number place) ⊎ (Accepted c × (rest ≡ refused number place)) → WriteRefused c out number place
         go (inl h) = case.WriteRefused.unopened (capture-refused-exactly c number place .0 h)

@@ -10,7 +10,7 @@ use lib.ListN.{length, take, drop}
 use lib.Seq.{take-at}
 use Rattle.reading.specs.Settings.{Settings, settingsOf, inEdition}
 use Rattle.reading.specs.RefreshClock.{Clock}
-use Rattle.reading.specs.Capture.{Event, captureSize, countIn, eventCount, editionIn, settingWords, eventsOf}
+use Rattle.reading.specs.Capture.{Event, mostEvents, captureSize, countIn, eventCount, editionIn, settingWords, eventsOf}
 use Rattle.reading.specs.Commands.{commandOf}
 use Rattle.reading.specs.Part.{start}
 use Rattle.reading.specs.Rules.{rule14}
@@ -127,7 +127,7 @@ module _ (c out left : List ℕ) (n : ℕ) (a : WritesExport c out (Written n) l
   unfolding writeOutcome
   was-written =
       let w = outcome.wrote (accepted c (rest c out)) out (sym (a .0)) in
-      let (h, e) = answered-in c (rest c out) (w .is) in
+      let (h, e) = answered-in mostEvents c (rest c out) (w .is) in
       let (twelve, f) = passed 12 _ _ e in
       let same = fits out (exportOf (bridged (eventsOf c))) f .0 in
       record {

@@ -160,7 +160,7 @@ unfolding openingsIn
 openings-in-order capture clean b = (
   clean-in-order (settingsIn capture) b (eventsOf capture) (cleaned capture clean),
   subst (λ (n : ℕ). Below n (openingsOf (settingsIn capture) (eventsOf capture) b)) (events-length capture clean)
-  (all-below (settingsIn capture) b (eventsOf capture)),
+      (all-below (settingsIn capture) b (eventsOf capture)),
 )
 
 -- They cover exactly the events after which the bank stands open: the row of the one in which an event lies is the row that
@@ -204,7 +204,7 @@ refusal-told capture bank event records index r left words told number place h =
     ∙ row-refused capture bank event (length records) (length index) number place .1 h in (
       told .0 ∙ ap (λ (a : Answer (Option ℕ)). packed (rowTold a)) e,
       told .1
-      ∙ (ap (λ (a : Answer (Option ℕ)). map bankOf (over a (recordsIn capture) (map recordOf records))) e
-      ∙ back capture bank event records index r left words told records),
+          ∙ (ap (λ (a : Answer (Option ℕ)). map bankOf (over a (recordsIn capture) (map recordOf records))) e
+          ∙ back capture bank event records index r left words told records),
       told .2 ∙ ap (λ (a : Answer (Option ℕ)). over a (indexIn capture) index) e,
     )

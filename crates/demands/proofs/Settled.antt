@@ -407,7 +407,7 @@ pub judge-walk-settles : (κs : _) (a : _) (z z′ : _) (e e′ : _) → judge-w
 judge-walk-settles κs a z z′ e e′ p q = (p .0 ∙ sym (q .0), (p .1 .0 ∙ sym (q .1 .0), p .1 .1 ∙ sym (q .1 .1)))
 
 pub judge-judge-to-settles : (κs : _) (a : _) (z z′ : _) (e e′ : _) → judge-judge-to.Post κs a z e → judge-judge-to.Post κs a z′ e′ → z ≡ z′
-judge-judge-to-settles κs a z z′ e e′ p q = judging.one-answer-to (a .1) (now (a .0)) z z′ p q
+judge-judge-to-settles κs a z z′ e e′ p q = judging.one-answer-to (a .1 .0) (now (a .0)) z z′ p q
 
 pub judge-judge-settles : (κs : _) (a : _) (z z′ : _) (e e′ : _) → judge-judge.Post κs a z e → judge-judge.Post κs a z′ e′ → z ≡ z′
 judge-judge-settles κs a z z′ e e′ p q = judging.one-answer (now (a .0)) z z′ p q

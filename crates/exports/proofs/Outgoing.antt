@@ -10,7 +10,7 @@ use lib.ListN.{length, length-drop}
 use lib.Seq.{sets}
 use Rattle.reading.specs.Search.{given}
 use Rattle.reading.specs.Settings.{settingsCount, sleepingCount}
-use Rattle.reading.specs.Capture.{Event, headerWord, countIn, eventsStart, eventCount, eventBytes, eventsOf}
+use Rattle.reading.specs.Capture.{Event, mostEvents, headerWord, countIn, eventsStart, eventCount, eventBytes, eventsOf}
 use Rattle.reading.specs.Answers.{Answer, refused, answered, unless, accepted, Outcome, leaves, fitting}
 use Rattle.reading.specs.Export.{mostRecords, reach, bridged, exportOf, firstCycle, unwritable, writeOutcome}
 use Rattle.words.proofs.Runs.{front}
@@ -54,17 +54,17 @@ few-records c e =
 module _ (c out : List ℕ) {o : Checked} (said : settings.means o ≡ opened c) where
   pub refused-so : {number place : ℕ} → o ≡ check.Refused number place → Ends (writeOutcome c out) (Refused number place) out
   unfolding writeOutcome
-  refused-so e = refused-meets (opening.refused-so c said _ e)
+  refused-so e = refused-meets (opening.refused-so mostEvents c said _ e)
 
   module _ (fine : o ≡ check.Fine) where
     open-to : Accepted c
-    open-to = opening.accepted-so c said fine
+    open-to = opening.accepted-so mostEvents c said fine
 
-    sound : Sound c
+    sound : Sound mostEvents c
     sound = accepted-sound c open-to
 
     pub long : eventsStart (countIn c) ≤ length c
-    long = opening.long c open-to
+    long = opening.long mostEvents c open-to
 
     abbrev export : List ℕ
     export = exportOf (bridged (eventsOf c))

@@ -261,7 +261,7 @@ index-few capture short =
       few 1,
       few 2,
       few 3,
-      events-length capture short,
+      events-length capture (omega arith),
     )
 
 rows-low : (s : Settings) (p : Part) (es : List Event) → ((b : ℕ) → p .banks b .row < 16384) → (b : ℕ) → run s p es .banks b .row < 16384
@@ -285,16 +285,16 @@ row-in-fits capture bank event =
 pub row-fits : (capture : List ℕ) (bank event records words : ℕ) → Fits (rowTold (openRowAnswer capture bank event records words))
 unfolding openRowAnswer
 row-fits capture bank event records words =
-    on-accepted (λ (a : Answer (Option ℕ)). Fits (rowTold a)) capture _ (λ number place n v. (n, v))
+    on-accepted (λ (a : Answer (Option ℕ)). Fits (rowTold a)) mostEvents (omega arith) capture _ (λ number place n v. (n, v))
     (λ open-to.
-    go (accepted-few capture open-to) (notClean (verdictIn capture)) (not (questionFits capture bank event)) (ltb records 4) (ltb words needed) refl)
+    go (accepted-sound capture open-to .sized .few) (notClean (verdictIn capture)) (not (questionFits capture bank event)) (ltb records 4) (ltb words needed) refl)
   where
     needed : ℕ
     needed = length (indexIn capture)
 
     go : eventCount capture ≤ 8000 → (o : Option ℕ) (x y z : Bool) → notClean (verdictIn capture) ≡ o →
         Fits (rowTold (unless 8 o (unless 13 (given 0 x) (unless 7 (given 4 y) (unless 7 (given needed z) (answered (rowIn capture bank event)))))))
-    go short (some place) x y z e = (omega arith, not-clean-fits capture short (verdictIn capture) refl place e)
+    go short (some place) x y z e = (omega arith, not-clean-fits capture (omega arith) (verdictIn capture) refl place e)
     go short none true y z e = (omega arith, omega arith)
     go short none false true z e = (omega arith, omega arith)
     go short none false false true e = (omega arith, index-few capture short)

@@ -9,6 +9,7 @@ use borrow.Author.Tests.{ltb-false}
 use lib.Dec.{ltb}
 use lib.ListN.{length, length-map}
 use Rattle.reading.specs.Search.{given, lesser}
+use Rattle.reading.specs.Capture.{mostEvents}
 use Rattle.reading.specs.Answers.{Answer, refused, answered, unless, accepted, verdictIn, notClean}
 use Rattle.reading.specs.Openings.{Record, recordsOf}
 use Rattle.reading.specs.OpenRow.{RowOutcome, indexIn, recordsIn, rowIn, questionFits, openRowAnswer, openRowOutcome, over}
@@ -35,7 +36,7 @@ four-lent capture bank event records words row e =
     ltb-false records 4
     (go (accepted capture (answered tt)) (notClean (verdictIn capture)) (given 0 (not (questionFits capture bank event))) (ltb records 4)
     (unless 7 (given (length (indexIn capture)) (ltb words (length (indexIn capture)))) (answered (rowIn capture bank event)))
-    (sym (followed capture _) ∙ e))
+    (sym (followed mostEvents capture _) ∙ e))
   where
     go : (a : Answer (Unit {0})) (x y : Option ℕ) (v : Bool) (rest : Answer (Option ℕ)) →
         follow a (unless 8 x (unless 13 y (unless 7 (given 4 v) rest))) ≡ answered row → v ≡ false
