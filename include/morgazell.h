@@ -87,7 +87,7 @@
  * call at the same time, each with buffers of its own; inputs may be shared.
  *
  * Stack. The most that a call takes, in bytes, the return address included: morgazell_judge 1024, morgazell_recording 1024,
- * morgazell_cells 1280, morgazell_schedule 66560, morgazell_blank 512, morgazell_read_export 512, morgazell_write_export 512,
+ * morgazell_cells 1280, morgazell_schedule 66560, morgazell_blank 512, morgazell_open_row 1280, morgazell_read_export 512, morgazell_write_export 512,
  * morgazell_version 136; besides, what memcpy and memset of the C library take. The archive wants nothing of anyone but
  * these two, and not even these where it is built for the smallest size. */
 #ifndef MORGAZELL_H
@@ -116,9 +116,10 @@ extern "C" {
 #define MORGAZELL_REFUSED_POLICY 10
 #define MORGAZELL_REFUSED_RECORDS 11
 #define MORGAZELL_REFUSED_EXPORT 12
+#define MORGAZELL_REFUSED_QUESTION 13
 
 /* The most that there can be: events and bytes of a capture, bytes of a schedule, cells of a burst list, requests, records and
- * bytes of an export. A buffer of that many bytes or cells is never too short. */
+ * bytes of an export, words of an index of open rows. A buffer of that many bytes, cells or words is never too short. */
 #define MORGAZELL_MOST_EVENTS 8000
 #define MORGAZELL_LONGEST_CAPTURE 64088
 #define MORGAZELL_LONGEST_SCHEDULE 64080
@@ -126,6 +127,7 @@ extern "C" {
 #define MORGAZELL_MOST_REQUESTS 2000
 #define MORGAZELL_MOST_RECORDS 8000
 #define MORGAZELL_LONGEST_EXPORT 48000
+#define MORGAZELL_MOST_INDEX 24000
 
 /* What judges: 10000 * the first number of the version + 100 * the second + the third; 10203 for 1.2.3. */
 uint32_t morgazell_version(void);
@@ -180,7 +182,7 @@ struct morgazell_bank {
 /* The row of the bank that was open after the event of a clean capture, by event numbers and not cycles. records[0] to
  * records[3] are filled, and the index from index[0] on: three words an opening, bank 0's first, its row, the event of the
  * ACTIVE that began it and the last event after which it still stood open. What lies behind them stays, and a refused call
- * leaves both as they were. 24,000 words are always enough. */
+ * leaves both as they were. MORGAZELL_MOST_INDEX words are always enough. */
 uint64_t morgazell_open_row(const uint8_t *capture, size_t len, uint32_t bank, uint32_t event,
                             struct morgazell_bank *records, size_t records_len, uint32_t *index, size_t index_len);
 

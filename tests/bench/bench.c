@@ -3,8 +3,9 @@
  *     bench time WHAT FILE         the least nanoseconds a call, ours and C's
  *     bench call WHAT FILE WHO N   N calls of one of them, for counting instructions
  *
- * WHAT is judge, recording (beside the C's judge), cells, open or closed, a schedule by that row policy; WHO is ours or c.
- * FILE is a capture, or for a schedule the settings and the requests as words. */
+ * WHAT is judge, recording (beside the C's judge), cells, rows (which row bank 0 has open after the last event, with the whole
+ * index), open or closed, a schedule by that row policy, write, an export, or read, what the C wrote as an export; WHO is ours
+ * or c. FILE is a capture, or for a schedule the settings and the requests as words. */
 #define _POSIX_C_SOURCE 199309L
 #include <stdio.h>
 #include <stdlib.h>
@@ -20,6 +21,8 @@ static uint32_t words[MOST_BYTES / 4 + 1];
 static size_t size;
 static uint32_t cells[MOST_CELLS];
 static uint8_t bytes[MOST_BYTES];
+static uint8_t records[MORGAZELL_LONGEST_EXPORT];
+static size_t recorded;
 
 typedef uint64_t call(void);
 
@@ -47,6 +50,37 @@ static uint64_t c_s_open(void) { return c_s_schedule(MORGAZELL_OPEN_ROWS); }
 static uint64_t our_closed(void) { return our_schedule(MORGAZELL_CLOSED_ROWS); }
 static uint64_t c_s_closed(void) { return c_s_schedule(MORGAZELL_CLOSED_ROWS); }
 
+/* Each into words of its own, which are compared too. */
+enum { MOST_WORDS = 3 * 8000 };
+
+static uint32_t our_index[MOST_WORDS], c_s_index[MOST_WORDS];
+static struct morgazell_bank our_banks[4];
+static struct c_bank c_s_banks[4];
+
+static uint32_t last_event(void) { return words[3] - 1; }
+
+static uint64_t our_rows(void) { return morgazell_open_row(capture(), size, 0, last_event(), our_banks, 4, our_index, MOST_WORDS); }
+static uint64_t c_s_rows(void) { return c_open_row(capture(), size, 0, last_event(), c_s_banks, 4, c_s_index, MOST_WORDS); }
+
+static int same_rows(void)
+{
+    return memcmp(our_banks, c_s_banks, sizeof our_banks) == 0 && memcmp(our_index, c_s_index, sizeof our_index) == 0;
+}
+
+static uint64_t our_write(void) { return morgazell_write_export(capture(), size, bytes, MOST_BYTES); }
+static uint64_t c_s_write(void) { return c_write_export(capture(), size, bytes, MOST_BYTES); }
+
+/* Under the capture's settings and edition. */
+static uint64_t our_read(void)
+{
+    return morgazell_read_export(records, recorded, words + 6, SETTINGS, words[5], bytes, MOST_BYTES);
+}
+
+static uint64_t c_s_read(void)
+{
+    return c_read_export(records, recorded, words + 6, SETTINGS, words[5], bytes, MOST_BYTES);
+}
+
 static const struct {
     const char *what;
     call *ours, *c;
@@ -54,8 +88,11 @@ static const struct {
     {"judge", our_judge, c_s_judge},
     {"recording", our_recording, c_s_judge},
     {"cells", our_cells, c_s_cells},
+    {"rows", our_rows, c_s_rows},
     {"open", our_open, c_s_open},
     {"closed", our_closed, c_s_closed},
+    {"write", our_write, c_s_write},
+    {"read", our_read, c_s_read},
 };
 
 static uint64_t nanoseconds(call *ask)
@@ -93,11 +130,12 @@ int main(int count, char **word)
 {
     if (count < 4 || !load(word[3]))
         return 2;
+    recorded = (uint32_t)c_write_export(capture(), size, records, sizeof records);
     for (size_t i = 0; i < sizeof questions / sizeof *questions; i++) {
         if (strcmp(questions[i].what, word[2]) != 0)
             continue;
         call *ours = questions[i].ours, *c = questions[i].c;
-        if (ours() != c())
+        if (ours() != c() || !same_rows())
             return 1;
         if (strcmp(word[1], "time") == 0) {
             print_times(ours, c);

@@ -11,7 +11,7 @@ use lib.Dec.{eqb}
 use Rattle.reading.specs.Search.{count}
 use Rattle.reading.specs.Settings.{Settings, settingsOf}
 use Rattle.reading.specs.Capture.{Event, eventAt}
-use Rattle.reading.specs.Bursts.{Burst, beatCell}
+use Rattle.reading.specs.Bursts.{Burst, beatCell, burstCells}
 use Rattle.reading.specs.Player.{eventOfBurst}
 use Rattle.capture.proofs.Accepted.{cycles-rise}
 use Rattle.judge.specs.Meaning.{eventsIn}
@@ -20,7 +20,7 @@ use Rattle.cells.specs.declared.Given.{Given}
 use Rattle.cells.specs.declared.Given.the-variants as given
 use Rattle.cells.specs.Meaning as meaning
 use Rattle.cells.specs.Meaning.{givenMeans, givenAt, toldOf, burstAt, At, Listable, Clean}
-use Rattle.cells.proofs.Walked.{listed, rest, burst-next, Placed, placed}
+use Rattle.cells.proofs.Walked.{listed, rest, burst-next, Placed, placed, stays}
 use Rattle.player.specs.Playing.{cellIn}
 
 -- ---- the number of an event
@@ -111,6 +111,19 @@ module _ (settings bytes : List ℕ) (n i : ℕ) where
       pub in-row : InRow row column pairs
       in-row = rw (f .row-is, f .column-is, f .pairs-is) (there .in-row)
 
-      -- the cells of its beats
-      pub cells-are : {mode : ℕ} → At s bytes i firsts mode → cellIn row mode column ≡ beatCell s x
-      cells-are = ?
+      -- the cells of its beats, by the mode word of then
+      module _ {mode : ℕ} {firsts : List ℕ} (a : At s bytes i firsts mode) where
+        pub mode-is : mode ≡ x .mode
+        mode-is = a .moded ∙ sym (there .moded)
+
+        pub cells-are : cellIn row mode column ≡ beatCell s x
+        unfolding beatCell
+        cells-are = λ u. cellIn (f .row-is u) (mode-is u) (f .column-is u)
+
+        -- those of its kept beats
+        pub kept-are : map (cellIn row mode column) (count 0 (2 * pairs)) ≡ burstCells s x
+        unfolding burstCells
+        kept-are = λ u. map (cells-are u) (count 0 (2 * f .pairs-is u))
+
+        pub next-at : At s bytes (i + 1) firsts mode
+        next-at = stays settings bytes n z k i l (f .at) a

@@ -1,5 +1,5 @@
 -- The window as what its cells hold: words read, stored one by one, and words with masks taken in turn.
-use Prim.Native.Nat.{ℕ, zero, suc, _+_, _-_, _*_, _/_, _≤_, _<_}
+use Prim.Native.Nat.{ℕ, zero, suc, _+_, _-_, _*_, _/_, _%_, _^_, _≤_, _<_}
 use mathlib.Core.Bool.{Bool, true, false, cond}
 use mathlib.Core.List.{List, [], _∷_, map}
 use mathlib.Core.Path.{_≡_, refl, sym, ap, _∙_}
@@ -12,12 +12,12 @@ use lib.Seq.{ext-getD, getD-set-same, getD-set-other, getD-take, getD-drop, leng
 use Rattle.reading.specs.Search.{count, every}
 use Rattle.reading.specs.Settings.{Settings}
 use Rattle.reading.specs.Bursts.{Burst, beatCell}
-use Rattle.reading.specs.Memory.{Contents, Datum, lanes, merged, store, storeBeats}
+use Rattle.reading.specs.Memory.{Contents, Datum, lanes, merged, store, load, storeBeats}
 use Rattle.reading.specs.Player.{inWindow, windowed, datumAt, dataOf}
 use Rattle.reading.proofs.Laws.{both}
 use Rattle.words.proofs.Counting.{at-count}
 use Rattle.capture.proofs.Accepted.{length-count}
-use Rattle.player.specs.Playing.{storedFrom}
+use Rattle.player.specs.Playing.{lanesBy, storedFrom, shownAt}
 
 pub length-counted : {A : Type 0} (f : ℕ → A) (from n : ℕ) → length (map f (count from n)) ≡ n
 length-counted f from n = length-map (count from n) f ∙ length-count from n
@@ -123,3 +123,14 @@ some-data writes taken k l =
         ∙ at-count (datumAt writes) none 0 (length writes / 2) (taken + i) (omega (arith, l, many, few))
         ∙ ap (datumAt writes) (zero-add (taken + i) ∙ ap (λ (j : ℕ). taken + j) (sym (zero-add i)))
         ∙ sym (at-count (λ j. datumAt writes (taken + j)) none 0 k i few)
+
+-- ---- words that are read
+
+module _ (s : Settings) (first size : ℕ) (m : Contents) (lane : ℕ) (e : lanesBy lane ≡ lanes s) where
+  pub shown-loads : (f : ℕ → ℕ) (js : List ℕ) → every (inWindow first size) (map f js) ≡ true →
+      map (λ j. shownAt lane first (shows first size m) (f j)) js ≡ map (λ j. load s m (f j)) js
+  unfolding load
+  shown-loads f [] h = refl
+  shown-loads f (j ∷ js) h =
+      let two = both (inWindow first size (f j)) (every (inWindow first size) (map f js)) h in
+      λ i. at-cell first size (f j) (two .0) m i % 2 ^ (8 * e i) ∷ shown-loads f js (two .1) i
