@@ -27,7 +27,7 @@ pub use capture::Refusal;
 pub use export::{read_export, write_export};
 pub use memory::{plain, replay, Outcome};
 pub use month::month;
-pub use rows::open_row;
+pub use openings::open_row;
 pub use play::play;
 pub use schedule::schedule;
 pub use verdict::{cells, judge, judge_recording, Answer};

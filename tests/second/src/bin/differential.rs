@@ -15,7 +15,7 @@ use second::generate::{
     export, far_capture, input, long_recording, other_addresses, settings_of, Dice, Export,
     ExportTally, Input, Tally, MOST_CELLS,
 };
-use second::rows::Record;
+use second::openings::Record;
 use second::{
     blank, cells, judge, judge_recording, open_row, packed, read_export, schedule, write_export,
 };
