@@ -136,17 +136,7 @@ fn holds_burst(first: u32, size: usize, row: u32, mode: u32, column: u32, pairs:
 }
 
 // Stores so many pairs of words, from word and mask number `taken` on.
-fn store(
-    window: &mut [u32],
-    first: u32,
-    lane: u32,
-    row: u32,
-    mode: u32,
-    column: u32,
-    pairs: u32,
-    writes: &[u32],
-    taken: usize,
-)
+fn store(window: &mut [u32], first: u32, lane: u32, row: u32, mode: u32, column: u32, pairs: u32, writes: &[u32], taken: usize)
     requires { ⌜ InRow row column pairs ⌝ }
     requires { ⌜ every (inWindow first (length (now window))) (map (cellIn row mode column) (count 0 (2 * pairs))) ≡ true ⌝ }
     requires { ⌜ 2 * (taken + 2 * pairs) ≤ length (now writes) ⌝ }
@@ -163,17 +153,7 @@ fn store(
 }
 
 // Reads so many pairs of words, to reads[next] and behind it.
-fn fetch(
-    reads: &mut [u32],
-    next: usize,
-    window: &[u32],
-    first: u32,
-    lane: u32,
-    row: u32,
-    mode: u32,
-    column: u32,
-    pairs: u32,
-)
+fn fetch(reads: &mut [u32], next: usize, window: &[u32], first: u32, lane: u32, row: u32, mode: u32, column: u32, pairs: u32)
     requires { ⌜ InRow row column pairs ⌝ }
     requires { ⌜ every (inWindow first (length (now window))) (map (cellIn row mode column) (count 0 (2 * pairs))) ≡ true ⌝ }
     requires { ⌜ next + 2 * pairs ≤ length (now reads) ⌝ }
@@ -239,18 +219,11 @@ fn attempt(s: &Settings, bytes: &[u8], n: u32, first: u32, size: usize, supply: 
 }
 
 // Plays what can be played, where there is room for the words that are read.
-fn run(
-    s: &Settings,
-    bytes: &[u8],
-    n: u32,
-    first: u32,
-    window: &mut [u32],
-    writes: &[u32],
-    reads: &mut [u32],
-)
+fn run(s: &Settings, bytes: &[u8], n: u32, first: u32, window: &mut [u32], writes: &[u32], reads: &mut [u32])
     requires { ⌜ Playable (now s) (now bytes) n ⌝ }
     requires { ⌜ Clean (settingsOf (now s)) (now bytes) n ⌝ }
-    requires { ⌜ unplayable (settingsOf (now s)) first (length (now window)) (length (dataOf (now writes))) (burstsOn (settingsOf (now s)) (now bytes) n) ≡ none ⌝ }
+    requires {
+        ⌜ unplayable (settingsOf (now s)) first (length (now window)) (length (dataOf (now writes))) (burstsOn (settingsOf (now s)) (now bytes) n) ≡ none ⌝ }
     requires { ⌜ wordsRead (burstsOn (settingsOf (now s)) (now bytes) n) ≤ length (now reads) ⌝ }
     ensures { λ _.
         ⌜ now (window .exit) ≡ map
@@ -290,15 +263,7 @@ fn run(
 // ---- the call
 
 // Refusals 15 and 7, in this order; else the play.
-fn play_on(
-    s: &Settings,
-    bytes: &[u8],
-    n: u32,
-    first: u32,
-    window: &mut [u32],
-    writes: &[u32],
-    reads: &mut [u32],
-) -> Played
+fn play_on(s: &Settings, bytes: &[u8], n: u32, first: u32, window: &mut [u32], writes: &[u32], reads: &mut [u32]) -> Played
     requires { ⌜ Playable (now s) (now bytes) n ⌝ }
     requires { ⌜ Clean (settingsOf (now s)) (now bytes) n ⌝ }
     ensures { λ r.
@@ -349,13 +314,7 @@ fn unclean(verdict: Verdict) -> Checked
 }
 
 // These bytes as a capture, played on the window from cell `first` on with the words and masks of `writes`.
-pub fn play(
-    capture: &[u8],
-    first: u32,
-    window: &mut [u32],
-    writes: &[u32],
-    reads: &mut [u32],
-) -> Played
+pub fn play(capture: &[u8], first: u32, window: &mut [u32], writes: &[u32], reads: &mut [u32]) -> Played
     ensures { λ r.
         ⌜ means r ≡ playOutcome (now (capture .entry)) first (now (window .entry)) (now (writes .entry)) (now (reads .entry)) .answer ⌝ }
     ensures { λ _.
