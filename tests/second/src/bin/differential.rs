@@ -232,7 +232,8 @@ impl Comparison {
             let mut buffer = vec![UNTOUCHED; length + FENCE];
             let (mine, words) = (&mut records[..lent], &mut buffer[..length]);
             let answer = open_row(capture, bank, event, mine, words);
-            self.tally.count_row(capture, answer);
+            self.tally
+                .count_row(capture, [bank, event], answer, &records, &buffer);
             let expected = Left {
                 answer: packed::of_row(answer),
                 buffer: told(&records, &buffer),
