@@ -85,8 +85,11 @@ def is_present(edit, folder):
 
 
 def function_at(path, line):
-    """The function whose text begins at this line of a source."""
-    return re.search(r"\bfn (\w+)", "\n".join(read(path).split("\n")[line - 1:])).group(1)
+    """The function whose text begins at this line of a source, or in which the line stands."""
+    lines = read(path).split("\n")
+    if lines[line - 1].startswith("#["):
+        return re.search(r"\bfn (\w+)", "\n".join(lines[line:])).group(1)
+    return re.findall(r"^(?:pub )?(?:extern \"C\" )?fn (\w+)", "\n".join(lines[:line]), re.M)[-1]
 
 
 def place(folder, path):
