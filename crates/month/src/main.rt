@@ -14,7 +14,6 @@ use console::read_input;
 use console::say;
 use console::watched;
 use monthly::Line;
-use monthly::MOST_CAPTURES;
 use monthly::Totals;
 ghost use mathlib.Core.Path.{_≡_};
 ghost use Prim.Native.Nat.{_≤_};
@@ -144,7 +143,7 @@ fn last(out: &mut Out, csv: bool, fd: i32, place: usize, t: Totals)
 fn walk(out: &mut Out, csv: bool, fd: i32, place: usize) -> u64 {
     let mut buffer = [0u8; ROOM];
     let mut totals = monthly::nothing();
-    while totals.captures < MOST_CAPTURES {
+    while monthly::has_room(totals) {
         let input = next(fd, &mut buffer);
         let Input::Whole(n) = input else {
             lost(place);

@@ -8,7 +8,6 @@ use judge::Verdict;
 use monthly::Counts;
 use monthly::Line;
 use monthly::Totals;
-use wording::verdict::put_told;
 ghost use Rattle.io.specs.Counts.{Counts as Within};
 
 // Room for the longest.
@@ -25,7 +24,8 @@ pub fn print_head(out: &mut Out) {
 fn comma(line: &mut [u8], at: usize, n: u64) -> usize
     ensures { λ r. ⌜ Within r (now (line .exit)) ⌝ }
 {
-    put_told(line, at, b",", n)
+    let next = put(line, at, b",");
+    put_number(line, next, n)
 }
 
 // How many there are of each kind.
