@@ -1,7 +1,10 @@
-use Prim.Native.Nat.{_-_}
-use mathlib.Core.Path.{_≡_, ap}
+use Prim.Native.Nat.{ℕ, _-_, _<_}
+use mathlib.Core.Bool.{Bool, true}
+use mathlib.Core.Path.{_≡_, sym, ap, _∙_}
 use native.Mathlib.Omega.{arith}
 use borrow.Author.Needs.{needs}
+use borrow.Author.Tests.{ltb-true}
+use lib.Dec.{ltb}
 use lib.ListN.{length}
 use Rattle.io.proofs.Counting.{front}
 use Rattle.console.specs.Input.{sizeOf}
@@ -9,6 +12,10 @@ use Rattle.reading.specs.Month.{Totals}
 use Rattle.monthly.specs.Meaning.{Held}
 use Rattle.month.proofs.walk.Statement.{statement}
 use Rattle.month.proofs.walk.Tie as tie
+
+-- there was room for another capture
+room : (n : ℕ) {r : Bool} → r ≡ ltb n 10000 → r ≡ true → n < 10000
+room n e f = ltb-true n 10000 (sym e ∙ f)
 
 abbrev Inv-loop : tie.InvT-loop
 Inv-loop out₀ csv fd place buffer₀ totals₀ out buffer totals = Held totals × (length buffer ≡ 64088)
@@ -21,6 +28,9 @@ nothing-requires c κs = search needs
 
 loop-holds : tie.Need-loop-holds Inv-loop μ-loop
 loop-holds c = search needs
+
+has-room-requires : tie.Need-has-room-requires Inv-loop μ-loop
+has-room-requires c κs = search needs
 
 slice-aggregate-next : tie.Need-slice-aggregate-next Inv-loop μ-loop
 slice-aggregate-next c = search needs
@@ -62,7 +72,11 @@ returns-3 : tie.Need-returns-3 Inv-loop μ-loop
 returns-3 c = search needs
 
 add-requires : tie.Need-add-requires Inv-loop μ-loop
-add-requires c κs = search needs
+add-requires c κs =
+    let turn = c .before .before .before .before .before .before .before .before .before .before .before .before in (
+      turn .before .before .loop .inv .0,
+      room (turn .before .before .loop .totals .captures) (turn .before .has-room .ensures) (turn .if1 .taken),
+    )
 
 ends-requires : tie.Need-ends-requires Inv-loop μ-loop
 ends-requires c κs = search needs
@@ -80,7 +94,14 @@ show-requires : tie.Need-show-requires Inv-loop μ-loop
 show-requires c κs = search needs
 
 loop-less : tie.Need-loop-less Inv-loop μ-loop
-loop-less c = omega (arith, ap (λ (t : Totals). t .captures) (c .before .before .before .add .ensures .0), c .before .before .before .before .before .before .before .before .before .before .before .before .before .before .before .before .if1 .taken)
+loop-less c =
+    let added = c .before .before .before in
+    let turn = added .before .before .before .before .before .before .before .before .before .before .before .before .before in
+    omega (
+      arith,
+      ap (λ (t : Totals). t .captures) (added .add .ensures .0),
+      room (turn .before .before .loop .totals .captures) (turn .before .has-room .ensures) (turn .if1 .taken),
+    )
 
 loop-again : tie.Need-loop-again Inv-loop μ-loop
 loop-again c = search needs
@@ -99,6 +120,7 @@ walk-spec =
     μ-loop
     nothing-requires
     loop-holds
+    has-room-requires
     slice-aggregate-next
     next-requires
     enum-known-input
