@@ -24,6 +24,10 @@ use Rattle.exports.specs.declared.Converted.the-variants as converted
 use Rattle.exports.specs.Meaning as exports
 use Rattle.banks.specs.declared.Bank.{Bank}
 use Rattle.banks.specs.Banks.{bankOf, recordOf}
+use Rattle.reading.specs.Month.{lineOf}
+use Rattle.monthly.specs.declared.Line.{Line}
+use Rattle.monthly.specs.declared.Totals.{Totals}
+use Rattle.monthly.specs.Meaning.{lineMeans, totalsMean, added}
 use Rattle.morgazell.specs.Packing.{packed, rowTold}
 
 -- by `judge::judge_to`, where there may be so many events
@@ -64,6 +68,14 @@ Tells capture bank event records index r left words =
     (r ≡ packed (rowTold (openRowOutcome capture bank event (map recordOf records) index .answer)))
     × (left ≡ map bankOf (openRowOutcome capture bank event (map recordOf records) index .records))
     × (words ≡ openRowOutcome capture bank event (map recordOf records) index .index)
+
+-- by `monthly::told`, of bytes as a capture
+abbrev pub TellsLine : List ℕ → Line → Type 0
+TellsLine capture r = lineMeans r ≡ lineOf capture
+
+-- by `monthly::add`
+abbrev pub AddsUp : Totals → Line → Totals → Type 0
+AddsUp t x r = totalsMean r ≡ added (totalsMean t) (lineMeans x)
 
 -- by every call that is asked about a capture: it is refused so, and what was lent is left as it was
 pub record RefusedByAll (capture : List ℕ) (number place : ℕ) : Type 0 where
