@@ -37,12 +37,12 @@ def version():
 
 class Trial:
     """One program, with a capture and what it prints of it, and another that stands on standard input. A program that takes two
-    files is given the first, which is called SETTINGS, before all other arguments."""
+    files is given the first, which is called SETTINGS, before all other arguments. One with an option has it."""
 
-    def __init__(self, name, undone, data, printed, other, printed_of_other, first=None):
+    def __init__(self, name, undone, data, printed, other, printed_of_other, first=None, option=None):
         self.name, self.undone, self.data, self.printed = name, undone, data, printed
         self.other, self.printed_of_other = other, printed_of_other
-        self.first = first
+        self.first, self.option = first, option
         self.count, self.wrong = 0, 0
 
     def words(self, arguments):
@@ -83,6 +83,8 @@ class Trial:
         out, err, read = self.run(["--help"], folder)
         self.count += 1
         names = "[FILE]" if self.first is None else "SETTINGS [FILE]"
+        if self.option:
+            names += f" [{self.option}]"
         said = out.startswith(f"usage: {self.name} {names}\n".encode()) and b"--help" in out and b"--version" in out
         if not said or err or read:
             self.wrong += 1
@@ -93,6 +95,8 @@ class Trial:
         for pipe in ("FIRST", "SECOND"):
             os.mkfifo(os.path.join(folder, pipe))
         for arguments, named, said in WRONG:
+            if self.option in arguments:
+                continue
             self.complains(arguments, folder, f"{named} {said}")
 
     # ---- files that are not to be had

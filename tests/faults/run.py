@@ -1,10 +1,13 @@
 #!/usr/bin/env python3
 """Runs the programs with opens, reads and writes that fail. Where all can be read and written, they have to print the right
 text, or write the right capture or export, and no complaint; where standard input or a file that was named fails, nothing and
-a complaint; where standard output fails, what is right up to some byte, and a complaint.
+a complaint, and of a month the lines of the captures before; where standard output fails, what is right up to some byte, and a
+complaint.
 
 `stub.c` fails each open, read and write in turn, in every way; the rest are failures that systems have: a connection that is
-reset, a pipe that is nearly full, a disk that is, and streams that are closed."""
+reset, a pipe that is nearly full, a disk that is, and streams that are closed.
+
+    tests/faults/run.py [PROGRAM ..]     all programs, or these"""
 import errno
 import fcntl
 import functools
@@ -48,11 +51,20 @@ RUNS = [
     ("openings", capture(BROKEN), b"refused 8 place 1\n"),
     ("to_export", capture(FAR), export(FAR)),
     ("from_export", export(CLEAN), capture(CLEAN)),
+    ("month", capture(CLEAN) + capture(BROKEN) + REFUSED,
+     b"capture 0 events 2 judged 2 clean read 4 written 0 bus 4 over 6\n"
+     b"capture 1 events 3 judged 1 broken rule 8 event 1 cycle 13 read 0 written 0 bus 0 over 0\n"
+     b"capture 2 events 0 judged 0 refused 3 place 1 read 0 written 0 bus 0 over 0\n"
+     b"all captures 3 clean 1 broken 1 refused 1 events 5 judged 3 read 4 written 0 bus 4 over 6\n"),
 ]
 
 # What each program does with its input and its output.
 DONE = {"report": ("judged", "printed"), "listing": ("judged", "printed"), "blank": ("written", "written"),
-        "openings": ("looked at", "printed"), "to_export": ("written", "written"), "from_export": ("written", "written")}
+        "openings": ("looked at", "printed"), "to_export": ("written", "written"), "from_export": ("written", "written"),
+        "month": ("added up", "printed")}
+
+# The lines of a month that were printed before a read failed stand; its totals are not printed.
+GOES_ALONG = "month"
 
 # A file that a program is given before any other; how often it is opened and, in pieces of 40 bytes, read.
 BEFORE = {"from_export": ([SETTINGS], 1, 3)}
@@ -88,7 +100,8 @@ def expect(holds, what, run):
 
 
 def unread(name, source, said="could not be read to its end"):
-    return f"{name}: {source} {said}; nothing was {DONE[name][0]}\n".encode()
+    undone = "there are no totals" if name == GOES_ALONG else f"nothing was {DONE[name][0]}"
+    return f"{name}: {source} {said}; {undone}\n".encode()
 
 
 def unwritten(name, printed):
@@ -101,6 +114,17 @@ def expect_right(what, text, run):
 
 def expect_nothing(what, complaint, run):
     expect(run.stdout == b"" and run.stderr == complaint, what, run)
+
+
+def expect_unread(what, name, complaint, text, run, least=0):
+    """Nothing; of a month whole lines, at least so many, and not the last. How many there are."""
+    if name != GOES_ALONG:
+        expect_nothing(what, complaint, run)
+        return 0
+    lines = text.splitlines(True)
+    there = run.stdout.count(b"\n")
+    expect(run.stdout == b"".join(lines[:there]) and least <= there < len(lines) and run.stderr == complaint, what, run)
+    return there
 
 
 def expect_start(what, name, text, run, printed=None):
@@ -164,14 +188,14 @@ def every_read(name, source, size, text, path=None, behind=0):
 
 def fail_each_read(name, source, size, text, arguments, descriptor, told, behind=0):
     for way, error, times, goes_on in WAYS:
-        at, count = behind, 1
+        at, count, lines = behind, 1, 0
         while count:
             run, count = changed(name, source, descriptor, at, error, times, 40, arguments)
             what = f"{name}, read {at} of {size} bytes of {told}, {way}"
             if goes_on or not count:
                 expect_right(what, text, run)
             else:
-                expect_nothing(what, unread(name, told), run)
+                lines = expect_unread(what, name, unread(name, told), text, run, lines)
             at += 1
         expect(at - 1 - behind > size / 40, f"{name}, {way}: {at - 1} reads of {size} bytes", run)
 
@@ -216,7 +240,7 @@ def complaint_goes_on(name):
 
 # ---- failures that systems have
 
-def reset(name, data, pair, kind):
+def reset(name, data, text, pair, kind):
     """The peer closes while something sent to it is unread: what it sent arrives, one read fails, and then comes the end."""
     ours, theirs = pair
     theirs.sendall(b"never read")
@@ -225,7 +249,8 @@ def reset(name, data, pair, kind):
     ours.close()
     run = subprocess.run(command(name), stdin=theirs, capture_output=True, timeout=60)
     theirs.close()
-    expect_nothing(f"{name}, {kind} reset behind {len(data)} bytes", unread(name, "standard input"), run)
+    what = f"{name}, {kind} reset behind {len(data)} bytes"
+    expect_unread(what, name, unread(name, "standard input"), text, run, text.count(b"\n") - 1)
 
 
 def connection():
@@ -270,8 +295,8 @@ def full_and_closed(name, source, text, arguments=()):
 
 
 def everything(name, data, text):
-    reset(name, data, socket.socketpair(), "a socket pair")
-    reset(name, data, connection(), "a connection")
+    reset(name, data, text, socket.socketpair(), "a socket pair")
+    reset(name, data, text, connection(), "a connection")
     with tempfile.TemporaryFile() as f:
         f.write(data)
         f.flush()
@@ -320,13 +345,16 @@ def main():
     with open(SETTINGS, "wb") as file:
         file.write(capture([]))
     subprocess.run([os.path.join(ROOT, "tests", "x86"), "library", "-o", STUB, os.path.join(HERE, "stub.c")], check=True)
+    names = sys.argv[1:] or DONE
     for name, data, text in RUNS:
-        everything(name, data, text)
-    for name in DONE:
+        if name in names:
+            everything(name, data, text)
+    for name in names:
+        first = next(run for run in RUNS if run[0] == name)
         complaint_goes_on(name)
-        named(*next(run for run in RUNS if run[0] == name))
-    for name in BEFORE:
-        settings_file(*next(run for run in RUNS if run[0] == name))
+        named(*first)
+        if name in BEFORE:
+            settings_file(*first)
     print(f"faults: {len(held)} expectations, {held.count(False)} wrong")
     return 0 if all(held) else 1
 

@@ -291,7 +291,8 @@ fn store(bytes: &[u8], n: usize, records: u32, out: &mut [u8]) -> Converted
     Converted::Written { bytes: size }
 }
 
-// This capture as an export, with NOPs where events are further apart than stamps can tell; bytes behind it in the buffer stay.
+// This capture as an export, with NOPs where events are further apart than stamps can tell; bytes behind it in the buffer
+// stay.
 pub fn write(capture: &[u8], out: &mut [u8]) -> Converted
     ensures { λ r. ⌜ means r ≡ writeOutcome (now (capture .entry)) (now (out .entry)) .answer ⌝ }
     ensures { λ r. ⌜ now (out .exit) ≡ writeOutcome (now (capture .entry)) (now (out .entry)) .buffer ⌝ }

@@ -1,6 +1,6 @@
-// An export of the handheld analyser as a capture on standard output. Its settings and its edition are those of another capture,
-// of which header and settings alone are looked at. What is refused has no output: that is told on standard error, so that it is
-// never taken for a capture.
+// An export of the handheld analyser as a capture on standard output. Its settings and its edition are those of another
+// capture, of which header and settings alone are looked at. What is refused has no output: that is told on standard error,
+// so that it is never taken for a capture.
 use console::Out;
 use console::arguments;
 use console::program;
@@ -57,8 +57,8 @@ fn complain_of_settings(place: usize) {
     );
 }
 
-// Whether these bytes begin a capture of fourteen settings: how many there are, and where they and the events start. Its length
-// and its count of events are not looked at.
+// Whether these bytes begin a capture of fourteen settings: how many there are, and where they and the events start. Its
+// length and its count of events are not looked at.
 fn begins_capture(front: &[u8]) -> bool
     requires { ⌜ 88 ≤ length (now front) ⌝ }
 {

@@ -54,7 +54,7 @@ no-refusal (Broken events judged rule event cycle) o = refl
 
 -- ---- a clean one
 
-verdictTold : Answer Report → is.Verdict
+unfoldable pub verdictTold : Answer Report → is.Verdict
 verdictTold (refused number place) = is.clean
 verdictTold (answered r) = r .verdict
 

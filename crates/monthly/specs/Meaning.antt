@@ -3,7 +3,8 @@ use Prim.Native.Nat.{ℕ, _+_, _*_, _≤_}
 use mathlib.Core.Bool.{cond}
 use mathlib.Core.List.{List}
 use lib.Dec.{ltb}
-use Rattle.reading.specs.Capture.{mostEvents, captureSize}
+use lib.ListN.{length, take, drop}
+use Rattle.reading.specs.Capture.{mostEvents, captureSize, headerWord}
 use Rattle.reading.specs.Settings.{settingsCount, sleepingCount}
 use Rattle.reading.specs.Answers.{Answer, Report}
 use Rattle.reading.specs.Month as month
@@ -75,3 +76,11 @@ pub record Held (t : Totals) : Type 0 where
 abbrev pub wantedOf : ℕ → ℕ
 wantedOf total =
     cond (ltb total (captureSize settingsCount 0)) 4 (cond (ltb (captureSize sleepingCount mostEvents) total) 4 total)
+
+-- what is read of a stream for the next capture, as far as there is any; fewer bytes than a word are taken as they are
+abbrev pub readOf : List ℕ → List ℕ
+readOf stream = cond (ltb (length stream) 4) stream (take (wantedOf (headerWord stream 0)) stream)
+
+-- what is left of it
+abbrev pub leftOf : List ℕ → List ℕ
+leftOf stream = drop (wantedOf (headerWord stream 0)) stream

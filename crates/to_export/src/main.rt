@@ -1,5 +1,5 @@
-// A capture as an export of the handheld analyser on standard output. What is refused has no output: that is told on standard
-// error, so that it is never taken for an export.
+// A capture as an export of the handheld analyser on standard output. What is refused has no output: that is told on
+// standard error, so that it is never taken for an export.
 use console::Out;
 use console::program;
 use console::say;
@@ -9,7 +9,7 @@ const NAME: [u8; 9] = *b"to_export";
 
 const UNDONE: [u8; 19] = *b"nothing was written";
 
-// One byte more than the longest capture, so that a longer input is seen to be too long and nothing is written of a part of it.
+// One byte more than the longest capture, so that a longer input is seen to be too long and none is written in part.
 const ROOM: usize = capture::MOST + 1;
 
 fn write(export: &[u8]) {

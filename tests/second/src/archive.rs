@@ -8,7 +8,7 @@ use std::io::{self, BufReader, Read, Write};
 use std::process::{Child, ChildStdin, ChildStdout, Command, Stdio};
 
 use crate::capture::words;
-use crate::rows::Record;
+use crate::openings::Record;
 
 const RUNNER: &str = concat!(env!("CARGO_MANIFEST_DIR"), "/../x86");
 const SERVERS: &str = concat!(env!("CARGO_MANIFEST_DIR"), "/../../target/c");

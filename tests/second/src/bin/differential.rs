@@ -15,7 +15,7 @@ use second::generate::{
     export, far_capture, input, long_recording, other_addresses, play_of, settings_of, Dice,
     Export, ExportTally, Input, PlayTally, Tally, MOST_CELLS,
 };
-use second::rows::Record;
+use second::openings::Record;
 use second::{
     blank, cells, judge, judge_recording, open_row, packed, play, read_export, schedule,
     write_export,
@@ -238,7 +238,8 @@ impl Comparison {
             let mut buffer = vec![UNTOUCHED; length + FENCE];
             let (mine, words) = (&mut records[..lent], &mut buffer[..length]);
             let answer = open_row(capture, bank, event, mine, words);
-            self.tally.count_row(capture, answer);
+            self.tally
+                .count_row(capture, [bank, event], answer, &records, &buffer);
             let expected = Left {
                 answer: packed::of_row(answer),
                 buffer: told(&records, &buffer),

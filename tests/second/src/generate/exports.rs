@@ -50,7 +50,8 @@ fn records(dice: &mut Dice) -> Vec<Record> {
         21..=60 => dice.between(40, 300),
         _ => dice.between(1, 40),
     };
-    let mut stamp = dice.pick(&[0, 1, 65_535, dice.word()]) as u16;
+    let word = dice.word();
+    let mut stamp = dice.pick(&[0, 1, 65_535, word]) as u16;
     (0..count)
         .map(|_| {
             let record = Record {
