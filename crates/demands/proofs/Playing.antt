@@ -270,7 +270,7 @@ module _ {capture : List ℕ} {first : ℕ} {window writes reads left words : Li
     unfolding playedOn replay
     low-so i l =
         let front : take k words ≡ run .returned =
-            ap (take k) (answered-so .read) ∙ take-at (run .returned) (drop (length (run .returned)) reads) k (sym (answered-so .counted)) in
+        ap (take k) (answered-so .read) ∙ take-at (run .returned) (drop (length (run .returned)) reads) k (sym (answered-so .counted)) in
         subst (λ (w : ℕ). w < 2 ^ 16) (ap (λ (ws : List ℕ). getD ws i 0) (sym front) ∙ getD-take k words i 0 l)
         (replays-low (settingsIn capture) e (burstsOf (settingsIn capture) (eventsOf capture)) (starting (windowed first window) writes) (λ j. omega arith) i)
 

@@ -1,5 +1,5 @@
 -- What a play answers fits the bits that it is packed into.
-use Prim.Native.Nat.{ℕ, _+_, _*_, _≤_}
+use Prim.Native.Nat.{ℕ, suc, _≤_}
 use mathlib.Core.Bool.{Bool, true, false, cond, not}
 use mathlib.Core.List.{List, [], _∷_}
 use mathlib.Core.Option.{Option, none, some, Option·map}
@@ -10,11 +10,11 @@ use lib.ListN.{length}
 use Rattle.reading.specs.Search.{given}
 use Rattle.reading.specs.Settings.{Settings}
 use Rattle.reading.specs.Capture.{Event, mostEvents, eventCount, eventsOf}
-use Rattle.reading.specs.Bursts.{Burst, reads}
-use Rattle.reading.specs.Cells.{burstsOf, cellsOf, beatsBy, beatsOf}
+use Rattle.reading.specs.Bursts.{Burst}
+use Rattle.reading.specs.Cells.{burstsOf}
 use Rattle.reading.specs.Memory.{Run, replay}
 use Rattle.reading.specs.Answers.{Answer, answered, unless, settingsIn, verdictIn, notClean, cellsIn}
-use Rattle.reading.specs.Player.{windowFits, dataOf, unplayable, eventOfBurst, playedOn, playing, plays, playOutcome}
+use Rattle.reading.specs.Player.{windowFits, windowed, dataOf, unplayable, eventOfBurst, playedOn, playing, plays, playOutcome}
 use Rattle.capture.proofs.Accepted.{accepted-sound}
 use Rattle.beats.proofs.Sums.{beats-together, cells-length}
 use Rattle.player.proofs.Calling.{returned-length}
@@ -27,7 +27,7 @@ unfolding eventOfBurst
 event-few [] x = omega arith
 event-few (e ∷ es) x = go (eqb (e .cycle) (x .k)) (event-few es x)
   where
-    go : (v : Bool) → eventOfBurst es x ≤ length es → cond v 0 (1 + eventOfBurst es x) ≤ 1 + length es
+    go : (v : Bool) → eventOfBurst es x ≤ length es → cond v 0 (suc (eventOfBurst es x)) ≤ suc (length es)
     go true l = omega arith
     go false l = omega (arith, l)
 
@@ -38,7 +38,7 @@ unfolding playedOn replay cellsIn
 words-few capture first window writes short =
     let s = settingsIn capture in
     let xs = burstsOf s (eventsOf capture) in
-    omega (arith, returned-length s xs _, beats-together xs, cells-length s xs, cells-few capture short)
+    omega (arith, returned-length s xs (record { contents = windowed first window; supply = dataOf writes; returned = [] }), beats-together xs, cells-length s xs, cells-few capture short)
 
 pub play-fits : (capture : List ℕ) (first : ℕ) (window writes reads : List ℕ) → Fits (countTold (playOutcome capture first window writes reads .answer))
 unfolding playOutcome playing
