@@ -175,7 +175,7 @@ play-refused capture first window writes reads left words number place a =
 
 -- ---- what was played
 
-module _ {capture : List ℕ} {first : ℕ} {window writes reads left words : List ℕ} {k : ℕ}
+module _ (capture : List ℕ) (first : ℕ) (window writes reads left words : List ℕ) (k : ℕ)
     (a : Plays capture first window writes reads (played.Words k) left words) where
   abbrev run : Run
   run = r capture first window writes reads
@@ -278,7 +278,7 @@ module _ {capture : List ℕ} {first : ℕ} {window writes reads left words : Li
 pub play-replays : (capture : List ℕ) (first : ℕ) (window writes reads left words : List ℕ) (k : ℕ) →
     Plays capture first window writes reads (played.Words k) left words → (m : Contents) → ((i : ℕ) → i < length window → m (first + i) ≡ getD window i 0) →
     Shows first window reads left words k m (replay (settingsIn capture) (eventsOf capture) (starting m writes))
-play-replays capture first window writes reads left words k a m agrees = replays-so a m agrees
+play-replays capture first window writes reads left words k a m agrees = replays-so capture first window writes reads left words k a m agrees
 
 -- A schedule, by either policy, played with the requests' words is the plain memory on the window.
 pub play-of-schedule : (ws qs : List ℕ) (policy : ℕ) (out bytes : List ℕ) (n : ℕ) → Schedules ws qs policy out (said.Written n) bytes →
@@ -286,10 +286,10 @@ pub play-of-schedule : (ws qs : List ℕ) (policy : ℕ) (out bytes : List ℕ) 
     (m : Contents) → ((i : ℕ) → i < length window → m (first + i) ≡ getD window i 0) →
     Shows first window reads left words k m (plain (settingsOf ws) qs (starting m writes))
 play-of-schedule ws qs policy out bytes n scheduled first window writes reads left words k a m agrees =
-    subst (Shows first window reads left words k m) (schedule-is-memory ws qs policy out bytes n scheduled (starting m writes)) (replays-so a m agrees)
+    subst (Shows first window reads left words k m) (schedule-is-memory ws qs policy out bytes n scheduled (starting m writes)) (replays-so (take n bytes) first window writes reads left words k a m agrees)
 
 -- With lane code 1 the upper half of every word of the window stays, and every word read has zeros there.
 pub upper-half : (capture : List ℕ) (first : ℕ) (window writes reads left words : List ℕ) (k : ℕ) →
     Plays capture first window writes reads (played.Words k) left words → settingsIn capture .lane ≡ 1 →
     ((i : ℕ) → i < length window → getD left i 0 / 2 ^ 16 ≡ getD window i 0 / 2 ^ 16) × ((i : ℕ) → i < k → getD words i 0 < 2 ^ 16)
-upper-half capture first window writes reads left words k a e = (upper-so a e, low-so a e)
+upper-half capture first window writes reads left words k a e = (upper-so capture first window writes reads left words k a e, low-so capture first window writes reads left words k a e)
