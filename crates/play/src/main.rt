@@ -145,7 +145,13 @@ fn work(capture: &[u8], first: u32, size: usize, behind: &[u8]) {
     let taken = lesser(4 * lent, behind.len());
     let writes = lesser((behind.len() - taken) / 4, MOST_WRITES);
     fill(&mut supply[..writes], &behind[taken..]);
-    let played = player::play(capture, first, &mut cells[..lent], &supply[..writes], &mut reads);
+    let played = player::play(
+        capture,
+        first,
+        &mut cells[..lent],
+        &supply[..writes],
+        &mut reads,
+    );
     let mut out: Out = true;
     print_played(&mut out, played, first, &cells[..lent], &reads);
     program::end(&NAME, out, b"printed");
@@ -161,7 +167,12 @@ fn split(input: &[u8], total: usize) {
     let size = word_at(rest, 4) as usize;
     let whole = rest.len() % 4 == 0;
     if !whole {
-        program::complain_of(&NAME, 0, b" has some bytes over behind its last word", &UNDONE);
+        program::complain_of(
+            &NAME,
+            0,
+            b" has some bytes over behind its last word",
+            &UNDONE,
+        );
         return;
     }
     if rest.len() / 4 < 2 + lesser(size, MOST_WINDOW) {
