@@ -7,6 +7,7 @@ use console::program;
 use console::say;
 use console::say_number;
 use player::Played;
+ghost use Rattle.io.specs.Counts.{Counts};
 
 const NAME: [u8; 4] = *b"play";
 
@@ -61,7 +62,9 @@ fn digit(w: u32) -> u8 {
 }
 
 // Eight digits behind 0x, and the end of the line.
-fn put_hex(line: &mut [u8], at: usize, w: u32) -> usize {
+fn put_hex(line: &mut [u8], at: usize, w: u32) -> usize
+    ensures { λ r. ⌜ Counts r (now (line .exit)) ⌝ }
+{
     let digits = [
         b'0',
         b'x',
@@ -82,9 +85,7 @@ fn print_word(out: &mut Out, w: u32) {
     let mut line = [0u8; 32];
     let at = put(&mut line, 0, b"word ");
     let end = put_hex(&mut line, at, w);
-    if end <= 32 {
-        say(out, &line[..end]);
-    }
+    say(out, &line[..end]);
 }
 
 fn print_cell(out: &mut Out, cell: u64, w: u32) {
@@ -93,9 +94,7 @@ fn print_cell(out: &mut Out, cell: u64, w: u32) {
     at = put_number(&mut line, at, cell);
     at = put(&mut line, at, b" ");
     let end = put_hex(&mut line, at, w);
-    if end <= 48 {
-        say(out, &line[..end]);
-    }
+    say(out, &line[..end]);
 }
 
 fn print_words(out: &mut Out, reads: &[u32], read: usize) {
