@@ -1,5 +1,5 @@
-/* threads: two threads that judge, list, schedule, blank and ask different inputs at the same time, many times over. What each call
- * answers and leaves has to be what the same call answered and left when it was made alone. */
+/* threads: two threads that judge, list, schedule, blank and ask different inputs and write and read exports at the same time, many
+ * times over. What each call answers and leaves has to be what the same call answered and left when it was made alone. */
 #define _POSIX_C_SOURCE 200809L
 #include <inttypes.h>
 #include <pthread.h>
@@ -10,11 +10,13 @@
 enum { ROUNDS = 300, INPUTS = 4, MOST_CELLS = 128000, MOST_BYTES = 64080, REQUESTS = 500 };
 
 struct left {
-    uint64_t judged, recorded, listed, scheduled, blanked, asked;
+    uint64_t judged, recorded, listed, scheduled, blanked, asked, written, read;
     uint32_t cells[MOST_CELLS], index[MORGAZELL_MOST_INDEX];
     struct morgazell_bank banks[4];
     uint8_t bytes[MOST_BYTES];
     uint8_t capture[LONGEST];
+    uint8_t records[MORGAZELL_LONGEST_EXPORT];
+    uint8_t back[LONGEST];
 };
 
 struct input {
@@ -37,6 +39,8 @@ static void call(const struct input *in, struct left *out)
     out->scheduled = morgazell_schedule(SETTINGS, 14, in->requests, REQUESTS, MORGAZELL_OPEN_ROWS, out->bytes, MOST_BYTES);
     out->blanked = morgazell_blank(in->capture, in->len, out->capture, LONGEST);
     out->asked = morgazell_open_row(in->capture, in->len, 0, 1000, out->banks, 4, out->index, MORGAZELL_MOST_INDEX);
+    out->written = morgazell_write_export(in->capture, in->len, out->records, sizeof out->records);
+    out->read = morgazell_read_export(out->records, 6000, SETTINGS, 14, 1, out->back, LONGEST);
 }
 
 /* Rows opened and read to the end; in two of the four an ACTIVE finds the row open at the end. Two are of edition 1, in
