@@ -82,9 +82,10 @@
  *
  * Memory. Lengths count elements of the pointer's type. A pointer may be NULL where its length is 0; else it points to
  * that many elements, aligned for their type (a capture, being bytes, may stand anywhere). What is lent to be written must
- * not overlap an input or anything else that is lent; inputs may overlap each other, and must stay as they are until the call returns: a mapped file may be written to
- * or become shorter (examples/judge_files.c says what to do then). Nothing at or behind out + out_len is read or written, inputs are not written,
- * and a refused call leaves every lent buffer as it was. So a call with an empty buffer asks what length is needed: refusal 7 says.
+ * not overlap an input or anything else that is lent. Inputs may overlap each other, and must stay as they are until the call
+ * returns: a mapped file may be written to or become shorter (examples/judge_files.c says what to do then). Nothing at or
+ * behind out + out_len is read or written, inputs are not written, and a refused call leaves every lent buffer as it was. So a
+ * call with an empty buffer asks what length is needed: refusal 7 says.
  *
  * Threads. No call allocates, keeps anything between calls, or asks anything of the system: any number of threads may
  * call at the same time, each with buffers of its own; inputs may be shared.
