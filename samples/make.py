@@ -12,7 +12,7 @@ HERE = os.path.dirname(os.path.abspath(__file__))
 TESTS = os.path.join(HERE, "..", "tests")
 sys.path.insert(0, TESTS)
 from captures import (A10, ACTIVE, AUTO_REFRESH, LOW, NOP, PRECHARGE, READ, SLEEPY, WRITE, bank, blanked, broken_lines, capture,
-                      cas_latency, clean_lines, column, events_in, mode_word, nine_owed)
+                      cas_latency, clean_lines, column, events_in, export, mode_word, nine_owed, setting, with_nops)
 from controller import Controller
 from scheduler import CLOSED_ROWS, OPEN_ROWS, WRITES, scheduled
 
@@ -112,6 +112,55 @@ def refresh_with_open_row(part, seed):
     return with_fault(part, seed, fault, 3)
 
 
+def row_that_is_not_there(part, seed):
+    def fault(c):
+        c.close_rows()
+        c.active(1, 21 | 1 << part["rowbits"])
+    return with_fault(part, seed, fault, 1)
+
+
+def active_before_trp(part, seed):
+    def fault(c):
+        c.open_row(1, 300)
+        t = c.precharge(1)
+        c.put(t + part["tRP"] - 1, ACTIVE | bank(1) | 301)
+    return with_fault(part, seed, fault, 5)
+
+
+def active_before_trrd(part, seed):
+    def fault(c):
+        c.close_rows()
+        c.put(max(c.next, *c.open_ready), NOP)
+        t = c.active(0, 9)
+        c.put(t + part["tRRD"] - 1, ACTIVE | bank(3) | 10)
+    return with_fault(part, seed, fault, 7)
+
+
+def precharge_before_tras(part, seed):
+    def fault(c):
+        c.close_rows()
+        t = c.active(2, 5)
+        c.put(t + part["tRAS"] - 1, PRECHARGE | bank(2))
+    return with_fault(part, seed, fault, 9)
+
+
+def write_into_read_data(part, seed):
+    def fault(c):
+        c.open_row(1, 300)
+        t = c.read(1, 8)
+        c.put(t + c.latency + c.h - 1, WRITE | bank(1) | column(16))
+    return with_fault(part, seed, fault, 12)
+
+
+def read_into_auto_precharge(part, seed):
+    def fault(c):
+        c.open_row(3, 1200)
+        c.open_row(0, 9)
+        t = c.read(0, 8, auto=True)
+        c.put(t + c.h - 1, READ | bank(3) | column(4))
+    return with_fault(part, seed, fault, 13)
+
+
 def mode_set_latency_4(part, seed):
     def fault(c):
         c.mode_set(mode_word(4, False, 4))
@@ -160,11 +209,16 @@ def cut_short(part, seed):
     return data[:3000], ["refused 1 place 0"]
 
 
-def stamps_of_16_bits(part, seed):
-    """A recorder whose cycle counter has 16 bits: it starts again at 65,536."""
+def long_run(part, seed):
     c = Controller(part, seed)
     while c.next < 70_000:
         c.run(len(c.events) + 20)
+    return c
+
+
+def stamps_of_16_bits(part, seed):
+    """A recorder whose cycle counter has 16 bits: it starts again at 65,536."""
+    c = long_run(part, seed)
     at = next(i for i, (cycle, _) in enumerate(c.events) if 65_536 <= cycle)
     return capture([(cycle % 65_536, pins) for cycle, pins in c.events], settings_of(part)), [f"refused 4 place {at}"]
 
@@ -295,6 +349,62 @@ def blanked_one(name):
     return make
 
 
+# ---- events further apart than the stamps of an export can tell
+
+# A part that is hardly ever to be refreshed: those of the data sheets owe nine refreshes long before.
+RARE = setting(13, 100_000)
+
+
+def seldom():
+    """A row is opened, read, and closed when its refreshes are due; clean."""
+    events, t = [], 500
+    for turn in range(6):
+        events += [(t, ACTIVE | bank(turn % 4) | 100 + turn), (t + 3, READ | bank(turn % 4) | column(8 * turn))]
+        events += [(t + 80_000, WRITE | bank(turn % 4) | column(8)), (t + 80_010, PRECHARGE | A10), (t + 80_013, AUTO_REFRESH)]
+        t += (65_535, 131_071, 200_000)[turn % 3] + 80_013
+    return events
+
+
+def far_apart(*_):
+    return capture(seldom(), RARE), clean_lines(seldom())
+
+
+PAUSED_SEED = 9
+
+
+def paused(part):
+    """Traffic that stops for 100,000 cycles. A READ of a closed bank is what comes then, and breaks rule 3."""
+    c = Controller(part, PAUSED_SEED)
+    c.run(300)
+    c.close_rows()
+    at = len(c.events)
+    c.put(c.next + 100_000, READ | bank(1) | column(4))
+    c.run(at + 40)
+    return c.events, at
+
+
+def read_after_a_pause(part, _):
+    events, at = paused(part)
+    return capture(events, settings_of(part)), broken_lines(events, 3, at)
+
+
+# ---- exports, each with what the report says of the capture that is read from it, under the settings of the sample named so
+
+def export_of_a_long_run(part, seed):
+    c = long_run(part, seed)
+    return export(c.events), clean_lines(c.events)
+
+
+def export_of_far_apart(*_):
+    return export(seldom()), clean_lines(with_nops(seldom()))
+
+
+def export_of_a_pause(part, _):
+    """The first NOP in the pause comes when nine refreshes have long been owed; it stands where the READ did."""
+    events, at = paused(part)
+    return export(events), broken_lines(with_nops(events), 14, at)
+
+
 # ---- samples written by the library's scheduler: clean, since every schedule is
 
 SERVED_SEED = 8
@@ -391,25 +501,51 @@ SAMPLES = [
     ("tWTR-blanked", ("MT46H64M16LF", "-5 CL3"), blanked_one("tWTR"), "the sample tWTR, rows and columns blanked"),
     ("schedule-open-rows", ("MT46H64M16LF", "-5 CL3"), open_rows, "written by `morgazell_schedule`, rows left open"),
     ("schedule-closed-rows", ("MT46H64M16LF", "-5 CL3"), closed_rows, "the same requests, each row closed behind its burst"),
+    ("row-not-there", ("IS43LR32400G", "-6 CL3"), row_that_is_not_there, "ACTIVE of a row that a part of 12 row bits lacks"),
+    ("tRP", ("MT46H64M32LF", "-48 CL3"), active_before_trp, "ACTIVE a cycle before tRP is over"),
+    ("tRRD", ("MT46H64M16LF", "-5 CL3"), active_before_trrd, "ACTIVE of another bank a cycle before tRRD is over"),
+    ("tRAS", ("MT46H32M32LF", "-75 CL3"), precharge_before_tras, "PRECHARGE a cycle before tRAS is over"),
+    ("write-into-read-data", ("W948D6KBHX", "-5 CL3"), write_into_read_data,
+     "WRITE a cycle before the data of a READ is off the bus"),
+    ("read-into-auto-precharge", ("MT46H128M16LF", "-48 CL3"), read_into_auto_precharge,
+     "READ a cycle before a READ with auto precharge has ended"),
     ("open-rows", None, rows_asked, "for `openings`: rows of two banks, one closed, two left open at the end"),
     ("open-rows-asleep", None, rows_asked_asleep,
      "for `openings`, 16 settings: a row that stays open in power-down, and one that auto precharge closes at once"),
+    ("far-apart", None, far_apart, "a tREFI of 100,000, and events up to 200,000 cycles apart"),
+    ("read-after-a-pause", ("MT46H64M16LF", "-5 CL3"), read_after_a_pause, "READ of a closed bank after 100,000 cycles without a refresh"),
+]
+
+# Exports of what is behind the sample of that name.
+EXPORTS = [
+    ("cycles-of-16-bits", export_of_a_long_run, "the same recording as a handheld writes it: its cycles are got back"),
+    ("far-apart", export_of_far_apart, "the sample as an export, with NOPs between events that are far apart"),
+    ("read-after-a-pause", export_of_a_pause, "the sample as an export; the NOP that was put in is an event with nine owed"),
 ]
 
 
-def row(name, key, part, shows, lines):
+def row(file, key, part, shows, lines):
     of = f"{key[0]} {key[1]}, x{part['width']}" if key else "-"
-    return f"| `{name}.capture` | {of} | {shows} | {'<br>'.join(f'`{line}`' for line in lines)} |"
+    return f"| `{file}` | {of} | {shows} | {'<br>'.join(f'`{line}`' for line in lines)} |"
+
+
+def sample(file, folder, key, part, shows, made):
+    data, lines = made
+    with open(os.path.join(folder, file), "wb") as f:
+        f.write(data)
+    print(row(file, key, part, shows, lines))
 
 
 def main(folder):
     known = parts()
+    seeds = {}
     for seed, (name, key, make, shows) in enumerate(SAMPLES, 1):
         part = known.get(key)
-        data, lines = make(part, seed)
-        with open(os.path.join(folder, name + ".capture"), "wb") as f:
-            f.write(data)
-        print(row(name, key, part, shows, lines))
+        seeds[name] = key, part, seed
+        sample(name + ".capture", folder, key, part, shows, make(part, seed))
+    for name, make, shows in EXPORTS:
+        key, part, seed = seeds[name]
+        sample(name + ".export", folder, key, part, shows, make(part, seed))
 
 
 if __name__ == "__main__":

@@ -1,4 +1,4 @@
-"""What every program does with its arguments: none or `-` is standard input, one FILE is that file, --help and --version print
+"""What every program does with its arguments: no FILE or `-` is standard input, one FILE is that file, --help and --version print
 and end; of anything else it complains, prints nothing and reads nothing."""
 import os
 import re
@@ -26,6 +26,9 @@ WRONG = [
     (["FIRST", ""], "a name that is empty or too long", "is one file too many, see --help"),
 ]
 
+# What stands alone.
+ALONE = [["--help"], ["--version"]]
+
 
 def version():
     with open(os.path.join(ROOT, "crates", "version", "specs", "Version.antt"), encoding="utf-8") as file:
@@ -33,19 +36,25 @@ def version():
 
 
 class Trial:
-    """One program, with a capture and what it prints of it, and another that stands on standard input."""
+    """One program, with a capture and what it prints of it, and another that stands on standard input. A program that takes two
+    files is given the first, which is called SETTINGS, before all other arguments. One with an option has it."""
 
-    def __init__(self, name, undone, data, printed, other, printed_of_other):
+    def __init__(self, name, undone, data, printed, other, printed_of_other, first=None, option=None):
         self.name, self.undone, self.data, self.printed = name, undone, data, printed
         self.other, self.printed_of_other = other, printed_of_other
+        self.first, self.option = first, option
         self.count, self.wrong = 0, 0
+
+    def words(self, arguments):
+        return arguments if self.first is None or arguments in ALONE else ["SETTINGS"] + arguments
 
     def run(self, arguments, folder):
         """What it printed, and how much of standard input it read."""
         with tempfile.TemporaryFile() as source:
             source.write(self.other)
             source.seek(0)
-            run = subprocess.run(program(self.name) + arguments, stdin=source, capture_output=True, cwd=folder, timeout=60)
+            words = program(self.name) + self.words(arguments)
+            run = subprocess.run(words, stdin=source, capture_output=True, cwd=folder, timeout=60)
             return run.stdout, run.stderr, os.lseek(source.fileno(), 0, os.SEEK_CUR)
 
     def hold(self, arguments, folder, out, err, read=0):
@@ -73,7 +82,10 @@ class Trial:
         self.hold(["--version"], folder, f"{self.name} {version()}\n".encode(), b"")
         out, err, read = self.run(["--help"], folder)
         self.count += 1
-        said = out.startswith(f"usage: {self.name} [FILE]\n".encode()) and b"--help" in out and b"--version" in out
+        names = "[FILE]" if self.first is None else "SETTINGS [FILE]"
+        if self.option:
+            names += f" [{self.option}]"
+        said = out.startswith(f"usage: {self.name} {names}\n".encode()) and b"--help" in out and b"--version" in out
         if not said or err or read:
             self.wrong += 1
             print(f"WRONG {self.name} --help: {out!r} {err!r}, {read} bytes read")
@@ -83,6 +95,8 @@ class Trial:
         for pipe in ("FIRST", "SECOND"):
             os.mkfifo(os.path.join(folder, pipe))
         for arguments, named, said in WRONG:
+            if self.option in arguments:
+                continue
             self.complains(arguments, folder, f"{named} {said}")
 
     # ---- files that are not to be had
@@ -106,9 +120,12 @@ class Trial:
     def all(self):
         for part in (self.reads, self.prints, self.refuses, self.lacks):
             with tempfile.TemporaryDirectory() as folder:
+                if self.first is not None:
+                    with open(os.path.join(folder, "SETTINGS"), "wb") as file:
+                        file.write(self.first)
                 part(folder)
         return self.count, self.wrong
 
 
-def tried(*trial):
-    return Trial(*trial).all()
+def tried(*trial, **more):
+    return Trial(*trial, **more).all()

@@ -122,6 +122,32 @@ def blanked(data):
     return bytes(changed)
 
 
+# ---- exports of the handheld analyser
+
+# How far a stamp of 16 bits can tell.
+REACH = 65_535
+
+
+def with_nops(events):
+    """The events with a NOP 65,535 cycles after the last record wherever the next is further away, again and again."""
+    records = []
+    for cycle, pins in events:
+        while records and cycle - records[-1][0] > REACH:
+            records.append((records[-1][0] + REACH, NOP))
+        records.append((cycle, pins))
+    return records
+
+
+def records(stamped):
+    """Records of two and four bytes, lowest first."""
+    return b"".join(struct.pack("<HI", *record) for record in stamped)
+
+
+def export(events):
+    """As a handheld analyser would have recorded them."""
+    return records([(cycle % 65_536, pins) for cycle, pins in with_nops(events)])
+
+
 def setting(number, word, settings=USUAL):
     changed = list(settings)
     changed[number] = word

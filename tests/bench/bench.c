@@ -4,8 +4,8 @@
  *     bench call WHAT FILE WHO N   N calls of one of them, for counting instructions
  *
  * WHAT is judge, recording (beside the C's judge), cells, rows (which row bank 0 has open after the last event, with the whole
- * index), open or closed, a schedule by that row policy; WHO is ours or c.
- * FILE is a capture, or for a schedule the settings and the requests as words. */
+ * index), open or closed, a schedule by that row policy, write, an export, or read, what the C wrote as an export; WHO is ours
+ * or c. FILE is a capture, or for a schedule the settings and the requests as words. */
 #define _POSIX_C_SOURCE 199309L
 #include <stdio.h>
 #include <stdlib.h>
@@ -21,6 +21,8 @@ static uint32_t words[MOST_BYTES / 4 + 1];
 static size_t size;
 static uint32_t cells[MOST_CELLS];
 static uint8_t bytes[MOST_BYTES];
+static uint8_t records[MORGAZELL_LONGEST_EXPORT];
+static size_t recorded;
 
 typedef uint64_t call(void);
 
@@ -65,6 +67,20 @@ static int same_rows(void)
     return memcmp(our_banks, c_s_banks, sizeof our_banks) == 0 && memcmp(our_index, c_s_index, sizeof our_index) == 0;
 }
 
+static uint64_t our_write(void) { return morgazell_write_export(capture(), size, bytes, MOST_BYTES); }
+static uint64_t c_s_write(void) { return c_write_export(capture(), size, bytes, MOST_BYTES); }
+
+/* Under the capture's settings and edition. */
+static uint64_t our_read(void)
+{
+    return morgazell_read_export(records, recorded, words + 6, SETTINGS, words[5], bytes, MOST_BYTES);
+}
+
+static uint64_t c_s_read(void)
+{
+    return c_read_export(records, recorded, words + 6, SETTINGS, words[5], bytes, MOST_BYTES);
+}
+
 static const struct {
     const char *what;
     call *ours, *c;
@@ -75,6 +91,8 @@ static const struct {
     {"rows", our_rows, c_s_rows},
     {"open", our_open, c_s_open},
     {"closed", our_closed, c_s_closed},
+    {"write", our_write, c_s_write},
+    {"read", our_read, c_s_read},
 };
 
 static uint64_t nanoseconds(call *ask)
@@ -112,6 +130,7 @@ int main(int count, char **word)
 {
     if (count < 4 || !load(word[3]))
         return 2;
+    recorded = (uint32_t)c_write_export(capture(), size, records, sizeof records);
     for (size_t i = 0; i < sizeof questions / sizeof *questions; i++) {
         if (strcmp(questions[i].what, word[2]) != 0)
             continue;

@@ -761,3 +761,129 @@ uint64_t c_schedule(const uint32_t *list, size_t list_len, const uint32_t *reque
     memcpy(out + EVENTS_AT, events, EVENT_BYTES * (size_t)count);
     return total;
 }
+
+/* ---- exports of the handheld analyser: a stamp of 16 bits and the pins, six bytes a record */
+
+enum { RECORD_BYTES = 6, MOST_RECORDS = 8000, REACH = 65535 };
+
+static inline uint16_t stamp_of(const uint8_t *records, uint32_t i)
+{
+    uint16_t stamp;
+    memcpy(&stamp, records + RECORD_BYTES * (size_t)i, sizeof stamp);
+    return stamp;
+}
+
+static inline uint32_t record_pins(const uint8_t *records, uint32_t i)
+{
+    return load(records + RECORD_BYTES * (size_t)i + 2);
+}
+
+__attribute__((cold, noinline)) static uint64_t
+first_bad_record(const uint8_t *records, uint32_t count)
+{
+    for (uint32_t i = 1; i < count; i++) {
+        if (stamp_of(records, i) == stamp_of(records, i - 1))
+            return refused(11, i);
+    }
+    uint32_t i = 0;
+    while (record_pins(records, i) >> 20 == 0)
+        i++;
+    return refused(4, i);
+}
+
+/* Refusals 11 and 4 of whole records, or 0, told without a branch a record. */
+static uint64_t check_records(const uint8_t *records, uint32_t count)
+{
+    if (count == 0)
+        return 0;
+    uint32_t pins = record_pins(records, 0);
+    uint32_t stands = 0;
+    for (uint32_t i = 1; i < count; i++) {
+        stands |= stamp_of(records, i) == stamp_of(records, i - 1);
+        pins |= record_pins(records, i);
+    }
+    return (stands | pins >> 20) != 0 ? first_bad_record(records, count) : 0;
+}
+
+uint64_t c_read_export(const uint8_t *records, size_t len, const uint32_t *list, size_t list_len,
+                       uint32_t edition, uint8_t *out, size_t out_len)
+{
+    if (list_len != SETTINGS || edition > 1)
+        return refused(2, 0);
+    struct settings settings = {0};
+    memcpy(&settings, list, 4 * SETTINGS);
+    uint64_t refusal = check_settings(&settings, SETTINGS);
+    if (refusal == 0 && len % RECORD_BYTES != 0)
+        refusal = refused(11, 0);
+    if (refusal == 0 && len / RECORD_BYTES > MOST_RECORDS)
+        refusal = refused(11, MOST_RECORDS);
+    if (refusal != 0)
+        return refusal;
+    uint32_t count = (uint32_t)(len / RECORD_BYTES);
+    refusal = check_records(records, count);
+    if (refusal != 0)
+        return refusal;
+    uint32_t total = EVENTS_AT + EVENT_BYTES * count;
+    if (out_len < total)
+        return refused(7, total);
+    uint32_t header[6] = {total, SETTINGS, HEADER_BYTES, count, EVENTS_AT, edition};
+    memcpy(out, header, sizeof header);
+    memcpy(out + HEADER_BYTES, list, 4 * SETTINGS);
+    uint8_t *at = out + EVENTS_AT;
+    uint32_t cycle = 0;
+    uint16_t before = 0;
+    for (uint32_t i = 0; i < count; i++) {
+        uint16_t stamp = stamp_of(records, i);
+        cycle += (uint16_t)(stamp - before);
+        before = stamp;
+        at = put_event(at, (int32_t)cycle, record_pins(records, i));
+    }
+    return total;
+}
+
+static inline uint8_t *put_record(uint8_t *at, uint32_t cycle, uint32_t pins)
+{
+    uint16_t stamp = (uint16_t)cycle;
+    memcpy(at, &stamp, sizeof stamp);
+    memcpy(at + 2, &pins, sizeof pins);
+    return at + RECORD_BYTES;
+}
+
+/* Each event and the NOPs before it; events are at most 2,000,000,000 cycles apart in all. */
+static uint32_t count_records(const struct capture *c)
+{
+    uint32_t records = c->count;
+    uint32_t last = 0;
+    for (uint32_t i = 0; i < c->count; i++) {
+        uint32_t cycle = cycle_of(c->events, i);
+        if (cycle - last > REACH)
+            records += (cycle - last - 1) / REACH;
+        last = cycle;
+    }
+    return records;
+}
+
+uint64_t c_write_export(const uint8_t *bytes, size_t len, uint8_t *out, size_t out_len)
+{
+    struct capture c;
+    uint64_t refusal = check_capture(bytes, len, &c);
+    if (refusal != 0)
+        return refusal;
+    if (c.events != bytes + EVENTS_AT || (c.count > 0 && cycle_of(c.events, 0) > REACH))
+        return refused(12, 0);
+    uint32_t records = count_records(&c);
+    if (records > MOST_RECORDS)
+        return refused(12, 0);
+    uint32_t total = RECORD_BYTES * records;
+    if (out_len < total)
+        return refused(7, total);
+    uint32_t last = 0;
+    for (uint32_t i = 0; i < c.count; i++) {
+        uint32_t cycle = cycle_of(c.events, i);
+        for (; cycle - last > REACH; last += REACH)
+            out = put_record(out, last + REACH, NOP << 16);
+        out = put_record(out, cycle, pins_of(c.events, i));
+        last = cycle;
+    }
+    return total;
+}

@@ -1,5 +1,6 @@
-/* A hand-written judge, burst list, schedule writer and index of open rows for document 01 and the customer
- * requests that have landed, made for speed.
+/* A hand-written judge, burst list, schedule writer, index of open rows, and reader and
+ * writer of exports for document 01 and the customer requests that have landed, made for
+ * speed.
  *
  * Every answer is one number: bits 56-63 the refusal (0: none), bits 48-55 the broken
  * rule (0: none), bits 0-31 the place, the event, or the count: events judged, cells
@@ -25,5 +26,10 @@ struct c_bank {
 
 uint64_t c_open_row(const uint8_t *bytes, size_t len, uint32_t bank, uint32_t event,
                     struct c_bank *records, size_t records_len, uint32_t *index, size_t index_len);
+
+uint64_t c_read_export(const uint8_t *records, size_t len, const uint32_t *settings,
+                       size_t settings_len, uint32_t edition, uint8_t *out, size_t out_len);
+
+uint64_t c_write_export(const uint8_t *bytes, size_t len, uint8_t *out, size_t out_len);
 
 #endif

@@ -1,10 +1,13 @@
 #!/usr/bin/env python3
-"""Runs the report, the listing, blank and openings with opens, reads and writes that fail. Where all can be read and written, they have
-to print the right text, or write the right capture, and no complaint; where standard input or the file that was named
-fails, nothing and a complaint; where standard output fails, what is right up to some byte, and a complaint.
+"""Runs the programs with opens, reads and writes that fail. Where all can be read and written, they have to print the right
+text, or write the right capture or export, and no complaint; where standard input or a file that was named fails, nothing and
+a complaint, and of a month the lines of the captures before; where standard output fails, what is right up to some byte, and a
+complaint.
 
 `stub.c` fails each open, read and write in turn, in every way; the rest are failures that systems have: a connection that is
-reset, a pipe that is nearly full, a disk that is, and streams that are closed."""
+reset, a pipe that is nearly full, a disk that is, and streams that are closed.
+
+    tests/faults/run.py [PROGRAM ..]     all programs, or these"""
 import errno
 import fcntl
 import functools
@@ -20,10 +23,11 @@ ROOT = os.path.join(HERE, "..", "..")
 sys.path[:0] = [os.path.join(HERE, ".."), os.path.join(HERE, "..", "listing")]
 import openrows
 import rendering
-from captures import ACTIVE, LOW, NOP, READ, SLEEPY, USUAL, blanked, capture, setting
+from captures import ACTIVE, LOW, NOP, READ, SLEEPY, USUAL, blanked, capture, export, setting
 from running import program
 
 STUB = os.path.join(ROOT, "target", "faults", "stub.so")
+SETTINGS = os.path.join(ROOT, "target", "faults", "settings")
 INPUT, OUTPUT, ERRORS, FILE_READ, FILE_OPENED = 0, 1, 2, 3, 4
 
 CLEAN = [(0, ACTIVE), (3, READ)]
@@ -31,6 +35,7 @@ BROKEN = [(12, ACTIVE), (13, READ), (20, NOP)]
 ASLEEP = [(0, NOP | LOW), (5, NOP), (6, ACTIVE)]
 ADDRESSED = capture([(0, ACTIVE | 77), (3, READ | 5)])
 REFUSED = capture([], setting(1, 15))
+FAR = [(5, NOP), (65_600, NOP)]
 
 # Each program on each capture, and what is right.
 RUNS = [
@@ -44,11 +49,26 @@ RUNS = [
     ("blank", ADDRESSED, blanked(ADDRESSED)),
     ("openings", capture(CLEAN), openrows.text(CLEAN).encode()),
     ("openings", capture(BROKEN), b"refused 8 place 1\n"),
+    ("to_export", capture(FAR), export(FAR)),
+    ("from_export", export(CLEAN), capture(CLEAN)),
+    ("month", capture(CLEAN) + capture(BROKEN) + REFUSED,
+     b"capture 0 events 2 judged 2 clean read 4 written 0 bus 4 over 6\n"
+     b"capture 1 events 3 judged 1 broken rule 8 event 1 cycle 13 read 0 written 0 bus 0 over 0\n"
+     b"capture 2 events 0 judged 0 refused 3 place 1 read 0 written 0 bus 0 over 0\n"
+     b"all captures 3 clean 1 broken 1 refused 1 events 5 judged 3 read 4 written 0 bus 4 over 6\n"),
 ]
 
 # What each program does with its input and its output.
 DONE = {"report": ("judged", "printed"), "listing": ("judged", "printed"), "blank": ("written", "written"),
-        "openings": ("looked at", "printed")}
+        "openings": ("looked at", "printed"), "to_export": ("written", "written"), "from_export": ("written", "written"),
+        "month": ("added up", "printed")}
+
+# The lines of a month that were printed before a read failed stand; its totals are not printed.
+GOES_ALONG = "month"
+
+# A file that a program is given before any other; how often it is opened and, in pieces of 40 bytes, read.
+BEFORE = {"from_export": ([SETTINGS], 1, 3)}
+NONE_BEFORE = ([], 0, 0)
 
 # How a call fails: with what, how often in a row, and whether the program has to go on. 0 is a call that moves one byte.
 WAYS = [
@@ -80,7 +100,8 @@ def expect(holds, what, run):
 
 
 def unread(name, source, said="could not be read to its end"):
-    return f"{name}: {source} {said}; nothing was {DONE[name][0]}\n".encode()
+    undone = "there are no totals" if name == GOES_ALONG else f"nothing was {DONE[name][0]}"
+    return f"{name}: {source} {said}; {undone}\n".encode()
 
 
 def unwritten(name, printed):
@@ -93,6 +114,17 @@ def expect_right(what, text, run):
 
 def expect_nothing(what, complaint, run):
     expect(run.stdout == b"" and run.stderr == complaint, what, run)
+
+
+def expect_unread(what, name, complaint, text, run, least=0):
+    """Nothing; of a month whole lines, at least so many, and not the last. How many there are."""
+    if name != GOES_ALONG:
+        expect_nothing(what, complaint, run)
+        return 0
+    lines = text.splitlines(True)
+    there = run.stdout.count(b"\n")
+    expect(run.stdout == b"".join(lines[:there]) and least <= there < len(lines) and run.stderr == complaint, what, run)
+    return there
 
 
 def expect_start(what, name, text, run, printed=None):
@@ -111,10 +143,14 @@ def expect_start_or_all(what, name, text, run):
 # ---- ways to run a program
 
 @functools.cache
-def command(name, preload=""):
+def alone(name, preload=""):
     """What tools/run runs, asked once, since the programs are started some thousand times."""
     environment = dict(os.environ, SHOW="1", PRELOAD=preload)
     return subprocess.run(program(name), env=environment, stdout=subprocess.PIPE, text=True, check=True).stdout.splitlines()
+
+
+def command(name, preload=""):
+    return alone(name, preload) + BEFORE.get(name, NONE_BEFORE)[0]
 
 
 def given(words, source, **streams):
@@ -129,7 +165,8 @@ def changed(name, source, descriptor, at, error, times, piece=0, arguments=()):
     noted, note = os.pipe()
     asked = {"FD": descriptor, "AT": at, "ERRNO": error, "TIMES": times, "PIECE": piece, "NOTE": note}
     environment = dict(os.environ, **{"FAULT_" + key: str(value) for key, value in asked.items()})
-    run = given([*command(name, STUB), *arguments], source, env=environment, pass_fds=[note])
+    words = alone(name, STUB) if any(word.startswith("--") for word in arguments) else command(name, STUB)
+    run = given([*words, *arguments], source, env=environment, pass_fds=[note])
     os.close(note)
     with open(noted, "rb") as notes:
         return run, len(notes.read())
@@ -142,26 +179,30 @@ def printed(run, reading):
 
 # ---- every call in turn
 
-def every_read(name, source, size, text, path=None):
-    """Of standard input, or of the file that is named, while another capture stands on standard input. Pieces of 40 bytes: a
-    read fails before the first, between two, and in place of the end."""
+def every_read(name, source, size, text, path=None, behind=0):
+    """Of standard input, or of the file that is named, while another capture stands on standard input; behind so many reads of
+    another file. Pieces of 40 bytes: a read fails before the first, between two, and in place of the end."""
     arguments, descriptor = ([path], FILE_READ) if path else ([], INPUT)
+    fail_each_read(name, source, size, text, arguments, descriptor, path or "standard input", behind)
+
+
+def fail_each_read(name, source, size, text, arguments, descriptor, told, behind=0):
     for way, error, times, goes_on in WAYS:
-        at, count = 0, 1
+        at, count, lines = behind, 1, 0
         while count:
             run, count = changed(name, source, descriptor, at, error, times, 40, arguments)
-            what = f"{name}, read {at} of {size} bytes{' of a file' if path else ''}, {way}"
+            what = f"{name}, read {at} of {size} bytes of {told}, {way}"
             if goes_on or not count:
                 expect_right(what, text, run)
             else:
-                expect_nothing(what, unread(name, path or "standard input"), run)
+                lines = expect_unread(what, name, unread(name, told), text, run, lines)
             at += 1
-        expect(at - 1 > size / 40, f"{name}, {way}: {at - 1} reads of {size} bytes", run)
+        expect(at - 1 - behind > size / 40, f"{name}, {way}: {at - 1} reads of {size} bytes", run)
 
 
-def every_open(name, source, text, path):
+def every_open(name, source, text, path, arguments, behind=0):
     for error, times, said in OPENS:
-        run, count = changed(name, source, FILE_OPENED, 0, error, times, arguments=[path])
+        run, count = changed(name, source, FILE_OPENED, behind, error, times, arguments=arguments)
         what = f"{name}, an open that fails with {error}, {times} times"
         if said:
             expect_nothing(what, unread(name, path, said), run)
@@ -199,7 +240,7 @@ def complaint_goes_on(name):
 
 # ---- failures that systems have
 
-def reset(name, data, pair, kind):
+def reset(name, data, text, pair, kind):
     """The peer closes while something sent to it is unread: what it sent arrives, one read fails, and then comes the end."""
     ours, theirs = pair
     theirs.sendall(b"never read")
@@ -208,7 +249,8 @@ def reset(name, data, pair, kind):
     ours.close()
     run = subprocess.run(command(name), stdin=theirs, capture_output=True, timeout=60)
     theirs.close()
-    expect_nothing(f"{name}, {kind} reset behind {len(data)} bytes", unread(name, "standard input"), run)
+    what = f"{name}, {kind} reset behind {len(data)} bytes"
+    expect_unread(what, name, unread(name, "standard input"), text, run, text.count(b"\n") - 1)
 
 
 def connection():
@@ -253,8 +295,8 @@ def full_and_closed(name, source, text, arguments=()):
 
 
 def everything(name, data, text):
-    reset(name, data, socket.socketpair(), "a socket pair")
-    reset(name, data, connection(), "a connection")
+    reset(name, data, text, socket.socketpair(), "a socket pair")
+    reset(name, data, text, connection(), "a connection")
     with tempfile.TemporaryFile() as f:
         f.write(data)
         f.flush()
@@ -276,26 +318,43 @@ def named(name, data, text):
         other.write(capture(ASLEEP[:1], SLEEPY))
         other.flush()
         source = other.fileno()
-        every_read(name, source, len(data), text, f.name)
-        every_open(name, source, text, f.name)
+        _, opens, reads = BEFORE.get(name, NONE_BEFORE)
+        every_read(name, source, len(data), text, f.name, reads)
+        every_open(name, source, text, f.name, [f.name], opens)
         full_and_closed(name, source, text, [f.name])
         run = given(["sh", "-c", 'exec "$0" "$@" <&-'] + command(name) + [f.name], source)
         expect_right(f"{name}, a file while standard input is closed", text, run)
         f.seek(0)
         expect(f.read() == data, f"{name}, the file is as it was", run)
         for option, piece in (("--help", 50), ("--version", 1)):
-            said = given([*command(name), option], source).stdout
+            said = given([*alone(name), option], source).stdout
             every_write(name, source, said, piece, [option], "printed")
+
+
+def settings_file(name, data, text):
+    """The file that is named before, with what is to be converted on standard input."""
+    with tempfile.TemporaryFile() as f:
+        f.write(data)
+        f.flush()
+        fail_each_read(name, f.fileno(), len(capture([])), text, [], FILE_READ, SETTINGS)
+        every_open(name, f.fileno(), text, SETTINGS, [])
 
 
 def main():
     os.makedirs(os.path.dirname(STUB), exist_ok=True)
+    with open(SETTINGS, "wb") as file:
+        file.write(capture([]))
     subprocess.run([os.path.join(ROOT, "tests", "x86"), "library", "-o", STUB, os.path.join(HERE, "stub.c")], check=True)
+    names = sys.argv[1:] or DONE
     for name, data, text in RUNS:
-        everything(name, data, text)
-    for name in DONE:
+        if name in names:
+            everything(name, data, text)
+    for name in names:
+        first = next(run for run in RUNS if run[0] == name)
         complaint_goes_on(name)
-        named(*next(run for run in RUNS if run[0] == name))
+        named(*first)
+        if name in BEFORE:
+            settings_file(*first)
     print(f"faults: {len(held)} expectations, {held.count(False)} wrong")
     return 0 if all(held) else 1
 

@@ -1,6 +1,6 @@
 #!/usr/bin/env python3
-"""Holds the samples to each other: samples/make.py makes the captures that are there and the table of samples/README.md,
-tools/judge-samples prints what the table says, the clean samples stand at the limits of the rules, and the board that
+"""Holds the samples to each other: samples/make.py makes the captures and exports that are there and the table of
+samples/README.md, tools/judge-samples prints what the table says, the clean samples stand at the limits of the rules, and the board that
 interrupts writes is the same in both editions."""
 import os
 import re
@@ -23,10 +23,10 @@ ASKING = [(4, [8]), (5, [5]), (6, [5, 9]), (8, [7]), (9, [5, 10]), (10, [11]), (
 ASKING_BESIDES = {"clean-power-down.capture": [(14, [15])], "clean-self-refresh.capture": [(15, [15])]}
 
 
-def captures_in(folder):
+def samples_in(folder):
     found = {}
     for name in os.listdir(folder):
-        if name.endswith(".capture"):
+        if name.endswith((".capture", ".export")):
             with open(os.path.join(folder, name), "rb") as f:
                 found[name] = f.read()
     return found
@@ -38,9 +38,9 @@ def table():
 
 
 def expected(rows):
-    """What judge-samples has to print: each file's name, and under it the lines of the table's last column."""
+    """What judge-samples has to print: each file's name, captures first, and under it the lines of the table's last column."""
     lines = []
-    for row in sorted(rows):
+    for row in sorted(rows, key=lambda row: (".export`" in row, row)):
         cells = row.strip("| ").split(" | ")
         lines.append(cells[0].strip("`"))
         lines += ["    " + said for said in re.findall("`([^`]*)`", cells[-1])]
@@ -81,7 +81,7 @@ def main():
     wrong = []
     with tempfile.TemporaryDirectory() as folder:
         made = subprocess.run([sys.executable, os.path.join(SAMPLES, "make.py"), folder], capture_output=True, text=True)
-        new, here = captures_in(folder), captures_in(SAMPLES)
+        new, here = samples_in(folder), samples_in(SAMPLES)
     wrong += [f"make.py and samples/ differ in {name}" for name in new.keys() | here.keys() if new.get(name) != here.get(name)]
     if made.stdout.splitlines() != table():
         wrong.append(f"make.py prints another table than README.md has: {made.stdout}{made.stderr}")
@@ -89,12 +89,12 @@ def main():
     if judged.stdout.splitlines() != expected(table()) or judged.returncode:
         wrong.append(f"judge-samples prints otherwise than README.md's table: {judged.stdout}{judged.stderr}")
     for name, data in here.items():
-        if name.startswith("clean-"):
+        if name.startswith("clean-") and name.endswith(".capture"):
             wrong += longer(name, data) + longest_trc(name, data)
     wrong += of_two_editions(here)
     for line in wrong:
         print("WRONG", line)
-    print(f"samples: {len(here)} captures, {len(wrong)} wrong")
+    print(f"samples: {len(here)} files, {len(wrong)} wrong")
     return 1 if wrong or not here else 0
 
 

@@ -28,6 +28,8 @@ mod Blanking
 mod Recordings
 mod Exports
 mod Opened
+mod Months
+mod Played
 
 -- pin words, put together by adding: a command, a bank, A10, column or row pins
 abbrev ACTIVE : ℕ

@@ -19,3 +19,5 @@ pub mod Blank
 pub mod Export
 pub mod Openings
 pub mod OpenRow
+pub mod Month
+pub mod Player

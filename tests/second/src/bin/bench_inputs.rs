@@ -2,7 +2,8 @@
 //!
 //!     bench_inputs FOLDER
 //!
-//! Writes them into the folder. Every capture is clean, so that all of it is judged.
+//! Writes them into the folder. Every capture is clean, so that all of it is judged; but for one of far events, which is
+//! written as an export alone.
 
 use std::path::Path;
 use std::{env, fs, io};
@@ -11,6 +12,7 @@ use second::capture::Edition::{self, One, Zero};
 use second::capture::{bytes_of_edition, Event, Settings, SETTINGS};
 use second::command::Named::All;
 use second::command::{Asked, Command};
+use second::export::REACH;
 use second::generate::{busy_capture, Dice};
 use second::part::{LookBack, Part};
 use second::schedule::{earliest, CLOSED_ROWS};
@@ -42,12 +44,25 @@ fn write_inputs(folder: &Path) -> io::Result<()> {
         let name = format!("random commands, {events} events.capture");
         fs::write(folder.join(name), first_of(&longest, events))?;
     }
+    fs::write(folder.join("far apart.far"), far_apart())?;
     for count in [500, 1_000, 2_000] {
         let list = PART.into_iter().chain(requests().into_iter().take(count));
         let bytes: Vec<u8> = list.flat_map(u32::to_le_bytes).collect();
         fs::write(folder.join(format!("{count} requests.list")), bytes)?;
     }
     Ok(())
+}
+
+/// 1,000 events, each seven NOPs behind the one before where it is written as an export.
+fn far_apart() -> Vec<u8> {
+    let apart = 7 * REACH + 1;
+    let events: Vec<Event> = (0..1_000)
+        .map(|place| Event {
+            cycle: place * apart,
+            pins: Command::Nop.pins(),
+        })
+        .collect();
+    bytes_of_edition(0, &PART, &events)
 }
 
 /// The same capture with its first events alone.
