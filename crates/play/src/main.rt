@@ -7,6 +7,7 @@ use console::program;
 use console::say;
 use console::say_number;
 use player::Played;
+ghost use Prim.Native.Nat.{_≤_};
 ghost use Rattle.io.specs.Counts.{Counts};
 
 const NAME: [u8; 4] = *b"play";
@@ -15,13 +16,13 @@ const UNDONE: [u8; 18] = *b"nothing was played";
 
 const MOST_WINDOW: usize = 16_384;
 
-// Sixteen words for each event, read or with their masks to be written.
+// Sixteen words for each event may be read.
 const MOST_READS: usize = 128_000;
 
-const MOST_WRITES: usize = 256_000;
+// The longest input is 262,144 bytes, and one byte more shows that one is longer.
+const ROOM: usize = 262_145;
 
-// One byte more than the longest input, so that a longer one is seen to be too long.
-const ROOM: usize = capture::MOST + 4 * (2 + MOST_WINDOW + MOST_WRITES) + 1;
+const MOST_WRITES: usize = 65_536;
 
 const DIGITS: [u8; 16] = *b"0123456789abcdef";
 
@@ -38,17 +39,22 @@ fn word_at(bytes: &[u8], at: usize) -> u32 {
     words::word_at(bytes, at)
 }
 
-fn lesser(a: usize, b: usize) -> usize {
+fn lesser(a: usize, b: usize) -> usize
+    ensures { λ r. ⌜ (r ≤ a) × (r ≤ b) ⌝ }
+{
     if a < b {
         return a;
     }
     b
 }
 
-// Words that stand from the first byte on.
-fn fill(out: &mut [u32], bytes: &[u8]) {
+// So many words that stand from the first byte on.
+fn fill(out: &mut [u32], count: usize, bytes: &[u8]) {
     let mut i: usize = 0;
     'words: while i < out.len() {
+        if count <= i {
+            return;
+        }
         out[i] = word_at(bytes, 4 * i);
         i += 1;
     }
@@ -108,52 +114,58 @@ fn print_words(out: &mut Out, reads: &[u32], read: usize) {
     }
 }
 
-fn print_cells(out: &mut Out, first: u32, window: &[u32]) {
+fn print_cells(out: &mut Out, first: u32, window: &[u32], size: usize) {
     let mut i: usize = 0;
     'cells: while i < window.len() {
+        if size <= i {
+            return;
+        }
         print_cell(out, (first as u64) + (i as u64 % 0x1_0000_0000), window[i]);
         i += 1;
     }
 }
 
-fn print_played(out: &mut Out, played: Played, first: u32, window: &[u32], reads: &[u32]) {
-    match played {
-        Played::Refused { number, place } => {
-            say_number(out, b"refused ", number);
-            say_number(out, b" place ", place);
-            say(out, b"\n");
-        }
-        Played::Words { read } => {
-            say_number(out, b"words ", read);
-            say(out, b"\n");
-            print_words(out, reads, read as usize);
-            print_cells(out, first, window);
-        }
-    }
+fn print_refused(out: &mut Out, number: u32, place: u32) {
+    say_number(out, b"refused ", number);
+    say_number(out, b" place ", place);
+    say(out, b"\n");
+}
+
+fn print_read(out: &mut Out, read: u32, reads: &[u32]) {
+    say_number(out, b"words ", read);
+    say(out, b"\n");
+    print_words(out, reads, read as usize);
 }
 
 // ---- the work
 
-// The capture, with the words behind it: a window of so many, and what is left to its writes.
-fn work(capture: &[u8], first: u32, size: usize, behind: &[u8]) {
-    let mut cells = [0u32; MOST_WINDOW + 1];
-    let mut supply = [0u32; MOST_WRITES];
-    let mut reads = [0u32; MOST_READS];
-    let lent = lesser(size, MOST_WINDOW + 1);
-    fill(&mut cells[..lent], behind);
-    let taken = lesser(4 * lent, behind.len());
-    let writes = lesser((behind.len() - taken) / 4, MOST_WRITES);
-    fill(&mut supply[..writes], &behind[taken..]);
-    let played = player::play(
-        capture,
-        first,
-        &mut cells[..lent],
-        &supply[..writes],
-        &mut reads,
-    );
+// On the first `size` words of the window, with so many words and masks.
+fn on(capture: &[u8], first: u32, window: &mut [u32], size: usize, writes: &[u32], supply: usize, reads: &mut [u32]) {
+    let lent = lesser(size, window.len());
+    let given = lesser(supply, writes.len());
+    let played = player::play(capture, first, &mut window[..lent], &writes[..given], reads);
     let mut out: Out = true;
-    print_played(&mut out, played, first, &cells[..lent], &reads);
+    match played {
+        Played::Refused { number, place } => print_refused(&mut out, number, place),
+        Played::Words { read } => {
+            print_read(&mut out, read, reads);
+            print_cells(&mut out, first, window, lent);
+        }
+    }
     program::end(&NAME, out, b"printed");
+}
+
+// The capture, and behind it the window and what is left to its writes.
+fn work(capture: &[u8], first: u32, size: usize, behind: &[u8]) {
+    let mut window = [0u32; MOST_WINDOW + 1];
+    let mut writes = [0u32; MOST_WRITES];
+    let mut reads = [0u32; MOST_READS];
+    fill(&mut window, size, behind);
+    let taken = lesser(4 * lesser(size, MOST_WINDOW + 1), behind.len());
+    let rest = &behind[taken..];
+    let supply = rest.len() / 4;
+    fill(&mut writes, supply, rest);
+    on(capture, first, &mut window, size, &writes, supply, &mut reads);
 }
 
 fn split(input: &[u8], total: usize) {

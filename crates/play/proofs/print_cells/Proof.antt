@@ -5,13 +5,16 @@ use Rattle.play.proofs.print_cells.Statement.{statement}
 use Rattle.play.proofs.print_cells.Tie as tie
 
 abbrev Inv-cells : tie.InvT-cells
-Inv-cells out₀ first window i₀ out i = Unit {0}
+Inv-cells out₀ first window size i₀ out i = Unit {0}
 
 abbrev μ-cells : tie.MeasureT-cells
-μ-cells out₀ first window i₀ out i = length window - i
+μ-cells out₀ first window size i₀ out i = length window - i
 
 cells-holds : tie.Need-cells-holds Inv-cells μ-cells
 cells-holds c = tt
+
+returns : tie.Need-returns Inv-cells μ-cells
+returns c = tt
 
 add-print-cell : tie.Need-add-print-cell Inv-cells μ-cells
 add-print-cell c = omega arith
@@ -34,8 +37,8 @@ cells-less c = omega arith
 cells-again : tie.Need-cells-again Inv-cells μ-cells
 cells-again c = tt
 
-returns : tie.Need-returns Inv-cells μ-cells
-returns c = tt
+returns-2 : tie.Need-returns-2 Inv-cells μ-cells
+returns-2 c = tt
 
 pub print-cells-spec : {M : Type 1} → statement M
 print-cells-spec =
@@ -44,6 +47,7 @@ print-cells-spec =
     Inv-cells
     μ-cells
     cells-holds
+    returns
     add-print-cell
     mul-print-cell
     shared-slice-read-print-cell
@@ -51,4 +55,4 @@ print-cells-spec =
     add-i
     cells-less
     cells-again
-    returns)
+    returns-2)
