@@ -1,5 +1,6 @@
-/* A hand-written judge, burst list, schedule writer, index of open rows, and reader and writer of
- * exports for document 01 and the customer requests that have landed, made for speed.
+/* A hand-written judge, burst list, schedule writer, index of open rows, and reader and
+ * writer of exports for document 01 and the customer requests that have landed, made for
+ * speed.
  *
  * Every answer is one number: bits 56-63 the refusal (0: none), bits 48-55 the broken
  * rule (0: none), bits 0-31 the place, the event, or the count: events judged, cells

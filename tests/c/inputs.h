@@ -40,3 +40,11 @@ static void event(uint8_t *capture, uint32_t settings, uint32_t i, uint32_t cycl
     put(capture + 24 + 4 * settings + 8 * i, cycle);
     put(capture + 24 + 4 * settings + 8 * i + 4, pins);
 }
+
+/* Of an export: a stamp of two bytes, and behind it the pins. Not every test has one. */
+__attribute__((unused)) static void record(uint8_t *records, uint32_t i, uint32_t stamp, uint32_t pins)
+{
+    records[6 * i] = (uint8_t)stamp;
+    records[6 * i + 1] = (uint8_t)(stamp >> 8);
+    put(records + 6 * i + 2, pins);
+}

@@ -28,6 +28,7 @@ use denote.Ref.{now}
 use Rattle.settings.proofs.Unique as settings
 use Rattle.part.proofs.Unique as part
 use Rattle.cells.proofs.Unique as cells
+use Rattle.player.proofs.Unique as player
 use Rattle.drafts.proofs.Unique as drafts
 use Rattle.serving.proofs.Unique as serving
 use Rattle.schedule.proofs.Unique as schedule

@@ -5,7 +5,9 @@ a complaint, and of a month the lines of the captures before; where standard out
 complaint.
 
 `stub.c` fails each open, read and write in turn, in every way; the rest are failures that systems have: a connection that is
-reset, a pipe that is nearly full, a disk that is, and streams that are closed."""
+reset, a pipe that is nearly full, a disk that is, and streams that are closed.
+
+    tests/faults/run.py [PROGRAM ..]     all programs, or these"""
 import errno
 import fcntl
 import functools
@@ -346,13 +348,16 @@ def main():
     with open(SETTINGS, "wb") as file:
         file.write(capture([]))
     subprocess.run([os.path.join(ROOT, "tests", "x86"), "library", "-o", STUB, os.path.join(HERE, "stub.c")], check=True)
+    names = sys.argv[1:] or DONE
     for name, data, text in RUNS:
-        everything(name, data, text)
-    for name in DONE:
+        if name in names:
+            everything(name, data, text)
+    for name in names:
+        first = next(run for run in RUNS if run[0] == name)
         complaint_goes_on(name)
-        named(*next(run for run in RUNS if run[0] == name))
-    for name in BEFORE:
-        settings_file(*next(run for run in RUNS if run[0] == name))
+        named(*first)
+        if name in BEFORE:
+            settings_file(*first)
     print(f"faults: {len(held)} expectations, {held.count(False)} wrong")
     return 0 if all(held) else 1
 

@@ -73,7 +73,7 @@ fn records_of(t: Tally) -> [Bank; 4]
             count: zeroth,
         },
         Bank {
-            before: first,
+            before: zeroth,
             count: first,
         },
         Bank {

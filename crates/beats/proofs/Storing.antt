@@ -31,13 +31,15 @@ module _ (first mode column : ℕ) where
   no-cells = refl
 
   -- by the block that holds the column
+  pub beat-in-block : (v : Bool) (beat : ℕ) {size : ℕ} → interleaved mode ≡ v → size ≡ BL mode →
+      first + column / size * size + placeIn v size column beat ≡ first + beatColumn mode column beat
+  unfolding beatColumn place
+  beat-in-block v beat e f = rw f (add-assoc first (column / BL mode * BL mode) (placeIn v (BL mode) column beat) ∙ rw e)
+
   pub in-block : (v : Bool) (beats : ℕ) {size : ℕ} → interleaved mode ≡ v → size ≡ BL mode →
       blockCells v (first + column / size * size) size column beats ≡ beatCells first mode column beats
-  unfolding beatCells beatColumn place
-  in-block v beats e f =
-      rw f
-      (ap (λ (g : ℕ → ℕ). map g (count 0 beats))
-      (fun-ext (λ j. add-assoc first (column / BL mode * BL mode) (placeIn v (BL mode) column j) ∙ rw e)))
+  unfolding beatCells
+  in-block v beats e f = ap (λ (g : ℕ → ℕ). map g (count 0 beats)) (fun-ext (λ j. beat-in-block v j e f))
 
 -- ---- one cell behind the other, by beat
 

@@ -18,7 +18,7 @@ ghost use lib.Dec.{eqb};
 ghost use Rattle.reading.specs.Search.{lesser};
 ghost use Rattle.reading.specs.Settings.{settingsOf};
 ghost use Rattle.reading.specs.Capture.{eventAt};
-ghost use Rattle.reading.specs.Bursts.{columnOf};
+ghost use Rattle.reading.specs.Bursts.{columnOf, beatColumn};
 ghost use Rattle.pins.specs.Pins.{codeOf, bankOf, addressOf, modeAfter};
 ghost use Rattle.beats.specs.Kept.{Fit, namesBank, shutsBank, cutsBurst, eventsFrom, cutAhead, nextLeaves, takesBank, rowLeaves, interruptedAhead, keptWhole};
 ghost use Rattle.beats.specs.Kept as is;
@@ -191,6 +191,19 @@ pub fn write_burst(out: &mut [u32], at: usize, first: u32, mode: u32, column: u3
         return;
     }
     write_sequential(out, at, block, length, column, pairs);
+}
+
+// The cell of one beat, in the row whose first cell is `first`.
+pub fn beat_cell(first: u32, mode: u32, column: u32, beat: u32) -> u32
+    requires { ⌜ (first < 2 ^ 27) × ((column < 2048) × (beat < 128)) ⌝ }
+    ensures { λ r. ⌜ r ≡ first + beatColumn mode column beat ⌝ }
+{
+    let length = mode::burst_length(mode);
+    let block = first + column / length * length;
+    if mode::interleaved(mode) {
+        return block + (column % length ^ beat);
+    }
+    block + (column + beat) % length
 }
 
 // ---- kept pairs

@@ -1,28 +1,16 @@
 // A capture with its addresses blanked on standard output. What is no capture has no output: a refusal is told on standard
 // error, so that it is never taken for one.
 use console::Out;
-use console::complain;
-use console::line::put;
-use console::line::put_number;
 use console::program;
 use console::say;
 use hidden::Blanked;
 
 const NAME: [u8; 5] = *b"blank";
 
+const UNDONE: [u8; 19] = *b"nothing was written";
+
 // One byte more than the longest capture, so that a longer input is seen to be too long and nothing is blanked in part.
 const ROOM: usize = capture::MOST + 1;
-
-fn refuse(number: u32, place: u32) {
-    let mut line = [0u8; 80];
-    let mut at = put(&mut line, 0, &NAME);
-    at = put(&mut line, at, b": refused ");
-    at = put_number(&mut line, at, number as u64);
-    at = put(&mut line, at, b" place ");
-    at = put_number(&mut line, at, place as u64);
-    at = put(&mut line, at, b"; nothing was written\n");
-    complain(&line[..at]);
-}
 
 fn write(blanked: &[u8]) {
     let mut out: Out = true;
@@ -34,7 +22,13 @@ fn blank(capture: &[u8]) {
     let mut room = [0u8; capture::MOST];
     let blanked = hidden::blank(capture, &mut room);
     match blanked {
-        Blanked::Refused { number, place } => refuse(number, place),
+        Blanked::Refused { number, place } => program::refuse(
+            &NAME,
+            b": refused ",
+            number,
+            place,
+            &UNDONE,
+        ),
         Blanked::Written { bytes } => write(&room[..bytes as usize]),
     }
 }
@@ -49,7 +43,7 @@ Writes a capture of a Mobile DDR bus to standard output, its row and column
 addresses blanked; it is judged like the original. What is no capture has no
 output, and standard error says `refused NUMBER place PLACE`.
 ",
-        b"nothing was written",
+        &UNDONE,
         &mut buffer,
     );
     if !given.work {

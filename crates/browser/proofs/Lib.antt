@@ -1,2 +1,3 @@
--- What stands at a position of a capture.
+-- What stands at a position of a capture; what captures and readers own.
 pub mod Seeing
+pub mod Owning

@@ -11,6 +11,7 @@ use borrow.Author.Tests.{eq-eqb, ne-eqb}
 use lib.Dec.{eqb}
 use lib.ListN.{getD}
 use Rattle.reading.specs.Search.{find, count}
+use Rattle.reading.specs.Mode.{h}
 use Rattle.reading.specs.Settings.{Settings, settingsOf}
 use Rattle.reading.specs.Capture.{Event, eventAt}
 use Rattle.reading.specs.Bursts.{Burst, columnOf}
@@ -25,11 +26,11 @@ use Rattle.beats.specs.Kept.{eventsFrom, keptOf}
 use Rattle.beats.specs.Rows.{InRow, firstInRow}
 use Rattle.beats.proofs.Events.{next-event, no-event, events-rise, rise-behind}
 use Rattle.capture.proofs.Rising.{Rises}
-use Rattle.beats.proofs.Looking.{kept-le}
+use Rattle.beats.proofs.Looking.{kept-le, kept-half}
 use Rattle.beats.proofs.Ahead.{burstLeft, eventBursts, burstsFrom, bursts-ahead, eventCells, cellsFrom, cells-ahead}
 use Rattle.cells.specs.Meaning.{toldOf, toldBy, givenBy, Listable, Clean, burstsOn, burstAt, At, modeAt, cellsOn}
 use Rattle.cells.proofs.Alone.{fitting, each-alone}
-use Rattle.cells.proofs.Rows.{first-at, mode-next, row-at}
+use Rattle.cells.proofs.Rows.{first-at, none-opened, mode-stays, mode-next, rows-next, row-at}
 
 -- a burst, if there is one
 abbrev pub listed : Option Burst → List Burst
@@ -161,20 +162,40 @@ module _ (settings bytes : List ℕ) (n : ℕ) where
           go true = ap some same
           go false = refl
 
-      -- its mode word is that of then, and its cells are in a row of the part
+      -- its mode word is that of then, it keeps no more than all its pairs, and its cells are in a row of the part
       pub record Placed (x : Burst) : Type 0 where
         pub moded : x .mode ≡ modeAt s bytes i
+        pub given : x .k ≡ e i .cycle
+        pub kept : x .n ≤ h (x .mode)
         pub in-row : InRow (firstInRow s (x .bank) (x .row)) (x .column) (x .n)
 
       pub placed : {x : Burst} → burstAt s bytes n i ≡ some x → Placed x
       placed {x} f = go (gives (e i .pins)) (sym f ∙ burst-found)
         where
           here : Placed (burstLeft s (p i) (e i) (later i))
-          here = record { moded = refl; in-row = row-at s bytes (z .sized) i _ (addressOf (e i .pins)) (omega arith) (kept-le s (p i .mode) (e i) (later i)) }
+          here =
+              record {
+                moded = refl;
+                given = refl;
+                kept = kept-half s (p i .mode) (e i) (later i);
+                in-row = row-at s bytes (z .sized) i _ (addressOf (e i .pins)) (omega arith) (kept-le s (p i .mode) (e i) (later i));
+              }
 
           go : (v : Bool) → some x ≡ cond v (some (burstLeft s (p i) (e i) (later i))) none → Placed x
           go true q = let same : burstLeft s (p i) (e i) (later i) ≡ x = cc in subst Placed same here
           go false q = let zero-one : _≡_ {A = ℕ} 0 1 = cc in absurd (omega arith)
+
+      -- first cells and mode word stay behind it
+      pub stays : {x : Burst} → burstAt s bytes n i ≡ some x → {firsts : List ℕ} {mode : ℕ} → At s bytes i firsts mode → At s bytes (i + 1) firsts mode
+      stays {x} f {firsts} {mode} a = go (gives (e i .pins)) refl (sym f ∙ burst-found)
+        where
+          go : (v : Bool) → gives (e i .pins) ≡ v → some x ≡ cond v (some (burstLeft s (p i) (e i) (later i))) none → At s bytes (i + 1) firsts mode
+          go true g q =
+              record {
+                rowed = rows-next s bytes i refl (a .rowed) (none-opened (e i .pins) g s firsts);
+                moded = mode-next s bytes i refl (a .moded) (mode-stays (e i .pins) g mode);
+              }
+          go false g q = let zero-one : _≡_ {A = ℕ} 0 1 = cc in absurd (omega arith)
 
       -- the bursts from here on, by it
       pub burst-next : rest i ≡ listed (burstAt s bytes n i) ++ rest (i + 1)

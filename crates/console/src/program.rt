@@ -26,7 +26,7 @@ pub struct Given {
     pub size: usize,
 }
 
-const NOTHING: Given = Given {
+pub const NOTHING: Given = Given {
     work: false,
     size: 0,
 };
@@ -102,6 +102,20 @@ pub fn complain_unread(name: &[u8], place: usize, undone: &[u8]) {
     complain_of(name, place, b" could not be read to its end", undone);
 }
 
+// That something is refused; `what` says of which thing.
+pub fn refuse(name: &[u8], what: &[u8], number: u32, place: u32, undone: &[u8]) {
+    let mut line = [0u8; 160];
+    let mut at = put(&mut line, 0, name);
+    at = put(&mut line, at, what);
+    at = put_number(&mut line, at, number as u64);
+    at = put(&mut line, at, b" place ");
+    at = put_number(&mut line, at, place as u64);
+    at = put(&mut line, at, b"; ");
+    at = put(&mut line, at, undone);
+    at = put(&mut line, at, b"\n");
+    complain(&line[..at]);
+}
+
 // ---- before the work
 
 // The version in its three numbers.
@@ -171,9 +185,14 @@ fn opened(place: usize) -> i32 {
     open_path(&path[..n])
 }
 
-// What argument `place` names; standard input for place 0 and for `-`.
+// Place 0 and `-` stand for standard input.
+pub fn standard(place: usize) -> bool {
+    place == 0 || arguments::is(place, b"-")
+}
+
+// What argument `place` names.
 pub fn open(name: &[u8], place: usize, undone: &[u8]) -> Source {
-    if place == 0 || arguments::is(place, b"-") {
+    if standard(place) {
         return Source::Open {
             fd: STDIN_FILENO,
             place: 0,

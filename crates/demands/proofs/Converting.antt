@@ -58,7 +58,7 @@ module _ (x ws : List ℕ) (edition : ℕ) (out : List ℕ) where
   readAnswer = unless 2 (given 0 wrong) (unless 3 (badSetting ws) behind3)
 
   -- settings and edition
-  right : wrong ≡ false → (length ws ≡ 14) × (edition ≤ 1)
+  pub right : wrong ≡ false → (length ws ≡ 14) × (edition ≤ 1)
   right e = go (eqb (length ws) settingsCount) (ltb newestEdition edition) refl refl e
     where
       go : (a b : Bool) → eqb (length ws) settingsCount ≡ a → ltb newestEdition edition ≡ b → (not a || b) ≡ false → (length ws ≡ 14) × (edition ≤ 1)
@@ -76,9 +76,9 @@ module _ (x ws : List ℕ) (edition : ℕ) (out : List ℕ) where
 
   wrong-is : (length ws ≡ 14 → ⊥) ⊎ (1 < edition) → wrong ≡ true
   wrong-is (inl f) = rw (ne-eqb (length ws) settingsCount f)
-  wrong-is (inr l) = ap (λ (b : Bool). not (eqb (length ws) settingsCount) || b) (lt-ltb newestEdition edition l) ∙ or-true _
+  wrong-is (inr l) = ap (λ (b : Bool). not (eqb (length ws) settingsCount) || b) (lt-ltb newestEdition edition l) ∙ or-true (not (eqb (length ws) settingsCount))
 
-  right-is : length ws ≡ 14 → edition ≤ 1 → wrong ≡ false
+  pub right-is : length ws ≡ 14 → edition ≤ 1 → wrong ≡ false
   right-is f l = rw (eq-eqb (length ws) settingsCount f, le-ltb newestEdition edition l)
 
   long : length ws ≡ 14 → length capture ≡ captureSize 14 (recordCount x)
@@ -126,7 +126,7 @@ module _ (x ws : List ℕ) (edition : ℕ) (out : List ℕ) where
       where
         go : ((number ≡ 3) × (badSetting ws ≡ some place)) ⊎ ((badSetting ws ≡ none) × (behind3 ≡ refused number place)) → ReadRefused x ws edition out number place
         go (inl (n, b)) = case.ReadRefused.setting c l n b
-        go (inr (b, f)) = at-11 (record { fine = record { count = c; each = b }; edition = l }) f
+        go (inr (b, f)) = at-11 (record { fine = record { count = c; each = b }; is-there = l }) f
 
     read-case : readOutcome x ws edition out .answer ≡ refused number place → ReadRefused x ws edition out number place
     unfolding readOutcome
@@ -145,7 +145,7 @@ module _ (x ws : List ℕ) (edition : ℕ) (out : List ℕ) where
     tested e f g h k = sym (refused-meets ((λ i. unless 2 (e i) (unless 3 (f i) (unless 11 (g i) (unless 4 (h i) behind4)))) ∙ k) .0)
 
     fit : Known ws edition → given 0 wrong ≡ none
-    fit k = ap (given 0) (right-is (k .fine .count) (k .edition))
+    fit k = ap (given 0) (right-is (k .fine .count) (k .is-there))
 
     case-read : ReadRefused x ws edition out number place → readOutcome x ws edition out .answer ≡ refused number place
     unfolding badExport
@@ -216,10 +216,10 @@ module _ (c out : List ℕ) where
         by : (countIn c ≡ 14) ⊎ (countIn c ≡ 16) → WriteRefused c out number place
         by (inr k) = case.WriteRefused.sleeps h k n p
         by (inl k) =
-            far k (ltb reach (firstCycle (eventsOf c))) (ltb mostRecords (length (bridged (eventsOf c)))) refl refl (rw (eq-eqb (countIn c) 14 k, k) at e)
+            far k (ltb reach (firstCycle (eventsOf c))) (ltb mostRecords (length (bridged (eventsOf c)))) refl refl (rw k at e)
 
   -- what may
-  writable : unwritable c ≡ false → Exportable c
+  pub writable : unwritable c ≡ false → Exportable c
   unfolding unwritable
   writable e = by counts
     where
@@ -241,7 +241,7 @@ module _ (c out : List ℕ) where
           sixteen k = let t : _≡_ {A = Bool} true false = sym (rw k) ∙ e in cc
       by (inl k) = near k (ltb reach (firstCycle (eventsOf c))) (ltb mostRecords (length (bridged (eventsOf c)))) refl refl (rw k at e)
 
-  exportable : Exportable c → unwritable c ≡ false
+  pub exportable : Exportable c → unwritable c ≡ false
   unfolding unwritable
   exportable w =
       rw (

@@ -14,6 +14,7 @@ use Rattle.reading.specs.Capture.{Event, mostEvents, captureSize, countIn, even
 use Rattle.reading.specs.Commands.{commandOf}
 use Rattle.reading.specs.Part.{start}
 use Rattle.reading.specs.Rules.{rule14}
+use Rattle.reading.specs.Search as search
 use Rattle.reading.specs.Verdict as is
 use Rattle.reading.specs.Schedule.{captureIn}
 use Rattle.reading.specs.Answers.{Answer, Report, refused, answered, unless, accepted, settingsIn, judgeAnswer, fitting, leaves}
@@ -74,7 +75,7 @@ module _ (x ws : List ℕ) (edition : ℕ) (out left : List ℕ) (n : ℕ) (a : 
       let (c, l) = right x ws edition out (not-given 0 _ two) in
       let same = fits out (captureIn edition ws (recordsOf x)) h .0 in
       record {
-        known = record { fine = record { count = c; each = three }; edition = l };
+        known = record { fine = record { count = c; each = three }; is-there = l };
         fine = eleven;
         low = four;
         is = ap (take n) (a .1) ∙ w .front ∙ sym same;
@@ -83,6 +84,11 @@ module _ (x ws : List ℕ) (edition : ℕ) (out left : List ℕ) (n : ℕ) (a : 
             ∙ (λ i. captureSize (c i) (records-count x i));
         behind = ap (drop n) (a .1) ∙ w .behind;
       }
+
+-- What is read is the records as a capture of those settings and that edition, byte for byte.
+pub read-whole : (x ws : List ℕ) (edition : ℕ) (out left : List ℕ) (n : ℕ) → ReadsExport x ws edition out (Written n) left →
+    (take n left ≡ captureIn edition ws (recordsOf x)) × (n ≡ captureSize 14 (recordCount x))
+read-whole x ws edition out left n a = let r = was-read x ws edition out left n a in (r .is, r .long)
 
 -- Bytes of the buffer behind what was read stay.
 pub read-behind : (x ws : List ℕ) (edition : ℕ) (out left : List ℕ) (n : ℕ) → ReadsExport x ws edition out (Written n) left → drop n left ≡ drop n out
@@ -95,7 +101,7 @@ module _ (x ws : List ℕ) (edition : ℕ) (out left : List ℕ) (n : ℕ) (a : 
   made : whole.Whole edition ws (recordsOf x)
   made =
       let r = read in
-      records.whole x bytes (whole-records x (r .fine)) (r .low) (r .known .edition) (r .known .fine .count) (r .known .fine .each)
+      records.whole x bytes (whole-records x (r .fine)) (r .low) (r .known .is-there) (r .known .fine .count) (r .known .fine .each)
 
   captured-read : {A : Type 0} (rest : Answer A) → accepted (take n left) rest ≡ rest
   captured-read rest = ap (λ (c : List ℕ). accepted c rest) (read .is) ∙ whole.captured made rest
@@ -114,12 +120,21 @@ pub read-settings : (x ws : List ℕ) (edition : ℕ) (out left : List ℕ) (n :
 read-settings x ws edition out left n a b =
     ap settingsIn (read x ws edition out left n a b .is) ∙ whole.captured-settings (made x ws edition out left n a b)
 
+pub read-given : (x ws : List ℕ) (edition : ℕ) (out left : List ℕ) (n : ℕ) → ReadsExport x ws edition out (Written n) left → Bytes x →
+    (settingWords (take n left) ≡ ws) × (editionIn (take n left) ≡ edition)
+read-given x ws edition out left n a b =
+    let same = read x ws edition out left n a b .is in (
+      ap settingWords same ∙ whole.settings-back (made x ws edition out left n a b),
+      ap editionIn same ∙ whole.named (made x ws edition out left n a b),
+    )
+
 -- ---- what was written
 
 record Exported (c out left : List ℕ) (n : ℕ) : Type 0 where
   open-to : Accepted c
   may : Exportable c
   is : take n left ≡ exportOf (bridged (eventsOf c))
+  long : n ≡ 6 * eventsWithNops c
   behind : drop n left ≡ drop n out
 
 module _ (c out left : List ℕ) (n : ℕ) (a : WritesExport c out (Written n) left) where
@@ -134,8 +149,14 @@ module _ (c out left : List ℕ) (n : ℕ) (a : WritesExport c out (Written n) l
         open-to = h;
         may = writable c out (not-given 0 (unwritable c) twelve);
         is = ap (take n) (a .1) ∙ w .front ∙ sym same;
+        long = w .count ∙ sym (ap length same) ∙ export-length (bridged (eventsOf c));
         behind = ap (drop n) (a .1) ∙ w .behind;
       }
+
+-- What is written is the events and those NOPs as records, byte for byte.
+pub write-whole : (c out left : List ℕ) (n : ℕ) → WritesExport c out (Written n) left →
+    (take n left ≡ exportOf (bridged (eventsOf c))) × (n ≡ 6 * eventsWithNops c)
+write-whole c out left n a = let w = was-written c out left n a in (w .is, w .long)
 
 -- Bytes of the buffer behind what was written stay.
 pub write-behind : (c out left : List ℕ) (n : ℕ) → WritesExport c out (Written n) left → drop n left ≡ drop n out
@@ -328,7 +349,7 @@ broken-moves-up c out left n a rule event cycle j kept q k =
 
 -- Exactly what is reported, whichever rules it breaks: the first NOP between it and the event before at which more than eight
 -- refreshes are owed, with rule 14; or else the event.
-pub broken-exactly : (c out left : List ℕ) (n : ℕ) → WritesExport c out (Written n) left → (rule event cycle : ℕ) →
+pub broken-exactly : (c out left : List ℕ) (n : ℕ) (a : WritesExport c out (Written n) left) (rule event cycle : ℕ) →
     (j : Judges c (Broken (eventCount c) event rule event cycle)) →
     is.verdictOf (settingsIn (withNops c)) (eventsOf (withNops c)) ≡
     lateOr (lateNop (settingsIn c) (clock c out left n a rule event cycle j) (before c out left n a rule event cycle j) cycle)
@@ -339,6 +360,20 @@ broken-exactly c out left n a rule event cycle j =
     let made = made-now c out left n a in
     (λ i. is.verdictOf (whole.captured-settings made i) (whole.events-back made i))
     ∙ nops.moved (settingsIn c) (eventsOf c) (high-now c out left n a) rule event cycle (reported c out left n a rule event cycle j)
+
+-- The judge says so, whatever it may answer.
+pub broken-told : (c out left : List ℕ) (n : ℕ) (a : WritesExport c out (Written n) left) (rule event cycle : ℕ)
+    (j : Judges c (Broken (eventCount c) event rule event cycle)) (q : Verdict) → Judges (withNops c) q →
+    judged.means q ≡
+    report c out left n a
+    (lateOr (lateNop (settingsIn c) (clock c out left n a rule event cycle j) (before c out left n a rule event cycle j) cycle)
+    (before c out left n a rule event cycle j)
+    (up c out left n a rule event cycle j - between (before c out left n a rule event cycle j) cycle)
+    (is.broken rule (up c out left n a rule event cycle j) cycle))
+broken-told c out left n a rule event cycle j q k =
+    k
+    ∙ saying c out left n a _
+    (nops.moved (settingsIn c) (eventsOf c) (high-now c out left n a) rule event cycle (reported c out left n a rule event cycle j))
 
 -- So it is reported, moved up; or one of the NOPs between it and the event before is, with rule 14.
 pub moved-or-late : (c out left : List ℕ) (n : ℕ) → WritesExport c out (Written n) left → (rule event cycle : ℕ) →
@@ -399,8 +434,8 @@ module _ (x ws : List ℕ) (edition : ℕ) (out left : List ℕ) (n : ℕ) (a : 
   writes-to lent =
       ap (λ (y : Answer (List ℕ)). leaves y lent)
       (captured-read x ws edition out left n a bytes (rest (take n left) lent)
-      ∙ rw (exportable (take n left) lent may-write)
-      (ap (fitting lent) export-is))
+      ∙ (ap (λ (b : Bool). unless 12 (search.given 0 b) (fitting lent (exportOf (bridged (eventsOf (take n left)))))) (exportable (take n left) lent may-write)
+      ∙ ap (fitting lent) export-is))
 
 -- Writing what was read gives every export back.
 pub write-back : (x ws : List ℕ) (edition : ℕ) (out left : List ℕ) (n : ℕ) → ReadsExport x ws edition out (Written n) left → Bytes x →

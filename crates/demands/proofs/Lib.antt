@@ -8,6 +8,8 @@ pub mod Scheduling
 pub mod WithoutSix
 pub mod EditionZero
 pub mod Blanking
+mod Windows
+pub mod Playing
 pub mod Unaccepted
 pub mod Judged
 pub mod Converting

@@ -1,7 +1,7 @@
 -- Recordings, which have no limit but what a header's words can state: demands 1 and 2, about whatever the contract of
 -- `judge::judge_to` allows; and what they are to captures.
 use Prim.Native.Nat.{ℕ, _^_, _≤_, _<_}
-use mathlib.Core.Bool.{Bool, true, false, not, and-false}
+use mathlib.Core.Bool.{Bool, true, false, not, _&&_, and-false}
 use mathlib.Core.List.{List}
 use mathlib.Core.Logic.{_↔_, _⊎_, inl, inr}
 use mathlib.Core.Option.{Option, none, some}
@@ -9,11 +9,11 @@ use mathlib.Core.Path.{_≡_, refl, sym, ap, _∙_}
 use native.Mathlib.Decide.{decLt}
 use native.Mathlib.Omega.{arith}
 use borrow.Author.Tests.{eqb-true, eq-eqb, ne-eqb, le-leb, lt-leb}
-use lib.Dec.{eqb}
+use lib.Dec.{leb, eqb}
 use lib.ListN.{length}
 use Rattle.reading.specs.Search.{given}
 use Rattle.reading.specs.Settings.{badSetting}
-use Rattle.reading.specs.Capture.{mostEvents, mostRecorded, headerWord, countIn, eventCount, eventsStart, captureSize, settingWords, eventBytes, lengthFitsTo, headerFitsTo, pinLimit, badEvent}
+use Rattle.reading.specs.Capture.{mostEvents, mostRecorded, headerWord, countIn, eventCount, editionIn, newestEdition, settingsStart, eventsStart, captureSize, settingWords, eventBytes, lengthFitsTo, headerFitsTo, pinLimit, badEvent}
 use Rattle.reading.specs.Answers.{Answer, refused, answered, unless, acceptedTo, accepted, judgeAnswerTo, judgeAnswer, leaves, cellsOutcome}
 use Rattle.reading.specs.Blank.{blankOutcome}
 use Rattle.words.proofs.Bytes.{Bytes}
@@ -68,6 +68,11 @@ recording-never-15 = never-15-to mostRecorded
 
 -- ---- limits, one above the other
 
+-- alike where the last of what is asked is so
+where-last : (a b last : Bool) → (last ≡ true → a ≡ b) → (a && last) ≡ (b && last)
+where-last a b true h = ap (λ (x : Bool). x && true) (h refl)
+where-last a b false h = and-false a ∙ sym (and-false b)
+
 module _ (most more : ℕ) (wider : most ≤ more) (capture : List ℕ) (within : length capture ≤ captureSize (countIn capture) most) where
   same-length : lengthFitsTo most capture ≡ lengthFitsTo more capture
   unfolding lengthFitsTo
@@ -77,16 +82,24 @@ module _ (most more : ℕ) (wider : most ≤ more) (capture : List ℕ) (within 
         le-leb (length capture) (captureSize (countIn capture) more) (omega arith),
       )
 
+  -- the header but for its total, by what is said of how many events there may be
+  abbrev but-total : Bool → Bool
+  but-total few =
+      eqb (headerWord capture 1) (countIn capture)
+      && eqb (headerWord capture 2) settingsStart
+      && few
+      && eqb (headerWord capture 4) (eventsStart (countIn capture))
+      && leb (editionIn capture) newestEdition
+
   same-header : lengthFitsTo most capture ≡ true → headerFitsTo most capture ≡ headerFitsTo more capture
   unfolding headerFitsTo
-  same-header h = go (eqb (headerWord capture 0) (captureSize (countIn capture) (eventCount capture))) refl
-    where
-      go : (v : Bool) → eqb (headerWord capture 0) (captureSize (countIn capture) (eventCount capture)) ≡ v → headerFitsTo most capture ≡ headerFitsTo more capture
-      go false e = rw e (and-false _ ∙ sym (and-false _))
-      go true e =
-          let total = eqb-true (headerWord capture 0) (captureSize (countIn capture) (eventCount capture)) e in
-          let few : eventCount capture ≤ most = omega (arith, stated capture most h) in
-          rw (le-leb (eventCount capture) most few, le-leb (eventCount capture) more (omega arith))
+  same-header h =
+      where-last (but-total (leb (eventCount capture) most)) (but-total (leb (eventCount capture) more))
+      (eqb (headerWord capture 0) (captureSize (countIn capture) (eventCount capture)))
+      (λ e.
+      let total = eqb-true (headerWord capture 0) (captureSize (countIn capture) (eventCount capture)) e in
+      let few : eventCount capture ≤ most = omega (arith, stated capture most h) in
+      ap but-total (le-leb (eventCount capture) most few ∙ sym (le-leb (eventCount capture) more (omega arith))))
 
   same-accepted : {A : Type 0} (rest : Answer A) → acceptedTo most capture rest ≡ acceptedTo more capture rest
   unfolding acceptedTo
@@ -186,7 +199,11 @@ recording-length recording bytes = (
     go : openedTo mostRecorded recording ≡ refused 1 0 → Dec (length recording < eventsStart (countIn recording)) →
         (length recording < eventsStart (countIn recording)) ⊎ (headerWord recording 0 ≡ length recording → ⊥)
     go e (yes l) = inl l
-    go e (no l) = inr (λ s. never _ _ _ (rw (length-right recording bytes (omega arith) s) at e))
+    go e (no l) =
+        inr
+        (λ s.
+        never (given 0 (not (headerFitsTo mostRecorded recording))) (badSetting (settingWords recording))
+        (badEvent (pinLimit recording) (eventBytes recording) (eventCount recording)) (rw (length-right recording bytes (omega arith) s) at e))
 
 -- Never with 2 for how many events its header counts: no word counts more than a recording may have.
 pub recording-unlimited : (recording : List ℕ) → Bytes recording → eventCount recording ≤ mostRecorded

@@ -16,7 +16,7 @@ use Rattle.demands.specs.Refused.{Accepted, Fine}
 -- settings that fit, and an edition that there is
 pub record Known (ws : List ℕ) (edition : ℕ) : Type 0 where
   pub fine : Fine ws
-  pub edition : edition ≤ 1
+  pub is-there : edition ≤ 1
 
 -- an export that is to be read
 pub data ReadRefused (x ws : List ℕ) (edition : ℕ) (out : List ℕ) (number place : ℕ) : Type 0 where

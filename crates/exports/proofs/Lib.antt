@@ -8,3 +8,4 @@ pub mod Outgoing
 pub mod Back
 pub mod Records
 pub mod Unique
+pub mod Within

@@ -27,11 +27,19 @@ const NEWEST_EDITION: u32 = 1;
 const PINS: u32 = 1 << 20;
 
 // A record is a stamp of two bytes, and behind it the pins.
-const RECORD: usize = 6;
+pub const RECORD: usize = 6;
 
 const STAMP: usize = 2;
 
 const MOST_RECORDS: usize = 8_000;
+
+// The first record that there may not be.
+const TOO_MANY: u32 = MOST_RECORDS as u32;
+
+// The bytes of the longest export, and of the longest capture that is read from one.
+pub const LONGEST: usize = RECORD * MOST_RECORDS;
+
+pub const LONGEST_READ: usize = capture::EVENTS + 8 * MOST_RECORDS;
 
 // The furthest that a stamp can tell, where it goes round, and the pins of a NOP.
 const REACH: u32 = 65_535;
@@ -90,7 +98,7 @@ fn bad_export(records: &[u8]) -> Found
         return Found::At(0);
     }
     if MOST_RECORDS < n {
-        return Found::At(MOST_RECORDS as u32);
+        return Found::At(TOO_MANY);
     }
     lowest_standing(records, n)
 }
@@ -223,7 +231,7 @@ fn too_far(bytes: &[u8], n: usize, records: u32) -> bool
     if REACH < capture::cycle_at(bytes, 0) {
         return true;
     }
-    (MOST_RECORDS as u32) < records
+    TOO_MANY < records
 }
 
 fn put_record(out: &mut [u8], at: usize, cycle: u32, pins: u32)
@@ -283,7 +291,8 @@ fn store(bytes: &[u8], n: usize, records: u32, out: &mut [u8]) -> Converted
     Converted::Written { bytes: size }
 }
 
-// This capture as an export, with NOPs where events are further apart than stamps can tell; bytes behind it in the buffer stay.
+// This capture as an export, with NOPs where events are further apart than stamps can tell; bytes behind it in the buffer
+// stay.
 pub fn write(capture: &[u8], out: &mut [u8]) -> Converted
     ensures { λ r. ⌜ means r ≡ writeOutcome (now (capture .entry)) (now (out .entry)) .answer ⌝ }
     ensures { λ r. ⌜ now (out .exit) ≡ writeOutcome (now (capture .entry)) (now (out .entry)) .buffer ⌝ }

@@ -1,4 +1,5 @@
 // The lines of events.
+use crate::open::say_open;
 use console::Out;
 use console::say;
 use console::say_number;
@@ -133,12 +134,16 @@ fn say_event(out: &mut Out, settings: &Settings, pins: u32) {
     }
 }
 
-fn print_event(out: &mut Out, settings: &Settings, mark: &[u8], i: u32, event: Event) {
+fn say_line(out: &mut Out, settings: &Settings, mark: &[u8], i: u32, event: Event) {
     say(out, mark);
     say_number(out, b" event ", i);
     say_number(out, b" cycle ", event.cycle);
     say(out, b" ");
     say_event(out, settings, event.pins);
+}
+
+fn print_event(out: &mut Out, settings: &Settings, mark: &[u8], i: u32, event: Event) {
+    say_line(out, settings, mark, i, event);
     say(out, b"\n");
 }
 
@@ -250,8 +255,15 @@ fn end_listed(broken: u32, n: u32) -> u32
     broken + FROM_BROKEN
 }
 
+// A judged event has the rows beside it that stand open after it.
 fn print_listed(out: &mut Out, settings: &Settings, capture: &[u8], broken: u32, i: u32) {
     let event = event_at(capture, i);
+    if i < broken {
+        say_line(out, settings, b" ", i, event);
+        say_open(out, capture, i + 1);
+        say(out, b"\n");
+        return;
+    }
     if i == broken {
         print_event(out, settings, b">", i, event);
         return;

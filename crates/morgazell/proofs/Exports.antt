@@ -10,7 +10,7 @@ use lib.Dec.{eqb, ltb}
 use lib.ListN.{length}
 use Rattle.reading.specs.Search.{orElse, given, lowest}
 use Rattle.reading.specs.Settings.{settingsCount, badSetting}
-use Rattle.reading.specs.Capture.{newestEdition, eventsOf}
+use Rattle.reading.specs.Capture.{mostEvents, newestEdition, eventsOf}
 use Rattle.reading.specs.Schedule.{captureIn}
 use Rattle.reading.specs.Answers.{unless, fitting}
 use Rattle.reading.specs.Export.{mostRecords, recordCount, recordsOf, stands, badExport, badPins, readOutcome, bridged, exportOf, unwritable, writeOutcome}
@@ -68,7 +68,7 @@ read-fits x ws edition buffer = go (given 0 wrong) (badSetting ws) (badExport x)
 pub write-fits : (capture buffer : List ℕ) → Fits (countTold (writeOutcome capture buffer .answer))
 unfolding writeOutcome
 write-fits capture buffer =
-    on-accepted (Filled buffer) capture _ (λ number place n v. (n, v)) (λ open-to. go (unwritable capture) refl)
+    on-accepted (Filled buffer) mostEvents (omega arith) capture _ (λ number place n v. (n, v)) (λ open-to. go (unwritable capture) refl)
   where
     export : List ℕ
     export = exportOf (bridged (eventsOf capture))

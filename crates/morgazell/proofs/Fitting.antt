@@ -146,7 +146,7 @@ module _ (capture : List ℕ) (short : Value (eventCount capture)) where
   verdict-fits is.clean e = omega arith
   verdict-fits (is.broken rule event cycle) e = broken-fits rule event cycle e
 
-  not-clean-fits : (v : is.Verdict) → verdictIn capture ≡ v → (place : ℕ) → notClean v ≡ some place → Value place
+  pub not-clean-fits : (v : is.Verdict) → verdictIn capture ≡ v → (place : ℕ) → notClean v ≡ some place → Value place
   not-clean-fits is.clean e place f = let z : _≡_ {A = ℕ} 0 1 = cc in absurd (omega arith)
   not-clean-fits (is.broken rule event cycle) e place f =
       let z : event ≡ place = cc in
@@ -202,7 +202,7 @@ bursts-length : (s : Settings) (es : List Event) → length (burstsOf s es) ≤ 
 unfolding burstsOf
 bursts-length s es = omega (arith, length-reverse (run s (start s) es .bursts), run-length s (start s) es)
 
-cells-few : (capture : List ℕ) → eventCount capture ≤ 8000 → Value (length (cellsIn capture))
+pub cells-few : (capture : List ℕ) → eventCount capture ≤ 8000 → Value (length (cellsIn capture))
 unfolding cellsIn
 cells-few capture short =
     let s = settingsIn capture in
@@ -261,7 +261,7 @@ index-few capture short =
       few 1,
       few 2,
       few 3,
-      events-length capture short,
+      events-length capture (omega arith),
     )
 
 rows-low : (s : Settings) (p : Part) (es : List Event) → ((b : ℕ) → p .banks b .row < 16384) → (b : ℕ) → run s p es .banks b .row < 16384
@@ -285,16 +285,16 @@ row-in-fits capture bank event =
 pub row-fits : (capture : List ℕ) (bank event records words : ℕ) → Fits (rowTold (openRowAnswer capture bank event records words))
 unfolding openRowAnswer
 row-fits capture bank event records words =
-    on-accepted (λ (a : Answer (Option ℕ)). Fits (rowTold a)) capture _ (λ number place n v. (n, v))
+    on-accepted (λ (a : Answer (Option ℕ)). Fits (rowTold a)) mostEvents (omega arith) capture _ (λ number place n v. (n, v))
     (λ open-to.
-    go (accepted-few capture open-to) (notClean (verdictIn capture)) (not (questionFits capture bank event)) (ltb records 4) (ltb words needed) refl)
+    go (accepted-sound capture open-to .sized .few) (notClean (verdictIn capture)) (not (questionFits capture bank event)) (ltb records 4) (ltb words needed) refl)
   where
     needed : ℕ
     needed = length (indexIn capture)
 
     go : eventCount capture ≤ 8000 → (o : Option ℕ) (x y z : Bool) → notClean (verdictIn capture) ≡ o →
         Fits (rowTold (unless 8 o (unless 13 (given 0 x) (unless 7 (given 4 y) (unless 7 (given needed z) (answered (rowIn capture bank event)))))))
-    go short (some place) x y z e = (omega arith, not-clean-fits capture short (verdictIn capture) refl place e)
+    go short (some place) x y z e = (omega arith, not-clean-fits capture (omega arith) (verdictIn capture) refl place e)
     go short none true y z e = (omega arith, omega arith)
     go short none false true z e = (omega arith, omega arith)
     go short none false false true e = (omega arith, index-few capture short)

@@ -29,6 +29,7 @@ mod Recordings
 mod Exports
 mod Opened
 mod Months
+mod Played
 
 -- pin words, put together by adding: a command, a bank, A10, column or row pins
 abbrev ACTIVE : ℕ

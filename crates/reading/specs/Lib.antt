@@ -20,3 +20,4 @@ pub mod Export
 pub mod Openings
 pub mod OpenRow
 pub mod Month
+pub mod Player

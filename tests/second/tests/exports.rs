@@ -193,7 +193,9 @@ fn same_but_for_nops(capture: &Capture, before: Answer, after: Answer) {
     else {
         panic!("{before:?} {after:?}");
     };
-    let last = event.checked_sub(1).map_or(0, |last| capture.events[last].cycle);
+    let last = event
+        .checked_sub(1)
+        .map_or(0, |last| capture.events[last].cycle);
     assert!(last < when && when < cycle && nop < at && judged == nop);
     assert_eq!((when - last) % REACH, 0);
 }

@@ -5,7 +5,7 @@ mod common;
 use common::*;
 use second::capture::{bytes_of, Event};
 use second::command::{Command, LOW};
-use second::rows::Record;
+use second::openings::Record;
 use second::{open_row, Refusal};
 
 const SLEEPY: [u32; 16] = [1, 13, 10, 0x32, 3, 3, 7, 10, 2, 3, 1, 12, 2, 1000, 2, 20];

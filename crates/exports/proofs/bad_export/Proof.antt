@@ -1,15 +1,11 @@
 use mathlib.Core.Path.{sym, _∙_}
 use native.Mathlib.Omega.{arith}
-use borrow.Author.Needs.{needs}
 use Rattle.exports.proofs.Stamps.{not-whole, too-many, standing}
 use Rattle.exports.proofs.bad_export.Statement.{statement}
 use Rattle.exports.proofs.bad_export.Tie as tie
 
 returns : tie.Need-returns
 returns c = not-whole (c .before .before .args .records .now) (c .if1 .taken)
-
-cast-t6 : tie.Need-cast-t6
-cast-t6 c = search needs
 
 returns-2 : tie.Need-returns-2
 returns-2 c = too-many (c .before .before .before .args .records .now) (c .before .if1 .left) (c .if2 .taken)
@@ -24,4 +20,4 @@ returns-3 c =
     c .lowest-standing .ensures ∙ sym (standing (whole .before .before .args .records .now) (whole .if1 .left) (few .if2 .left))
 
 pub bad-export-spec : {M : Type 1} → statement M
-bad-export-spec = tie.close (tie.spec returns cast-t6 returns-2 lowest-standing-requires returns-3)
+bad-export-spec = tie.close (tie.spec returns returns-2 lowest-standing-requires returns-3)

@@ -1,5 +1,4 @@
 use native.Mathlib.Omega.{arith}
-use borrow.Author.Needs.{needs}
 use Rattle.exports.proofs.Bridges.{none-far, first-far, counted-far}
 use Rattle.exports.proofs.too_far.Statement.{statement}
 use Rattle.exports.proofs.too_far.Tie as tie
@@ -16,9 +15,6 @@ returns-2 c =
     let start = timed .before .before .before in
     first-far (start .args .bytes .now) (start .args .n) (omega arith) (timed .cycle-at .ensures) (c .if2 .taken)
 
-cast-result : tie.Need-cast-result
-cast-result c = search needs
-
 returns-3 : tie.Need-returns-3
 returns-3 c =
     let timed = c .before in
@@ -26,4 +22,4 @@ returns-3 c =
     counted-far (start .args .bytes .now) (start .args .n) (omega arith) (timed .cycle-at .ensures) (c .if2 .left) (start .pre .1)
 
 pub too-far-spec : {M : Type 1} → statement M
-too-far-spec = tie.close (tie.spec returns cycle-at-requires returns-2 cast-result returns-3)
+too-far-spec = tie.close (tie.spec returns cycle-at-requires returns-2 returns-3)

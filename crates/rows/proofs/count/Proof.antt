@@ -72,13 +72,13 @@ use Rattle.rows.proofs.Tally as C
 use Rattle.rows.proofs.Tally.Laws as C′
 use Rattle.rows.proofs.none_yet as none-yet
 use Rattle.rows.proofs.none_yet.Symbol as none-yet-def
-use Rattle.rows.proofs.none_yet.Symbol.{name as #openings·none-yet}
+use Rattle.rows.proofs.none_yet.Symbol.{name as #rows·none-yet}
 use Rattle.rows.proofs.none_yet.Met as none-yet-thm
 use Rattle.rows.proofs.noted as noted
 use Rattle.rows.proofs.noted.Symbol as noted-def
-use Rattle.rows.proofs.noted.Symbol.{name as #openings·noted}
+use Rattle.rows.proofs.noted.Symbol.{name as #rows·noted}
 use Rattle.rows.proofs.noted.Met as noted-thm
-use Rattle.rows.proofs.count.Key.{name as #openings·count}
+use Rattle.rows.proofs.count.Key.{name as #rows·count}
 use Rattle.rows.proofs.count as count
 use Rattle.rows.proofs.count.Statement as stated
 use Rattle.rows.proofs.count.Code as code
@@ -267,7 +267,7 @@ module _ {M : Type 1} (𝓤 : URA M) (H : Heap 𝓤) (A : Atoms 𝓤) (W : Given
       seen = f ∙ (ap (λ (x : RefT (List ℕ)). seenAt (now x) (t .r .at)) (t .over) ∙ ap (seenAt (now s)) (t .here))
 
   module _ (𝓣 : Tables 𝓤 H) (fm : FmC 𝓤 H (W .laws) (𝓣 .C)) (known-next : Triple 𝓤 (𝓣 .C #browser·next) (NextC 𝓤 H A mem run))
-      (known-noted : Triple 𝓤 (𝓣 .C #openings·noted) (NotedC 𝓤 H A mem run)) (known-onward : Triple 𝓤 (𝓣 .C #browser·onward) (OnwardC 𝓤 H A mem run)) where
+      (known-noted : Triple 𝓤 (𝓣 .C #rows·noted) (NotedC 𝓤 H A mem run)) (known-onward : Triple 𝓤 (𝓣 .C #browser·onward) (OnwardC 𝓤 H A mem run)) where
     module _ (l₀ l₁ l₂ l₃ l₄ l₅ l₆ l₇ l₈ l₉ : ℕ) where
       abbrev En : Env 𝓤 H
       En =
@@ -378,7 +378,7 @@ module _ {M : Type 1} (𝓤 : URA M) (H : Heap 𝓤) (A : Atoms 𝓤) (W : Given
       begins : (t : State) → Sq W (At t) (runs (𝓣 .C) (𝓣 .Λ) En code-mir.t-4 (atRet En Post))
       begins t = first ! $ blocks ! $ loops ! 𝓣 Nearer Nearer-wf At turns t
 
-    module _ (known-start : Triple 𝓤 (𝓣 .C #browser·start) (StartC 𝓤 H A mem run)) (known-none : Triple 𝓤 (𝓣 .C #openings·none-yet) (NoneC 𝓤 H A mem run)) where
+    module _ (known-start : Triple 𝓤 (𝓣 .C #browser·start) (StartC 𝓤 H A mem run)) (known-none : Triple 𝓤 (𝓣 .C #rows·none-yet) (NoneC 𝓤 H A mem run)) where
       begun : (c : Tally) (cv : Val) → Is C.the-row c (cv ∷ []) → c ≡ noneYet → (r : Reader) → Begins r → Val → State
       begun c cv is-c g r m u =
           record {
@@ -429,8 +429,8 @@ module _ {M : Type 1} (𝓤 : URA M) (H : Heap 𝓤) (A : Atoms 𝓤) (W : Given
           begins l₀ l₁ l₂ l₃ l₄ l₅ l₆ l₇ l₈ l₉ (begun c z is-c g r m u)))))))))))))))))))
 
 module _ {M : Type 1} (𝓤 : URA M) (H : Heap 𝓤) (A : Atoms 𝓤) (W : Given 𝓤 H A) (mem : Memory → SProp 𝓤) (run : Routine → Fun 𝓤) (𝓣 : Tables 𝓤 H)
-    (known-start : Triple 𝓤 (𝓣 .C #browser·start) (StartC 𝓤 H A mem run)) (known-none : Triple 𝓤 (𝓣 .C #openings·none-yet) (NoneC 𝓤 H A mem run))
-    (known-next : Triple 𝓤 (𝓣 .C #browser·next) (NextC 𝓤 H A mem run)) (known-noted : Triple 𝓤 (𝓣 .C #openings·noted) (NotedC 𝓤 H A mem run))
+    (known-start : Triple 𝓤 (𝓣 .C #browser·start) (StartC 𝓤 H A mem run)) (known-none : Triple 𝓤 (𝓣 .C #rows·none-yet) (NoneC 𝓤 H A mem run))
+    (known-next : Triple 𝓤 (𝓣 .C #browser·next) (NextC 𝓤 H A mem run)) (known-noted : Triple 𝓤 (𝓣 .C #rows·noted) (NotedC 𝓤 H A mem run))
     (known-onward : Triple 𝓤 (𝓣 .C #browser·onward) (OnwardC 𝓤 H A mem run)) where
   count-walks : Walks 𝓤 H A count.ended stayed (WpFn 𝓤 H (𝓣 .C) (𝓣 .Λ) code.function) (count.clauses 𝓤 H A mem run)
   count-walks =
@@ -450,12 +450,12 @@ pub count-spec : {M : Type 1} → stated.statement M
 unfolding code.routine tablesOf
 count-spec 𝓤 H 𝓜 𝓖 𝓡 =
     entered 𝓤 H (tripleOf 𝓤 H (𝓖 .A) count.signature (count.spec 𝓤 H (𝓖 .A) (𝓜 .mem) (𝓡 .run)))
-    (tables 𝓤 H 𝓜 𝓡 code.env .C) (tables 𝓤 H 𝓜 𝓡 code.env .Λ) #openings·count code.function (code.unfolded 𝓤 H 𝓜 𝓡)
+    (tables 𝓤 H 𝓜 𝓡 code.env .C) (tables 𝓤 H 𝓜 𝓡 code.env .Λ) #rows·count code.function (code.unfolded 𝓤 H 𝓜 𝓡)
     (count-meets 𝓤 H (𝓖 .A) (givenOf 𝓤 H 𝓜 𝓖) (𝓜 .mem) (𝓡 .run) (tablesOf 𝓤 H 𝓜 (tables 𝓤 H 𝓜 𝓡 code.env))
     (cited 𝓤 H (StartC 𝓤 H (𝓖 .A) (𝓜 .mem) (𝓡 .run)) 𝓜 𝓡 code.env #browser·start start-def.routine code.calls-browser·start (start-thm.met 𝓤 H 𝓜 𝓖 𝓡))
-    (cited 𝓤 H (NoneC 𝓤 H (𝓖 .A) (𝓜 .mem) (𝓡 .run)) 𝓜 𝓡 code.env #openings·none-yet none-yet-def.routine code.calls-openings·none-yet
+    (cited 𝓤 H (NoneC 𝓤 H (𝓖 .A) (𝓜 .mem) (𝓡 .run)) 𝓜 𝓡 code.env #rows·none-yet none-yet-def.routine code.calls-rows·none-yet
     (none-yet-thm.met 𝓤 H 𝓜 𝓖 𝓡))
     (cited 𝓤 H (NextC 𝓤 H (𝓖 .A) (𝓜 .mem) (𝓡 .run)) 𝓜 𝓡 code.env #browser·next next-def.routine code.calls-browser·next (next-thm.met 𝓤 H 𝓜 𝓖 𝓡))
-    (cited 𝓤 H (NotedC 𝓤 H (𝓖 .A) (𝓜 .mem) (𝓡 .run)) 𝓜 𝓡 code.env #openings·noted noted-def.routine code.calls-openings·noted (noted-thm.met 𝓤 H 𝓜 𝓖 𝓡))
+    (cited 𝓤 H (NotedC 𝓤 H (𝓖 .A) (𝓜 .mem) (𝓡 .run)) 𝓜 𝓡 code.env #rows·noted noted-def.routine code.calls-rows·noted (noted-thm.met 𝓤 H 𝓜 𝓖 𝓡))
     (cited 𝓤 H (OnwardC 𝓤 H (𝓖 .A) (𝓜 .mem) (𝓡 .run)) 𝓜 𝓡 code.env #browser·onward onward-def.routine code.calls-browser·onward
     (onward-thm.met 𝓤 H 𝓜 𝓖 𝓡)))

@@ -184,7 +184,7 @@ fn rows_opened() -> Vec<u8> {
     settings[4..13].fill(1);
     settings[13] = 1_000_000;
     let mut group: Vec<Asked> = (0..4)
-        .map(|bank| Command::Active { bank, row: 77 + bank }.into())
+        .map(|bank| Command::Active { bank, row: 77 }.into())
         .collect();
     group.push(Command::Precharge { banks: All }.into());
     repeated(Zero, &settings, &[], &group)

@@ -107,10 +107,7 @@ impl ExportTally {
         self.show(ReadNothing, stamps.is_empty());
         self.show(ReadMost, stamps.len() == MOST_RECORDS);
         self.show(ReadEditionOne, export.edition == 1);
-        self.show(
-            GoesRound,
-            stamps.windows(2).any(|pair| pair[1] < pair[0]),
-        );
+        self.show(GoesRound, stamps.windows(2).any(|pair| pair[1] < pair[0]));
     }
 
     fn count_read_refused(&mut self, export: &Export, refusal: Refusal) {
@@ -148,8 +145,14 @@ impl ExportTally {
                 self.show(NoNop, nops == 0);
                 self.show(Nop, nops > 0);
                 let gap = |pair: &[crate::capture::Event]| pair[1].cycle - pair[0].cycle;
-                self.show(Nops, read.events.windows(2).any(|pair| gap(pair) > 2 * REACH));
-                self.show(AtReach, read.events.windows(2).any(|pair| gap(pair) == REACH));
+                self.show(
+                    Nops,
+                    read.events.windows(2).any(|pair| gap(pair) > 2 * REACH),
+                );
+                self.show(
+                    AtReach,
+                    read.events.windows(2).any(|pair| gap(pair) == REACH),
+                );
             }
             Err(refusal) => {
                 let twelve = refusal.number == 12;
@@ -164,8 +167,15 @@ impl ExportTally {
 
     /// The verdict on a capture, and on what was written of it and read back.
     pub fn count_back(&mut self, before: Answer, after: Answer) {
-        let (Answer::Broken { rule, event, .. }, Answer::Broken { rule: now, event: at, cycle, .. }) =
-            (before, after)
+        let (
+            Answer::Broken { rule, event, .. },
+            Answer::Broken {
+                rule: now,
+                event: at,
+                cycle,
+                ..
+            },
+        ) = (before, after)
         else {
             self.show(BackClean, matches!(after, Answer::Clean { .. }));
             return;
@@ -174,7 +184,10 @@ impl ExportTally {
             return;
         };
         let same_event = cycle == then;
-        self.show(BackMovedUp, same_event && now == rule && rule != 14 && at > event);
+        self.show(
+            BackMovedUp,
+            same_event && now == rule && rule != 14 && at > event,
+        );
         self.show(BackLateEvent, same_event && now == 14);
         self.show(BackLateNop, !same_event && rule == 14);
         self.show(BackLateNopOfLowerRule, !same_event && rule != 14);

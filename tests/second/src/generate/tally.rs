@@ -6,10 +6,11 @@ use std::fmt;
 
 use crate::blank::hidden;
 use crate::capture::{
-    events_at, settings_of_layout, word, words, Capture, Edition, Refusal, EDITION_AT,
+    events_at, settings_of_layout, word, words, Capture, Edition, Event, Refusal, EDITION_AT,
     HEADER_BYTES, LIMITS, SETTINGS, SLEEP_SETTINGS, T_RC_SETTING,
 };
 use crate::command::{Asked, Command, A10, ADDRESS_PINS};
+use crate::openings::Record;
 use crate::part::LookBack;
 use crate::schedule::{CLOSED_ROWS, OPEN_ROWS};
 use crate::verdict::{cells, part_after, Answer};
@@ -38,6 +39,19 @@ const SHOWN: [&str; 6] = [
     "DESELECT that looks like ACTIVE, READ or WRITE",
     "an address on another command",
     "a column or a row with CKE low",
+];
+
+/// What questions about open rows have to show; the last only where the part may sleep.
+const ROW_SHOWN: [&str; 9] = [
+    "a bank above 3",
+    "an event at or above N",
+    "no events to ask about",
+    "too few records",
+    "too short an index",
+    "an opening of one event, closed",
+    "a bank opened again",
+    "a row open at the end",
+    "a row open with CKE low",
 ];
 
 /// What recordings that are too long for captures have to show.
@@ -94,6 +108,7 @@ pub struct OfCaptures {
     pub rows: Answers,
     /// Of the questions answered, those about a bank that is idle.
     pub idle: u64,
+    pub row_shown: [u64; ROW_SHOWN.len()],
     pub shown: [u64; SHOWN.len()],
     /// Clean captures whose burst cells are others under other addresses.
     pub other_cells: u64,
@@ -142,6 +157,10 @@ impl OfCaptures {
         counts.push(("open row: open".to_string(), self.rows.given - self.idle));
         counts.push(("open row: idle".to_string(), self.idle));
         counts.extend(refusals("open row", &self.rows, &OF_ROW));
+        let shown = ROW_SHOWN.len() - usize::from(settings == SETTINGS);
+        for (name, &count) in ROW_SHOWN.iter().zip(&self.row_shown).take(shown) {
+            counts.push((format!("open row: {name}"), count));
+        }
         counts
     }
 
@@ -206,9 +225,23 @@ impl Tally {
         counts.interrupted += u64::from(interrupted);
     }
 
-    pub fn count_row(&mut self, capture: &[u8], answer: Result<Option<u32>, Refusal>) {
+    /// With the index as it was left.
+    pub fn count_row(
+        &mut self,
+        capture: &[u8],
+        asked: [u32; 2],
+        answer: Result<Option<u32>, Refusal>,
+        records: &[Record],
+        index: &[u32],
+    ) {
         let counts = self.of_capture(capture);
         counts.idle += u64::from(answer == Ok(None));
+        if let Ok(read) = Capture::read(capture) {
+            let shows = row_shows(&read.events, asked, answer, records, index);
+            for (count, shows) in counts.row_shown.iter_mut().zip(shows) {
+                *count += u64::from(shows);
+            }
+        }
         counts.rows.count(answer.err(), &first_settings(capture));
     }
 
@@ -348,4 +381,37 @@ impl fmt::Display for Tally {
             .collect();
         write!(f, "{}", lines.join("\n"))
     }
+}
+
+/// Which of the things in `ROW_SHOWN` a question to an accepted capture shows.
+fn row_shows(
+    events: &[Event],
+    [bank, event]: [u32; 2],
+    answer: Result<Option<u32>, Refusal>,
+    records: &[Record],
+    index: &[u32],
+) -> [bool; ROW_SHOWN.len()] {
+    let refused = |number| answer.is_err_and(|refusal| refusal.number == number);
+    let count = |bank: usize| records[bank].count as usize;
+    let openings = if answer.is_ok() {
+        3 * (0..4).map(count).sum::<usize>()
+    } else {
+        0
+    };
+    let mut openings = index[..openings].chunks(3);
+    let last = (events.len() as u32).wrapping_sub(1);
+    let place = answer.err().map_or(0, |refusal| refusal.place);
+    [
+        refused(13) && bank > 3 && !events.is_empty(),
+        refused(13) && bank <= 3 && !events.is_empty(),
+        refused(13) && events.is_empty(),
+        refused(7) && place == 4,
+        refused(7) && place != 4,
+        openings
+            .clone()
+            .any(|own| own[1] == own[2] && own[2] != last),
+        answer.is_ok() && (0..4).any(|bank| count(bank) > 1),
+        openings.any(|own| own[2] == last),
+        matches!(answer, Ok(Some(_))) && events[event as usize].asked().low,
+    ]
 }
