@@ -1,6 +1,6 @@
 /* Morgazell for C and C++ programs on x86-64 Linux: judging captures of Mobile DDR commands, listing the cells of their
  * bursts, writing schedules, blanking addresses, reading and writing exports of a handheld analyser, telling which rows were
- * open. Valid C99 and C++17.
+ * open, playing captures against lent cells. Valid C99 and C++17.
  *
  * Every call but morgazell_version answers one number:
  *
@@ -10,7 +10,7 @@
  *     bits 32-47   0
  *     bits  0-31   refused:           the place
  *                  a rule is broken:  the event, from 0; the events before it were judged and broke none
- *                  neither, a count:  events judged, cells written, bytes written
+ *                  neither, a count:  events judged, cells written, bytes written, words read
  *                  morgazell_open_row: the row, 0 where the bank is idle
  *
  * Nothing is lost by that: refusal and place, rule and event, and the count are got back from the number, and what else the
@@ -32,16 +32,19 @@
  *        5     over 2,000 requests; else bits 27-30 of a request are set,     2,000; the lowest such request
  *              or the part lacks its cell
  *        6     refresh cannot be kept                                         the request
- *        8     cells or rows are asked of a capture that is not clean         the event that breaks a rule
+ *        8     cells or rows are asked of a capture that is not clean, or     the event that breaks a rule
+ *              it is to be played
  *       13     a bank above 3, or an event at or above the number of events   0
  *       12     an export of a capture with 16 settings, or with a first       0
  *              cycle above 65,535, or that would have over 8,000 records
+ *       15     a window of over 16,384 words, or that leaves the part; else   0; the lowest such event
+ *              a kept beat outside the window, or too few words or masks
  *        7     the buffer is shorter than the answer                          the length needed, in its elements
  *
  * They are tried in this order and the first that applies is given. morgazell_judge and morgazell_recording can give 1 to 4,
  * morgazell_cells 1 to 4, 8 and 7, morgazell_schedule 2, 3, 10, 5, 6 and 7, morgazell_blank 1 to 4 and 7,
  * morgazell_open_row 1 to 4, 8, 13 and 7, for its records before its index, morgazell_read_export 2, 3, 11, 4 and 7,
- * morgazell_write_export 1 to 4, 12 and 7.
+ * morgazell_write_export 1 to 4, 12 and 7, morgazell_play 1 to 4, 8, 15 and 7.
  *
  * A capture is words of 32 bits, lowest byte first: six of header (its length in bytes; 14 or 16, the settings count; 24,
  * where they start; the number of events, at most 8,000; 80 or 88, where these start; 0 or 1, the edition), the settings,
@@ -78,18 +81,19 @@
  *           (only with 16 settings)
  *
  * Memory. Lengths count elements of the pointer's type. A pointer may be NULL where its length is 0; else it points to
- * that many elements, aligned for their type (a capture, being bytes, may stand anywhere). `out` must not overlap an
- * input; inputs may overlap each other, and must stay as they are until the call returns: a mapped file may be written to
- * or become shorter (examples/judge_files.c says what to do then). Nothing at or behind out + out_len is read or written, inputs are not written,
- * and a refused call leaves `out` as it was. So a call with an empty buffer asks what length is needed: refusal 7 says.
+ * that many elements, aligned for their type (a capture, being bytes, may stand anywhere). What is lent to be written must
+ * not overlap an input or anything else that is lent. Inputs may overlap each other, and must stay as they are until the call
+ * returns: a mapped file may be written to or become shorter (examples/judge_files.c says what to do then). Nothing at or
+ * behind out + out_len is read or written, inputs are not written, and a refused call leaves every lent buffer as it was. So a
+ * call with an empty buffer asks what length is needed: refusal 7 says.
  *
  * Threads. No call allocates, keeps anything between calls, or asks anything of the system: any number of threads may
  * call at the same time, each with buffers of its own; inputs may be shared.
  *
- * Stack. The most that a call takes, in bytes, the return address included: morgazell_judge 1024, morgazell_recording 1024,
- * morgazell_cells 1280, morgazell_schedule 66560, morgazell_blank 512, morgazell_open_row 1280, morgazell_read_export 512, morgazell_write_export 512,
- * morgazell_version 136; besides, what memcpy and memset of the C library take. The archive wants nothing of anyone but
- * these two, and not even these where it is built for the smallest size. */
+ * Stack. The most that a call takes, in bytes, the return address included: morgazell_judge 1280, morgazell_recording 1280,
+ * morgazell_cells 1280, morgazell_schedule 66560, morgazell_blank 640, morgazell_open_row 1280, morgazell_read_export 512,
+ * morgazell_write_export 512, morgazell_play 1280, morgazell_version 136; besides, what memcpy and memset of the C library take.
+ * The archive wants nothing of anyone but these two, and not even these where it is built for the smallest size. */
 #ifndef MORGAZELL_H
 #define MORGAZELL_H
 
@@ -117,9 +121,11 @@ extern "C" {
 #define MORGAZELL_REFUSED_RECORDS 11
 #define MORGAZELL_REFUSED_EXPORT 12
 #define MORGAZELL_REFUSED_QUESTION 13
+#define MORGAZELL_REFUSED_PLAY 15
 
 /* The most that there can be: events and bytes of a capture, bytes of a schedule, cells of a burst list, requests, records and
- * bytes of an export, words of an index of open rows. A buffer of that many bytes, cells or words is never too short. */
+ * bytes of an export, words of an index of open rows, words of a window. A buffer of that many bytes, cells or words is never
+ * too short; words read are at most as many as cells. */
 #define MORGAZELL_MOST_EVENTS 8000
 #define MORGAZELL_LONGEST_CAPTURE 64088
 #define MORGAZELL_LONGEST_SCHEDULE 64080
@@ -128,6 +134,7 @@ extern "C" {
 #define MORGAZELL_MOST_RECORDS 8000
 #define MORGAZELL_LONGEST_EXPORT 48000
 #define MORGAZELL_MOST_INDEX 24000
+#define MORGAZELL_MOST_WINDOW 16384
 
 /* What judges: 10000 * the first number of the version + 100 * the second + the third; 10203 for 1.2.3. */
 uint32_t morgazell_version(void);
@@ -185,6 +192,15 @@ struct morgazell_bank {
  * leaves both as they were. MORGAZELL_MOST_INDEX words are always enough. */
 uint64_t morgazell_open_row(const uint8_t *capture, size_t len, uint32_t bank, uint32_t event,
                             struct morgazell_bank *records, size_t records_len, uint32_t *index, size_t index_len);
+
+/* A clean capture played, event by event, against a window of the part: window[i] is cell first + i. `writes` has word and mask
+ * in turn; a mask bit of 1 keeps the byte of its lane. Each WRITE takes as many words as its burst length, kept or not, and
+ * stores those of its kept beats; each READ puts a word for each kept beat behind the last in `reads`. The answer counts the
+ * words read; what lies behind them stays. With lane code 1 two bytes of a word count: the upper half of a window word stays,
+ * and a word read has zeros there. MORGAZELL_MOST_CELLS words of reads are always enough. A refused call leaves window and
+ * reads; window, reads and inputs must not overlap. */
+uint64_t morgazell_play(const uint8_t *capture, size_t len, uint32_t first, uint32_t *window, size_t window_len,
+                        const uint32_t *writes, size_t writes_len, uint32_t *reads, size_t reads_len);
 
 static inline unsigned morgazell_refusal(uint64_t answer) { return (unsigned)(answer >> 56); }
 

@@ -11,6 +11,7 @@ enum { ROOM = 1 << 18, PAINT = 0x5c, REQUESTS = 2000 };
 static uint8_t stack[ROOM];
 static uint8_t capture[LONGEST], bytes[LONGEST];
 static uint32_t cells[16 * MOST_EVENTS], requests[REQUESTS], words[MORGAZELL_MOST_INDEX];
+static uint32_t window[MORGAZELL_MOST_WINDOW], written[32 * MOST_EVENTS];
 static struct morgazell_bank banks[4];
 static uint8_t records[MORGAZELL_LONGEST_EXPORT];
 static size_t len, recorded;
@@ -41,6 +42,9 @@ CALL(read_records, morgazell_read_export(records, recorded, SETTINGS, 14, 1, byt
 CALL(read_short, morgazell_read_export(records, recorded, SETTINGS, 14, 1, bytes, 100))
 CALL(write_records, morgazell_write_export(capture, len, bytes, LONGEST))
 CALL(write_short, morgazell_write_export(capture, len, bytes, 100))
+CALL(play, morgazell_play(capture, len, 0, window, MORGAZELL_MOST_WINDOW, written, 32 * MOST_EVENTS, cells, 16 * MOST_EVENTS))
+CALL(play_short, morgazell_play(capture, len, 0, window, MORGAZELL_MOST_WINDOW, written, 32 * MOST_EVENTS, cells, 2))
+CALL(play_none, morgazell_play(capture, len, 5, window, 7, written, 3, cells, 2))
 CALL(schedule, morgazell_schedule(SETTINGS, 14, requests, REQUESTS, MORGAZELL_OPEN_ROWS, bytes, LONGEST))
 
 /* The frame of the caller itself is counted too. */
@@ -84,6 +88,16 @@ static void make(uint32_t settings, uint32_t edition, uint32_t last)
     event(capture, settings, n - 1, 50 * n + 100, last);
 }
 
+/* Writes and reads of the first row, all in the window. */
+static void make_low(uint32_t edition)
+{
+    const uint32_t n = 1000;
+    len = begin(capture, 14, n, edition);
+    event(capture, 14, 0, 0, ACTIVE);
+    for (uint32_t i = 1; i < n; i++)
+        event(capture, 14, i, 20 * i, (i % 2 == 0 ? READ : WRITE) | i % 1024);
+}
+
 /* Events that are further apart than stamps can tell, and records of them; the last pins may be some that there are not. */
 static void make_far(uint32_t n, uint32_t apart, uint32_t last)
 {
@@ -99,7 +113,7 @@ int main(void)
 {
     static const uint32_t LAST[] = {NOP,     ACTIVE | 1, READ,    WRITE,        0x40400,  0x60000,  REFRESH,
                                     0x32,    0x10000,    0x1E0000, REFRESH | 0x100000, ACTIVE | 0x100000, 0xFFFFFFFF};
-    size_t judging = 0, recording = 0, listing = 0, blanking = 0, asking = 0, reading = 0, writing = 0, scheduling;
+    size_t judging = 0, recording = 0, listing = 0, blanking = 0, asking = 0, reading = 0, writing = 0, playing = 0, scheduling;
     for (uint32_t settings = 14; settings <= 16; settings++)
         for (size_t i = 0; i < 2 * sizeof LAST / sizeof LAST[0]; i++) {
             make(settings, i % 2, LAST[i / 2]);
@@ -108,7 +122,12 @@ int main(void)
             listing = most(listing, most(taken(list), taken(list_short)));
             blanking = most(blanking, most(taken(blank), taken(blank_short)));
             asking = most(asking, most(taken(row), taken(row_short)));
+            playing = most(playing, most(taken(play), most(taken(play_short), taken(play_none))));
         }
+    for (uint32_t i = 0; i < 4; i++) {
+        make_low(i % 2);
+        playing = most(playing, most(taken(play), most(taken(play_short), taken(play_none))));
+    }
     for (uint32_t i = 0; i < 8; i++) {
         make_far(i % 2 == 0 ? 1000 : 8000, i % 4 < 2 ? 200000 : 20, i < 4 ? WRITE : 0xFFFFFFFF);
         reading = most(reading, most(taken(read_records), taken(read_short)));
@@ -120,7 +139,8 @@ int main(void)
     requests[REQUESTS - 1] = 0xFFFFFFFF;
     scheduling = most(scheduling, taken(schedule));
     printf("morgazell_judge %zu\nmorgazell_recording %zu\nmorgazell_cells %zu\nmorgazell_schedule %zu\nmorgazell_blank %zu\n"
-           "morgazell_open_row %zu\nmorgazell_read_export %zu\nmorgazell_write_export %zu\nmorgazell_version %zu\n",
-           judging, recording, listing, scheduling, blanking, asking, reading, writing, taken(version));
+           "morgazell_open_row %zu\nmorgazell_read_export %zu\nmorgazell_write_export %zu\nmorgazell_play %zu\n"
+           "morgazell_version %zu\n",
+           judging, recording, listing, scheduling, blanking, asking, reading, writing, playing, taken(version));
     return 0;
 }

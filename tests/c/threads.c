@@ -1,5 +1,5 @@
-/* threads: two threads that judge, list, schedule, blank and ask different inputs and write and read exports at the same time, many
- * times over. What each call answers and leaves has to be what the same call answered and left when it was made alone. */
+/* threads: two threads that judge, list, schedule, blank, ask and play different inputs and write and read exports at the same
+ * time, many times over. What each call answers and leaves has to be what the same call answered and left when it was made alone. */
 #define _POSIX_C_SOURCE 200809L
 #include <inttypes.h>
 #include <pthread.h>
@@ -7,10 +7,11 @@
 
 #include "inputs.h"
 
-enum { ROUNDS = 300, INPUTS = 4, MOST_CELLS = 128000, MOST_BYTES = 64080, REQUESTS = 500 };
+enum { ROUNDS = 300, INPUTS = 4, MOST_CELLS = 128000, MOST_BYTES = 64080, REQUESTS = 500, WORDS = 64000 };
 
 struct left {
-    uint64_t judged, recorded, listed, scheduled, blanked, asked, written, read;
+    uint64_t judged, recorded, listed, scheduled, blanked, asked, written, read, played;
+    uint32_t window[MORGAZELL_MOST_WINDOW], words[MOST_CELLS];
     uint32_t cells[MOST_CELLS], index[MORGAZELL_MOST_INDEX];
     struct morgazell_bank banks[4];
     uint8_t bytes[MOST_BYTES];
@@ -22,7 +23,7 @@ struct left {
 struct input {
     uint8_t capture[LONGEST];
     size_t len;
-    uint32_t requests[REQUESTS];
+    uint32_t requests[REQUESTS], words[WORDS];
     struct left alone;
 };
 
@@ -41,6 +42,7 @@ static void call(const struct input *in, struct left *out)
     out->asked = morgazell_open_row(in->capture, in->len, 0, 1000, out->banks, 4, out->index, MORGAZELL_MOST_INDEX);
     out->written = morgazell_write_export(in->capture, in->len, out->records, sizeof out->records);
     out->read = morgazell_read_export(out->records, 6000, SETTINGS, 14, 1, out->back, LONGEST);
+    out->played = morgazell_play(in->capture, in->len, 0, out->window, MORGAZELL_MOST_WINDOW, in->words, WORDS, out->words, MOST_CELLS);
 }
 
 /* Rows opened and read to the end; in two of the four an ACTIVE finds the row open at the end. Two are of edition 1, in
@@ -59,6 +61,8 @@ static void make(struct input *in, uint32_t number)
         event(in->capture, settings, n - 1, 10 * n, ACTIVE | number);
     for (uint32_t i = 0; i < REQUESTS; i++)
         in->requests[i] = (i * (number + 1)) % 2 << 31 | (i * 7919 * (number + 1)) % 0x2000000;
+    for (uint32_t i = 0; i < WORDS; i++)
+        in->words[i] = i % 2 == 0 ? i * 2654435761u : i / 2 % 16;
 }
 
 /* A thread's first input, each second one after it, and how many calls differed. */

@@ -14,6 +14,7 @@ import functools
 import os
 import resource
 import socket
+import struct
 import subprocess
 import sys
 import tempfile
@@ -36,6 +37,8 @@ ASLEEP = [(0, NOP | LOW), (5, NOP), (6, ACTIVE)]
 ADDRESSED = capture([(0, ACTIVE | 77), (3, READ | 5)])
 REFUSED = capture([], setting(1, 15))
 FAR = [(5, NOP), (65_600, NOP)]
+# Behind a capture that is played: cells 0 to 3, and what they hold.
+PLAYED = struct.pack("<6I", 0, 4, 7, 8, 9, 10)
 
 # Each program on each capture, and what is right.
 RUNS = [
@@ -49,6 +52,9 @@ RUNS = [
     ("blank", ADDRESSED, blanked(ADDRESSED)),
     ("openings", capture(CLEAN), openrows.text(CLEAN).encode()),
     ("openings", capture(BROKEN), b"refused 8 place 1\n"),
+    ("play", capture(CLEAN) + PLAYED, b"words 4\nword 0x00000007\nword 0x00000008\nword 0x00000009\nword 0x0000000a\n"
+     b"cell 0 0x00000007\ncell 1 0x00000008\ncell 2 0x00000009\ncell 3 0x0000000a\n"),
+    ("play", capture(BROKEN) + PLAYED, b"refused 8 place 1\n"),
     ("to_export", capture(FAR), export(FAR)),
     ("from_export", export(CLEAN), capture(CLEAN)),
     ("month", capture(CLEAN) + capture(BROKEN) + REFUSED,
@@ -60,10 +66,10 @@ RUNS = [
 
 # What each program does with its input and its output.
 DONE = {"report": ("judged", "printed"), "listing": ("judged", "printed"), "blank": ("written", "written"),
-        "openings": ("looked at", "printed"), "to_export": ("written", "written"), "from_export": ("written", "written"),
+        "openings": ("looked at", "printed"), "play": ("played", "printed"), "to_export": ("written", "written"), "from_export": ("written", "written"),
         "month": ("added up", "printed")}
 
-# The lines of a month that were printed before a read failed stand; its totals are not printed.
+# Each line of a month is one write. Those that were printed before a read failed stand; its totals are not printed.
 GOES_ALONG = "month"
 
 # A file that a program is given before any other; how often it is opened and, in pieces of 40 bytes, read.
@@ -224,7 +230,8 @@ def every_write(name, source, text, piece, arguments=(), printed=None):
                 expect(before < len(run.stdout), what + ": no more than before", run)
                 before = len(run.stdout)
             at += 1
-        expect(at > 5, f"{name}, {way}: {at - 1} writes of {text.splitlines()[-1]!r}", run)
+        enough = at - 1 == text.count(b"\n") if name == GOES_ALONG and not piece else at > 5
+        expect(enough, f"{name}, {way}: {at - 1} writes of {text.splitlines()[-1]!r}", run)
 
 
 def complaint_goes_on(name):
@@ -303,6 +310,8 @@ def everything(name, data, text):
         source = f.fileno()
         every_read(name, source, len(data), text)
         every_write(name, source, text, 1 if len(text) < 100 else 0)
+        if name == GOES_ALONG:
+            every_write(name, source, text, 50)
         for room in range(0, len(text) + 2, len(text) // 30 + 1):
             nearly_full_pipe(name, source, text, room)
         for room in range(0, len(text), len(text) // 10):

@@ -85,11 +85,11 @@ def is_present(edit, folder):
 
 
 def function_at(path, line):
-    """The function whose text begins at this line of a source, or in which the line stands."""
+    """The function whose text begins at this line of a source, or else the one that the line stands in."""
     lines = read(path).split("\n")
-    if lines[line - 1].startswith("#["):
-        return re.search(r"\bfn (\w+)", "\n".join(lines[line:])).group(1)
-    return re.findall(r"^(?:pub )?(?:extern \"C\" )?fn (\w+)", "\n".join(lines[:line]), re.M)[-1]
+    if re.match(r"#\[|(pub )?(extern \"C\" )?fn\b", lines[line - 1]):
+        return re.search(r"\bfn (\w+)", "\n".join(lines[line - 1:])).group(1)
+    return re.findall(r"\bfn (\w+)", "\n".join(lines[:line]))[-1]
 
 
 def place(folder, path):

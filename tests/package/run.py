@@ -16,6 +16,7 @@ import os
 import pty
 import re
 import shutil
+import struct
 import subprocess
 import sys
 import tempfile
@@ -33,7 +34,7 @@ STRICT = ["-O2", "-Wall", "-Wextra", "-Wpedantic", "-Wconversion", "-Werror"]
 LANGUAGES = {"gcc": ["cc", "-std=c99"], "g++": ["c++", "-std=c++17", "-x", "c++"]}
 BUILDS = {"quick": "morgazell", "smallest": "morgazell-smallest"}
 
-FILES = ["LICENSE", "SHA256SUMS", "VERSION", "examples/judge_files.c", "examples/schedule_requests.c", "include/morgazell.h", "lib/libmorgazell.a",
+FILES = ["LICENSE", "SHA256SUMS", "VERSION", "examples/judge_files.c", "examples/play_capture.c", "examples/schedule_requests.c", "include/morgazell.h", "lib/libmorgazell.a",
          "lib/pkgconfig/morgazell.pc", "share/man/man3/morgazell.3"]
 
 wrong = 0
@@ -93,7 +94,7 @@ CONSTANTS = {"REFUSED_LENGTH": 1, "REFUSED_HEADER": 2, "REFUSED_SETTING": 3, "RE
              "REFUSED_REFRESH": 6, "REFUSED_BUFFER": 7, "REFUSED_BROKEN": 8, "REFUSED_POLICY": 10, "OPEN_ROWS": 0, "CLOSED_ROWS": 1,
              "MOST_EVENTS": 8000, "LONGEST_CAPTURE": 88 + 8 * 8000, "LONGEST_SCHEDULE": 80 + 8 * 8000, "MOST_CELLS": 16 * 8000,
              "MOST_REQUESTS": 2000, "REFUSED_QUESTION": 13, "MOST_INDEX": 3 * 8000, "REFUSED_RECORDS": 11, "REFUSED_EXPORT": 12,
-             "MOST_RECORDS": 8000, "LONGEST_EXPORT": 6 * 8000}
+             "MOST_RECORDS": 8000, "LONGEST_EXPORT": 6 * 8000, "REFUSED_PLAY": 15, "MOST_WINDOW": 1 << 14}
 
 
 def hold_constants(folder, out):
@@ -381,6 +382,48 @@ def hold_schedules(program):
     hold("requests from a folder", (unread.returncode, unread.stdout), (3, b""))
 
 
+# ---- the example that plays: request 33's lines, with cells that hold their own numbers
+
+PLAYED_WORDS = ["0x11111111", "0", "0x22222222", "1", "0x33333333", "2", "0x44444444", "3"]
+FULL_WORDS = ["0x11111111", "0", "0x22222222", "1", "0x33333333", "6", "0x44444444", "15"]
+TWO_LANES = "word 0x00000000\nword 0x00001111\nword 0x00002202\nword 0x00000033\ncell 1 0x00001111\ncell 2 0x00002202\ncell 3 0x00000033\n"
+FOUR_LANES = "word 0x00000000\nword 0x11111111\nword 0x22222202\nword 0x33000033\ncell 1 0x11111111\ncell 2 0x22222202\ncell 3 0x33000033\n"
+NOT_HELD = ("refused (15): place %d: the window leaves the part, or does not hold a beat of that event, or its words are too few\n")
+
+PLAYS = [
+    ("two lanes", 1, ["0", "8"] + PLAYED_WORDS, (0, TWO_LANES, "")),
+    ("four lanes", 2, ["0", "8"] + FULL_WORDS, (0, FOUR_LANES, "")),
+    ("a mask too few", 1, ["0", "8"] + PLAYED_WORDS[:7], (2, "", NOT_HELD % 1)),
+    ("a word too few", 1, ["0", "8"] + PLAYED_WORDS[:6], (2, "", NOT_HELD % 1)),
+    ("a window behind", 1, ["2", "8"] + PLAYED_WORDS, (2, "", NOT_HELD % 1)),
+    ("a window too far away", 1, ["0xffffffff", "8"] + PLAYED_WORDS, (2, "", NOT_HELD % 0)),
+    ("a window too large", 1, ["0", "16385"] + PLAYED_WORDS, (2, "", NOT_HELD % 0)),
+    ("a window that leaves the part", 1, ["33554428", "5"], (2, "", NOT_HELD % 0)),
+    ("a word that is none", 1, ["0", "8", "x"], (3, "", "play_capture: words and masks are numbers of 32 bits\n")),
+    ("a size that is none", 1, ["0", "-8"], (3, "", "play_capture: the first cell and the size are numbers\n")),
+]
+
+
+def hold_plays(program, out):
+    """ACTIVE 0, WRITE 3 column 1, READ 7 column 0, by the settings of the cases."""
+    for name, lane, words, expected in PLAYS:
+        place = os.path.join(out, "played.capture")
+        with open(place, "wb") as file:
+            file.write(played_capture(lane))
+        hold("playing, " + name, output(program, [place] + words), expected)
+    hold("playing, no such file", output(program, [os.path.join(out, "none.capture"), "0", "8"]),
+         (3, "", "play_capture: the capture cannot be opened\n"))
+    status, told, complaint = output(program, [])
+    hold("playing nothing", (status, told, complaint.startswith("usage: play_capture")), (3, "", True))
+
+
+def played_capture(lane):
+    settings = [lane, 13, 10, 0x32, 3, 3, 7, 10, 2, 3, 1, 12, 2, 1000]
+    events = [(0, 0xC0000), (3, 0x20001), (7, 0xA0000)]
+    words = [80 + 8 * len(events), 14, 24, len(events), 80, 0] + settings + [word for event in events for word in event]
+    return struct.pack("<%dI" % len(words), *words)
+
+
 # ---- 4 and 5: threads and stack
 
 def hold_threads(build):
@@ -418,6 +461,7 @@ def main():
                 hold_recordings(program, out)
                 hold_samples(program)
                 hold_schedules(compiled(folder, compiler, "schedule_requests", os.path.join(out, "schedule_requests")))
+                hold_plays(compiled(folder, compiler, "play_capture", os.path.join(out, "play_capture")), out)
             grows = os.path.join(out, "grow.o")
             subprocess.run([X86, "cc", "-std=c99", "-c", "-o", grows, os.path.join(HERE, "grow.c")], check=True)
             wraps = [grows, "-Wl,--wrap=read", "-Wl,--wrap=morgazell_recording"]

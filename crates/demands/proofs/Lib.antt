@@ -8,11 +8,14 @@ pub mod Scheduling
 pub mod WithoutSix
 pub mod EditionZero
 pub mod Blanking
+mod Windows
+pub mod Playing
 pub mod Unaccepted
 pub mod Judged
 pub mod Converting
 pub mod Exporting
 pub mod OpenRow
+pub mod Months
 mod Finding
 mod Settled
 mod Held

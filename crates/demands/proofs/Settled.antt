@@ -6,11 +6,13 @@ use denote.Ref.{now}
 use Rattle.settings.proofs.Unique as settings
 use Rattle.part.proofs.Unique as part
 use Rattle.cells.proofs.Unique as cells
+use Rattle.player.proofs.Unique as player
 use Rattle.drafts.proofs.Unique as drafts
 use Rattle.serving.proofs.Unique as serving
 use Rattle.schedule.proofs.Unique as schedule
 use Rattle.hidden.proofs.Unique as hidden
 use Rattle.exports.proofs.Unique as exports
+use Rattle.monthly.proofs.Unique as monthly
 use Rattle.demands.proofs.Finding as finding
 use Rattle.demands.proofs.Judging as judging
 use Rattle.words.proofs.word_at.Reads as words-word-at
@@ -101,6 +103,7 @@ use Rattle.beats.proofs.mode_after.Reads as beats-mode-after
 use Rattle.beats.proofs.column.Reads as beats-column
 use Rattle.beats.proofs.first_cell.Reads as beats-first-cell
 use Rattle.beats.proofs.first_cells.Reads as beats-first-cells
+use Rattle.beats.proofs.beat_cell.Reads as beats-beat-cell
 use Rattle.beats.proofs.open_row.Reads as beats-open-row
 use Rattle.beats.proofs.write_burst.Reads as beats-write-burst
 use Rattle.beats.proofs.interruptible.Reads as beats-interruptible
@@ -110,13 +113,23 @@ use Rattle.cells.proofs.kept_beats.Reads as cells-kept-beats
 use Rattle.cells.proofs.burst_at.Reads as cells-burst-at
 use Rattle.cells.proofs.passed.Reads as cells-passed
 use Rattle.cells.proofs.burst_cells.Reads as cells-burst-cells
+use Rattle.player.proofs.play.Reads as player-play
 use Rattle.browser.proofs.event_at.Reads as browser-event-at
 use Rattle.rows.proofs.stands.Reads as rows-stands
 use Rattle.rows.proofs.write.Reads as rows-write
 use Rattle.asking.proofs.open_row.Reads as asking-open-row
+use Rattle.monthly.proofs.wanted.Reads as monthly-wanted
+use Rattle.monthly.proofs.ends.Reads as monthly-ends
+use Rattle.monthly.proofs.told.Reads as monthly-told
+use Rattle.monthly.proofs.tally.Reads as monthly-tally
+use Rattle.monthly.proofs.nothing.Reads as monthly-nothing
+use Rattle.monthly.proofs.has_room.Reads as monthly-has-room
+use Rattle.monthly.proofs.add.Reads as monthly-add
+use Rattle.monthly.proofs.beats.Reads as monthly-beats
 use Rattle.morgazell.proofs.morgazell_judge.Reads as morgazell-morgazell-judge
 use Rattle.morgazell.proofs.morgazell_recording.Reads as morgazell-morgazell-recording
 use Rattle.morgazell.proofs.morgazell_cells.Reads as morgazell-morgazell-cells
+use Rattle.morgazell.proofs.morgazell_play.Reads as morgazell-morgazell-play
 use Rattle.morgazell.proofs.morgazell_schedule.Reads as morgazell-morgazell-schedule
 use Rattle.morgazell.proofs.morgazell_blank.Reads as morgazell-morgazell-blank
 use Rattle.morgazell.proofs.morgazell_read_export.Reads as morgazell-morgazell-read-export
@@ -506,6 +519,9 @@ beats-first-cell-settles κs a z z′ e e′ p q = p ∙ sym q
 pub beats-first-cells-settles : (κs : _) (a : _) (z z′ : _) (e e′ : _) → beats-first-cells.Post κs a z e → beats-first-cells.Post κs a z′ e′ → z ≡ z′
 beats-first-cells-settles κs a z z′ e e′ p q = p ∙ sym q
 
+pub beats-beat-cell-settles : (κs : _) (a : _) (z z′ : _) (e e′ : _) → beats-beat-cell.Post κs a z e → beats-beat-cell.Post κs a z′ e′ → z ≡ z′
+beats-beat-cell-settles κs a z z′ e e′ p q = p ∙ sym q
+
 pub beats-open-row-settles : (κs : _) (a : _) (z z′ : _) (e e′ : _) → beats-open-row.Post κs a z e → beats-open-row.Post κs a z′ e′ →
     now (e .1 .0) ≡ now (e′ .1 .0)
 beats-open-row-settles κs a z z′ e e′ p q = p ∙ sym q
@@ -538,6 +554,12 @@ cells-passed-settles κs a z z′ e e′ p q = (p .0 ∙ sym (q .0), p .1 ∙ sy
 pub cells-burst-cells-settles : (κs : _) (a : _) (z z′ : _) (e e′ : _) → cells-burst-cells.Post κs a z e → cells-burst-cells.Post κs a z′ e′ →
     (z ≡ z′) × (now (e .1 .0) ≡ now (e′ .1 .0))
 cells-burst-cells-settles κs a z z′ e e′ p q = (cells.one-answer z z′ (p .0 ∙ sym (q .0)), p .1 ∙ sym (q .1))
+
+-- ---- player
+
+pub player-play-settles : (κs : _) (a : _) (z z′ : _) (e e′ : _) → player-play.Post κs a z e → player-play.Post κs a z′ e′ →
+    (z ≡ z′) × ((now (e .1 .1 .0) ≡ now (e′ .1 .1 .0)) × (now (e .1 .1 .1 .1 .0) ≡ now (e′ .1 .1 .1 .1 .0)))
+player-play-settles κs a z z′ e e′ p q = (player.one-answer z z′ (p .0 ∙ sym (q .0)), (p .1 .0 ∙ sym (q .1 .0), p .1 .1 ∙ sym (q .1 .1)))
 
 -- ---- browser
 
@@ -575,6 +597,32 @@ pub exports-write-settles : (κs : _) (a : _) (z z′ : _) (e e′ : _) → expo
     (z ≡ z′) × (now (e .1 .0) ≡ now (e′ .1 .0))
 exports-write-settles κs a z z′ e e′ p q = (exports.one-answer z z′ (p .0 ∙ sym (q .0)), p .1 ∙ sym (q .1))
 
+-- ---- monthly
+
+pub monthly-wanted-settles : (κs : _) (a : _) (z z′ : _) (e e′ : _) → monthly-wanted.Post κs a z e → monthly-wanted.Post κs a z′ e′ → z ≡ z′
+monthly-wanted-settles κs a z z′ e e′ p q = p .0 ∙ sym (q .0)
+
+pub monthly-ends-settles : (κs : _) (a : _) (z z′ : _) (e e′ : _) → monthly-ends.Post κs a z e → monthly-ends.Post κs a z′ e′ → z ≡ z′
+monthly-ends-settles κs a z z′ e e′ p q = p ∙ sym q
+
+pub monthly-told-settles : (κs : _) (a : _) (z z′ : _) (e e′ : _) → monthly-told.Post κs a z e → monthly-told.Post κs a z′ e′ → z ≡ z′
+monthly-told-settles κs a z z′ e e′ p q = monthly.one-line z z′ (p ∙ sym q)
+
+pub monthly-tally-settles : (κs : _) (a : _) (z z′ : _) (e e′ : _) → monthly-tally.Post κs a z e → monthly-tally.Post κs a z′ e′ → z ≡ z′
+monthly-tally-settles κs a z z′ e e′ p q = p ∙ sym q
+
+pub monthly-nothing-settles : (κs : _) (a : _) (z z′ : _) (e e′ : _) → monthly-nothing.Post κs a z e → monthly-nothing.Post κs a z′ e′ → z ≡ z′
+monthly-nothing-settles κs a z z′ e e′ p q = monthly.one-sum z z′ (p .0 ∙ sym (q .0))
+
+pub monthly-has-room-settles : (κs : _) (a : _) (z z′ : _) (e e′ : _) → monthly-has-room.Post κs a z e → monthly-has-room.Post κs a z′ e′ → z ≡ z′
+monthly-has-room-settles κs a z z′ e e′ p q = p ∙ sym q
+
+pub monthly-add-settles : (κs : _) (a : _) (z z′ : _) (e e′ : _) → monthly-add.Post κs a z e → monthly-add.Post κs a z′ e′ → z ≡ z′
+monthly-add-settles κs a z z′ e e′ p q = monthly.one-sum z z′ (p .0 ∙ sym (q .0))
+
+pub monthly-beats-settles : (κs : _) (a : _) (z z′ : _) (e e′ : _) → monthly-beats.Post κs a z e → monthly-beats.Post κs a z′ e′ → z ≡ z′
+monthly-beats-settles κs a z z′ e e′ p q = p ∙ sym q
+
 -- ---- morgazell
 
 pub morgazell-morgazell-judge-settles : (κs : _) (a : _) (z z′ : _) (e e′ : _) → morgazell-morgazell-judge.Post κs a z e → morgazell-morgazell-judge.Post κs a z′ e′ →
@@ -588,6 +636,11 @@ morgazell-morgazell-recording-settles κs a z z′ e e′ p q = p ∙ sym q
 pub morgazell-morgazell-cells-settles : (κs : _) (a : _) (z z′ : _) (e e′ : _) → morgazell-morgazell-cells.Post κs a z e → morgazell-morgazell-cells.Post κs a z′ e′ →
     (z ≡ z′) × (now (e .1 .0) ≡ now (e′ .1 .0))
 morgazell-morgazell-cells-settles κs a z z′ e e′ p q = (p .0 ∙ sym (q .0), p .1 ∙ sym (q .1))
+
+pub morgazell-morgazell-play-settles : (κs : _) (a : _) (z z′ : _) (e e′ : _) → morgazell-morgazell-play.Post κs a z e →
+    morgazell-morgazell-play.Post κs a z′ e′ →
+    (z ≡ z′) × ((now (e .1 .1 .0) ≡ now (e′ .1 .1 .0)) × (now (e .1 .1 .1 .1 .0) ≡ now (e′ .1 .1 .1 .1 .0)))
+morgazell-morgazell-play-settles κs a z z′ e e′ p q = (p .0 ∙ sym (q .0), (p .1 .0 ∙ sym (q .1 .0), p .1 .1 ∙ sym (q .1 .1)))
 
 pub morgazell-morgazell-schedule-settles : (κs : _) (a : _) (z z′ : _) (e e′ : _) → morgazell-morgazell-schedule.Post κs a z e → morgazell-morgazell-schedule.Post κs a z′ e′ → (z ≡ z′) × (now (e .1 .1 .1 .0) ≡ now (e′ .1 .1 .1 .0))
 morgazell-morgazell-schedule-settles κs a z z′ e e′ p q = (p .0 ∙ sym (q .0), p .1 ∙ sym (q .1))

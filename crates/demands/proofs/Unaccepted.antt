@@ -12,15 +12,18 @@ use Rattle.reading.specs.Capture.{headerWord}
 use Rattle.cells.specs.declared.Listed.{Listed}
 use Rattle.hidden.specs.declared.Blanked.{Blanked}
 use Rattle.exports.specs.declared.Converted.{Converted}
-use Rattle.demands.specs.Allowed.{Lists, Blanks, WritesExport, RefusedByAll}
+use Rattle.player.specs.declared.Played.{Played}
+use Rattle.demands.specs.Allowed.{Lists, Blanks, WritesExport, Plays, RefusedByAll}
 use Rattle.demands.specs.Captures.{leastBytes, BadLength, CaptureRefused}
 use Rattle.demands.specs.Captures as case
 use Rattle.demands.specs.Refused.{Accepted, unaccepted, unopened}
 use Rattle.demands.specs.Exports as exports
+use Rattle.demands.specs.Played as play
 use Rattle.demands.proofs.Opening.{accepted-exactly}
 use Rattle.demands.proofs.Refusing.{judge-refused, list-refused-exactly, list-refused}
 use Rattle.demands.proofs.Blanking.{blank-refused-exactly, blank-refused}
 use Rattle.demands.proofs.Converting.{write-refused-exactly, write-refused}
+use Rattle.demands.proofs.Playing.{play-refused-exactly, play-refused}
 
 -- Whatever is refused is refused so by every call.
 pub refused-by-all : (capture : List ℕ) (number place : ℕ) → CaptureRefused capture number place → RefusedByAll capture number place
@@ -39,6 +42,10 @@ refused-by-all capture number place c =
           λ out r left a.
           let e = blank-refused-exactly capture out r left a number place .1 (unopened c) in
           (e, blank-refused capture out left number place (subst (λ (x : Blanked). Blanks capture out x left) e a));
+      play =
+          λ first window writes reads r left words a.
+          let e = play-refused-exactly capture first window writes reads r left words a number place .1 (play.unopened c) in
+          (e, play-refused capture first window writes reads left words number place (subst (λ (x : Played). Plays capture first window writes reads x left words) e a));
     }
 
 -- ---- the length

@@ -6,6 +6,7 @@ use Rattle.reading.specs.Capture.{mostEvents, mostRecorded}
 use Rattle.reading.specs.Answers.{judgeAnswerTo, cellsOutcome, scheduleOutcome}
 use Rattle.reading.specs.Blank.{blankOutcome}
 use Rattle.reading.specs.OpenRow.{openRowOutcome}
+use Rattle.reading.specs.Player.{PlayOutcome, playOutcome}
 use Rattle.capture.specs.Calls.{Meets}
 use Rattle.judge.specs.declared.Verdict.{Verdict}
 use Rattle.judge.specs.declared.Verdict.the-variants as verdict
@@ -22,8 +23,15 @@ use Rattle.reading.specs.Export.{readOutcome, writeOutcome}
 use Rattle.exports.specs.declared.Converted.{Converted}
 use Rattle.exports.specs.declared.Converted.the-variants as converted
 use Rattle.exports.specs.Meaning as exports
+use Rattle.player.specs.declared.Played.{Played}
+use Rattle.player.specs.declared.Played.the-variants as played
+use Rattle.player.specs.Playing as player
 use Rattle.banks.specs.declared.Bank.{Bank}
 use Rattle.banks.specs.Banks.{bankOf, recordOf}
+use Rattle.reading.specs.Month.{lineOf}
+use Rattle.monthly.specs.declared.Line.{Line}
+use Rattle.monthly.specs.declared.Totals.{Totals}
+use Rattle.monthly.specs.Meaning.{lineMeans, totalsMean, added}
 use Rattle.morgazell.specs.Packing.{packed, rowTold}
 
 -- by `judge::judge_to`, where there may be so many events
@@ -65,9 +73,26 @@ Tells capture bank event records index r left words =
     × (left ≡ map bankOf (openRowOutcome capture bank event (map recordOf records) index .records))
     × (words ≡ openRowOutcome capture bank event (map recordOf records) index .index)
 
+-- by `monthly::told`, of bytes as a capture
+abbrev pub TellsLine : List ℕ → Line → Type 0
+TellsLine capture r = lineMeans r ≡ lineOf capture
+
+-- by `monthly::add`
+abbrev pub AddsUp : Totals → Line → Totals → Type 0
+AddsUp t x r = totalsMean r ≡ added (totalsMean t) (lineMeans x)
+
+-- by `player::play`, lent a window and words to read to, which hold `left` and `words` afterwards
+abbrev pub Ends : Played → List ℕ → List ℕ → PlayOutcome → Type 0
+Ends r left words o = (player.means r ≡ o .answer) × ((left ≡ o .window) × (words ≡ o .reads))
+
+abbrev pub Plays : List ℕ → ℕ → List ℕ → List ℕ → List ℕ → Played → List ℕ → List ℕ → Type 0
+Plays capture first window writes reads r left words = Ends r left words (playOutcome capture first window writes reads)
+
 -- by every call that is asked about a capture: it is refused so, and what was lent is left as it was
 pub record RefusedByAll (capture : List ℕ) (number place : ℕ) : Type 0 where
   pub judge : (r : Verdict) → Judges capture r → r ≡ verdict.Refused number place
   pub list : (out : List ℕ) (r : Listed) (left : List ℕ) → Lists capture out r left → (r ≡ listed.Refused number place) × (left ≡ out)
   pub export : (out : List ℕ) (r : Converted) (left : List ℕ) → WritesExport capture out r left → (r ≡ converted.Refused number place) × (left ≡ out)
   pub blank : (out : List ℕ) (r : Blanked) (left : List ℕ) → Blanks capture out r left → (r ≡ blanked.Refused number place) × (left ≡ out)
+  pub play : (first : ℕ) (window writes reads : List ℕ) (r : Played) (left words : List ℕ) → Plays capture first window writes reads r left words →
+      (r ≡ played.Refused number place) × ((left ≡ window) × (words ≡ reads))

@@ -11,3 +11,4 @@ pub mod OldEdition
 pub mod ClosedRows
 pub mod Judged
 pub mod Exports
+pub mod Played

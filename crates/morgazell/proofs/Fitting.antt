@@ -146,7 +146,7 @@ module _ (capture : List ℕ) (short : Value (eventCount capture)) where
   verdict-fits is.clean e = omega arith
   verdict-fits (is.broken rule event cycle) e = broken-fits rule event cycle e
 
-  not-clean-fits : (v : is.Verdict) → verdictIn capture ≡ v → (place : ℕ) → notClean v ≡ some place → Value place
+  pub not-clean-fits : (v : is.Verdict) → verdictIn capture ≡ v → (place : ℕ) → notClean v ≡ some place → Value place
   not-clean-fits is.clean e place f = let z : _≡_ {A = ℕ} 0 1 = cc in absurd (omega arith)
   not-clean-fits (is.broken rule event cycle) e place f =
       let z : event ≡ place = cc in
@@ -202,7 +202,7 @@ bursts-length : (s : Settings) (es : List Event) → length (burstsOf s es) ≤ 
 unfolding burstsOf
 bursts-length s es = omega (arith, length-reverse (run s (start s) es .bursts), run-length s (start s) es)
 
-cells-few : (capture : List ℕ) → eventCount capture ≤ 8000 → Value (length (cellsIn capture))
+pub cells-few : (capture : List ℕ) → eventCount capture ≤ 8000 → Value (length (cellsIn capture))
 unfolding cellsIn
 cells-few capture short =
     let s = settingsIn capture in

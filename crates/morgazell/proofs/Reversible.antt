@@ -14,11 +14,13 @@ use Rattle.reading.specs.Answers.{Answer, Report, refused, answered, verdictIn,
 use Rattle.reading.specs.Blank.{blankOutcome}
 use Rattle.reading.specs.Export.{readOutcome, writeOutcome}
 use Rattle.reading.specs.OpenRow.{openRowAnswer}
+use Rattle.reading.specs.Player.{playOutcome}
 use Rattle.reading.proofs.Meaning.{eventOf}
 use Rattle.words.proofs.Counting.{at-count}
 use Rattle.morgazell.specs.Packing.{Told, refusal, count, breach, word, packed, told, numberIn, ruleIn, valueIn, unpacked, verdictTold, judgeTold, countTold, rowTold, judgeAnswerOf, countAnswerOf, rowAnswerOf}
 use Rattle.morgazell.proofs.Fitting.{Number, Value, Fits, on-accepted, accepted-few, events-length, broken-at, judge-fits, cells-fits, schedule-fits, blank-fits, row-fits}
 use Rattle.morgazell.proofs.Exports.{read-fits, write-fits}
+use Rattle.morgazell.proofs.Playing.{play-fits}
 
 word-back : (number rule value : ℕ) → number < 2 ^ 8 → rule < 2 ^ 8 → Value value → unpacked (word number rule value) ≡ told number rule value
 unfolding unpacked
@@ -147,6 +149,19 @@ write-export-back capture buffer = count-back (writeOutcome capture buffer .answ
 pub write-export-tells : (a b x y : List ℕ) → packed (countTold (writeOutcome a x .answer)) ≡ packed (countTold (writeOutcome b y .answer)) →
     writeOutcome a x .answer ≡ writeOutcome b y .answer
 write-export-tells a b x y = count-tells (writeOutcome a x .answer) (writeOutcome b y .answer) (write-fits a x) (write-fits b y)
+
+-- ---- plays
+
+module _ (capture : List ℕ) (first : ℕ) (window writes reads : List ℕ) where
+  abbrev playAnswer : Answer ℕ
+  playAnswer = playOutcome capture first window writes reads .answer
+
+  pub play-back : countAnswerOf (unpacked (packed (countTold playAnswer))) ≡ playAnswer
+  play-back = count-back playAnswer (play-fits capture first window writes reads)
+
+pub play-tells : (a b : List ℕ) (i j : ℕ) (u v w x y z : List ℕ) → packed (countTold (playAnswer a i u w y)) ≡ packed (countTold (playAnswer b j v x z)) →
+    playAnswer a i u w y ≡ playAnswer b j v x z
+play-tells a b i j u v w x y z = count-tells (playAnswer a i u w y) (playAnswer b j v x z) (play-fits a i u w y) (play-fits b j v x z)
 
 -- ---- open rows
 

@@ -6,6 +6,7 @@ use cells::Listed;
 use exports::Converted;
 use hidden::Blanked;
 use judge::Verdict;
+use player::Played;
 use schedule::Scheduled;
 ghost use mathlib.Core.Path.{_≡_};
 ghost use Prim.Native.Nat.{_<_};
@@ -14,6 +15,7 @@ ghost use Rattle.reading.specs.Answers.{judgeAnswerTo, judgeAnswer, recordingAn
 ghost use Rattle.reading.specs.Blank.{blankOutcome};
 ghost use Rattle.reading.specs.Export.{readOutcome, writeOutcome};
 ghost use Rattle.reading.specs.OpenRow.{openRowOutcome};
+ghost use Rattle.reading.specs.Player.{playOutcome};
 ghost use Rattle.banks.specs.Banks.{means, bankOf, recordOf};
 ghost use Rattle.version.specs.Version.{version};
 ghost use Rattle.morgazell.specs.Packing.{word, packed, judgeTold, countTold, rowTold, Packs};
@@ -162,6 +164,30 @@ pub extern "C" fn morgazell_open_row(
     let t = asking::open_row(capture, bank, event, records.len(), index);
     banks::fill(records, t);
     packed_row(t)
+}
+
+// These bytes as a capture, played on the window of cells from `first` on, with the words and masks of `writes`; what lies behind
+// the words read stays.
+#[no_mangle]
+pub extern "C" fn morgazell_play(
+    capture: &[u8],
+    first: u32,
+    window: &mut [u32],
+    writes: &[u32],
+    reads: &mut [u32],
+) -> u64
+    ensures { λ r.
+        ⌜ r ≡ packed (countTold (playOutcome (now (capture .entry)) first (now (window .entry)) (now (writes .entry)) (now (reads .entry)) .answer)) ⌝ }
+    ensures { λ _.
+        ⌜ now (window .exit) ≡ playOutcome (now (capture .entry)) first (now (window .entry)) (now (writes .entry)) (now (reads .entry)) .window ⌝ }
+    ensures { λ _.
+        ⌜ now (reads .exit) ≡ playOutcome (now (capture .entry)) first (now (window .entry)) (now (writes .entry)) (now (reads .entry)) .reads ⌝ }
+{
+    let played = player::play(capture, first, window, writes, reads);
+    match played {
+        Played::Refused { number, place } => pack(number, 0, place),
+        Played::Words { read } => pack(0, 0, read),
+    }
 }
 
 // 10203 for version 1.2.3.

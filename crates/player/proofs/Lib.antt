@@ -4,6 +4,6 @@ pub mod Window
 mod Loops
 mod Given
 mod Trying
-mod Running
-mod Calling
+pub mod Running
+pub mod Calling
 pub mod Unique

@@ -23,6 +23,7 @@ enum Function {
     ReadExport = 6,
     WriteExport = 7,
     OpenRow = 8,
+    Play = 9,
 }
 
 pub struct Archive {
@@ -135,6 +136,39 @@ impl Archive {
         Ok(answer)
     }
 
+    /// The window and the words read come back with as many elements behind what is lent.
+    pub fn play(
+        &mut self,
+        capture: &[u8],
+        first: u32,
+        window: &mut [u32],
+        writes: &[u32],
+        reads: &mut [u32],
+        behind: usize,
+    ) -> io::Result<u64> {
+        let counts = [
+            capture.len(),
+            window.len() - behind,
+            reads.len() - behind,
+            behind,
+        ];
+        let asked = [first, writes.len() as u32];
+        let inputs = [bytes_of(&asked), capture.to_vec()].concat();
+        let mut bytes = [bytes_of(window), bytes_of(reads)].concat();
+        let answer = self.ask_with(
+            Function::Play,
+            counts,
+            inputs,
+            &mut bytes,
+            &bytes_of(writes),
+        )?;
+        let words = words(&bytes);
+        let (cells, read) = words.split_at(window.len());
+        window.copy_from_slice(cells);
+        reads.copy_from_slice(read);
+        Ok(answer)
+    }
+
     /// Ends the program, which must have nothing to complain of.
     pub fn finish(self) -> io::Result<()> {
         let Archive {
@@ -158,10 +192,23 @@ impl Archive {
         inputs: Vec<u8>,
         buffer: &mut [u8],
     ) -> io::Result<u64> {
+        self.ask_with(function, counts, inputs, buffer, &[])
+    }
+
+    /// The same, with what stands behind the buffer in the question and is not answered.
+    fn ask_with(
+        &mut self,
+        function: Function,
+        counts: [usize; 4],
+        inputs: Vec<u8>,
+        buffer: &mut [u8],
+        last: &[u8],
+    ) -> io::Result<u64> {
         let mut question = bytes_of(&[function as u32]);
         question.extend(bytes_of(&counts.map(|count| count as u32)));
         question.extend(inputs);
         question.extend_from_slice(buffer);
+        question.extend_from_slice(last);
         self.questions.write_all(&question)?;
         let mut answer = [0; 8];
         self.answers.read_exact(&mut answer)?;

@@ -7,6 +7,7 @@ mod damage;
 mod dice;
 mod export_tally;
 mod exports;
+mod plays;
 mod requests;
 mod settings;
 mod tally;
@@ -17,6 +18,7 @@ pub use damage::damaged_capture;
 pub use dice::Dice;
 pub use export_tally::{ExportTally, Shown};
 pub use exports::{export, far_capture, settings_of, Export};
+pub use plays::{play_of, Play, PlayShown, PlayTally};
 pub use requests::{request_list, row_policy};
 pub use tally::{Tally, MOST_CELLS, NO_RULE};
 

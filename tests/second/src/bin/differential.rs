@@ -12,12 +12,13 @@ use second::archive::Archive;
 use second::capture::{bytes_of_edition, Capture, Refusal};
 use second::export::with_nops;
 use second::generate::{
-    export, far_capture, input, long_recording, other_addresses, settings_of, Dice, Export,
-    ExportTally, Input, Tally, MOST_CELLS,
+    export, far_capture, input, long_recording, other_addresses, play_of, settings_of, Dice,
+    Export, ExportTally, Input, PlayTally, Tally, MOST_CELLS,
 };
 use second::openings::Record;
 use second::{
-    blank, cells, judge, judge_recording, open_row, packed, read_export, schedule, write_export,
+    blank, cells, judge, judge_recording, open_row, packed, play, read_export, schedule,
+    write_export,
 };
 
 /// What fills buffers beforehand, so that an element written by mistake shows.
@@ -56,6 +57,7 @@ fn run(inputs: u64, seed: u64, build: &str) -> Result<(), String> {
         dice: Dice::new(seed),
         tally: Tally::default(),
         exports: ExportTally::default(),
+        plays: PlayTally::default(),
         archive: Archive::start(build).map_err(|error| format!("the archive: {error}"))?,
     };
     for number in 0..inputs {
@@ -66,6 +68,7 @@ fn run(inputs: u64, seed: u64, build: &str) -> Result<(), String> {
     let Comparison {
         tally,
         exports,
+        plays,
         archive,
         ..
     } = comparison;
@@ -73,7 +76,8 @@ fn run(inputs: u64, seed: u64, build: &str) -> Result<(), String> {
     println!("{inputs} inputs of seed {seed}, {build} build: no difference");
     println!("{tally}");
     println!("{exports}");
-    let missing = [tally.missing(), exports.missing()].concat();
+    println!("{plays}");
+    let missing = [tally.missing(), exports.missing(), plays.missing()].concat();
     if missing.is_empty() {
         Ok(())
     } else {
@@ -104,6 +108,7 @@ struct Comparison {
     dice: Dice,
     tally: Tally,
     exports: ExportTally,
+    plays: PlayTally,
     archive: Archive,
 }
 
@@ -132,6 +137,7 @@ impl Comparison {
                 self.compare_cells(&capture)?;
                 self.compare_blanks(&capture)?;
                 self.compare_rows(&capture)?;
+                self.compare_plays(&capture)?;
                 self.compare_addresses(&capture)?;
                 self.compare_writes(&capture)
             }
@@ -250,6 +256,49 @@ impl Comparison {
             });
             let shown = || format!("bank {bank} event {event} of {}", hex(capture));
             same("open row", &expected, found, shown)?;
+        }
+        Ok(())
+    }
+
+    /// A play that can be played more often than not; window and words read are held together.
+    fn compare_plays(&mut self, capture: &[u8]) -> Result<(), Difference> {
+        let with = play_of(&mut self.dice, capture);
+        let reads = &mut vec![UNTOUCHED; MOST_CELLS];
+        let whole = play(
+            capture,
+            with.first,
+            &mut with.window.clone(),
+            &with.writes,
+            reads,
+        );
+        for length in self.lengths(needed(whole), MOST_CELLS) {
+            let fenced = [&with.window[..], &[UNTOUCHED; FENCE]].concat();
+            let lent = with.window.len();
+            let (mut window, mut reads) = (fenced.clone(), vec![UNTOUCHED; length + FENCE]);
+            let mine = (&mut window[..lent], &mut reads[..length]);
+            let answer = play(capture, with.first, mine.0, &with.writes, mine.1);
+            self.plays.count(capture, &with, answer);
+            let expected = Left {
+                answer: packed::of_count(answer),
+                buffer: [window, reads].concat(),
+            };
+            let (mut window, mut reads) = (fenced, vec![UNTOUCHED; length + FENCE]);
+            let asked = &mut self.archive;
+            let answer = asked.play(
+                capture,
+                with.first,
+                &mut window,
+                &with.writes,
+                &mut reads,
+                FENCE,
+            );
+            let found = answer.map(|answer| Left {
+                answer,
+                buffer: [window, reads].concat(),
+            });
+            same("play", &expected, found, || {
+                format!("{with:?} of {}", hex(capture))
+            })?;
         }
         Ok(())
     }
