@@ -140,7 +140,15 @@ fn print_read(out: &mut Out, read: u32, reads: &[u32]) {
 // ---- the work
 
 // On the first `size` words of the window, with so many words and masks.
-fn on(capture: &[u8], first: u32, window: &mut [u32], size: usize, writes: &[u32], supply: usize, reads: &mut [u32]) {
+fn on(
+    capture: &[u8],
+    first: u32,
+    window: &mut [u32],
+    size: usize,
+    writes: &[u32],
+    supply: usize,
+    reads: &mut [u32],
+) {
     let lent = lesser(size, window.len());
     let given = lesser(supply, writes.len());
     let played = player::play(capture, first, &mut window[..lent], &writes[..given], reads);
@@ -165,19 +173,33 @@ fn work(capture: &[u8], first: u32, size: usize, behind: &[u8]) {
     let rest = &behind[taken..];
     let supply = rest.len() / 4;
     fill(&mut writes, supply, rest);
-    on(capture, first, &mut window, size, &writes, supply, &mut reads);
+    on(
+        capture,
+        first,
+        &mut window,
+        size,
+        &writes,
+        supply,
+        &mut reads,
+    );
 }
 
+// Where the first word says that the capture ends. What is too short for one has nothing behind it.
 fn split(input: &[u8], total: usize) {
     let front = lesser(total, input.len());
+    let capture = &input[..front];
     let rest = &input[front..];
+    if input.len() < 80 {
+        work(input, 0, 0, rest);
+        return;
+    }
     if input.len() < total {
         work(input, 0, 0, rest);
         return;
     }
+    let first = word_at(rest, 0);
     let size = word_at(rest, 4) as usize;
-    let whole = rest.len() % 4 == 0;
-    if !whole {
+    if rest.len() % 4 != 0 {
         program::complain_of(
             &NAME,
             0,
@@ -186,11 +208,20 @@ fn split(input: &[u8], total: usize) {
         );
         return;
     }
-    if rest.len() / 4 < 2 + lesser(size, MOST_WINDOW) {
+    if rest.len() < 8 {
         program::complain_of(&NAME, 0, b" ends before the window does", &UNDONE);
         return;
     }
-    work(&input[..front], word_at(rest, 0), size, &rest[8..]);
+    let behind = &rest[8..];
+    if MOST_WINDOW < size {
+        work(capture, first, size, behind);
+        return;
+    }
+    if behind.len() / 4 < size {
+        program::complain_of(&NAME, 0, b" ends before the window does", &UNDONE);
+        return;
+    }
+    work(capture, first, size, behind);
 }
 
 fn main() {
