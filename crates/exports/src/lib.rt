@@ -201,7 +201,11 @@ fn nops_between(last: u32, t: u32) -> u32
     if t <= last {
         return 0;
     }
-    (t - last - 1) / REACH
+    let apart = t - last - 1;
+    if apart < REACH {
+        return 0;
+    }
+    apart / REACH
 }
 
 // How many records the first n events take. Each takes at most 30,519, so that their number fits.
