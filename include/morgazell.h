@@ -82,17 +82,18 @@
  *
  * Memory. Lengths count elements of the pointer's type. A pointer may be NULL where its length is 0; else it points to
  * that many elements, aligned for their type (a capture, being bytes, may stand anywhere). What is lent to be written must
- * not overlap an input or anything else that is lent; inputs may overlap each other, and must stay as they are until the call returns: a mapped file may be written to
- * or become shorter (examples/judge_files.c says what to do then). Nothing at or behind out + out_len is read or written, inputs are not written,
- * and a refused call leaves every lent buffer as it was. So a call with an empty buffer asks what length is needed: refusal 7 says.
+ * not overlap an input or anything else that is lent. Inputs may overlap each other, and must stay as they are until the call
+ * returns: a mapped file may be written to or become shorter (examples/judge_files.c says what to do then). Nothing at or
+ * behind out + out_len is read or written, inputs are not written, and a refused call leaves every lent buffer as it was. So a
+ * call with an empty buffer asks what length is needed: refusal 7 says.
  *
  * Threads. No call allocates, keeps anything between calls, or asks anything of the system: any number of threads may
  * call at the same time, each with buffers of its own; inputs may be shared.
  *
- * Stack. The most that a call takes, in bytes, the return address included: morgazell_judge 1024, morgazell_recording 1024,
- * morgazell_cells 1280, morgazell_schedule 66560, morgazell_blank 512, morgazell_open_row 1280, morgazell_read_export 512, morgazell_write_export 512,
- * morgazell_play 1280, morgazell_version 136; besides, what memcpy and memset of the C library take. The archive wants nothing of anyone but
- * these two, and not even these where it is built for the smallest size. */
+ * Stack. The most that a call takes, in bytes, the return address included: morgazell_judge 1280, morgazell_recording 1280,
+ * morgazell_cells 1280, morgazell_schedule 66560, morgazell_blank 640, morgazell_open_row 1280, morgazell_read_export 512,
+ * morgazell_write_export 512, morgazell_play 1280, morgazell_version 136; besides, what memcpy and memset of the C library take.
+ * The archive wants nothing of anyone but these two, and not even these where it is built for the smallest size. */
 #ifndef MORGAZELL_H
 #define MORGAZELL_H
 

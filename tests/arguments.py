@@ -127,5 +127,5 @@ class Trial:
         return self.count, self.wrong
 
 
-def tried(*trial):
-    return Trial(*trial).all()
+def tried(*trial, **more):
+    return Trial(*trial, **more).all()

@@ -16,10 +16,10 @@ ROOT = os.path.join(os.path.dirname(os.path.abspath(__file__)), "..", "..")
 LAWS = os.path.join("crates", "demands", "proofs", "Settled.antt")
 HELD = os.path.join("crates", "demands", "proofs", "Held.antt")
 
-# They read and print for the programs: all of `console`, and of `wording` what is lent the mark of an output.
+# They read and print for the programs: all of `console`, and of `wording` what is lent the mark of an output or a line of text.
 READING = "console"
 PRINTING = "wording"
-MARK = re.compile(r"&mut Out\b")
+MARK = re.compile(r"&mut Out\b|\bline: &mut \[u8\]")
 
 # What the laws and their proofs are written with.
 BROUGHT = """\
@@ -34,6 +34,7 @@ use Rattle.serving.proofs.Unique as serving
 use Rattle.schedule.proofs.Unique as schedule
 use Rattle.hidden.proofs.Unique as hidden
 use Rattle.exports.proofs.Unique as exports
+use Rattle.monthly.proofs.Unique as monthly
 use Rattle.demands.proofs.Finding as finding
 use Rattle.demands.proofs.Judging as judging
 """.splitlines()

@@ -3,7 +3,7 @@ pipes, cases, functions, texts in quotes with commands in them, and documents up
 import re
 
 KEYWORDS = set("if then else elif fi while do done in { } ! exec xargs command".split())
-BUILT_IN = set("[ : case cd echo esac exit export for local printf pwd read return set shift trap true".split())
+BUILT_IN = set("[ : case cd echo esac exit export for local printf pwd read return set shift trap true wait".split())
 WORD = re.compile(r"""[^\s;|&()<>"'`#][^\s;|&()<>"'`]*""")
 REDIRECTED = re.compile(r"[<>]+(?:&\d)?")
 DOCUMENT = re.compile(r"<<END\n(?s:.*?)\nEND\n")

@@ -85,8 +85,11 @@ def is_present(edit, folder):
 
 
 def function_at(path, line):
-    """The function whose text begins at this line of a source."""
-    return re.search(r"\bfn (\w+)", "\n".join(read(path).split("\n")[line - 1:])).group(1)
+    """The function whose text begins at this line of a source, or else the one that the line stands in."""
+    lines = read(path).split("\n")
+    if re.match(r"#\[|(pub )?(extern \"C\" )?fn\b", lines[line - 1]):
+        return re.search(r"\bfn (\w+)", "\n".join(lines[line - 1:])).group(1)
+    return re.findall(r"\bfn (\w+)", "\n".join(lines[:line]))[-1]
 
 
 def place(folder, path):

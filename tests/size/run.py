@@ -16,8 +16,9 @@ import elf
 PAGE = os.path.join(ROOT, "docs", "PERFORMANCE.md")
 BUILDS = {"`tools/archive`": "morgazell", "`tools/smallest`": "morgazell-smallest"}
 VERSION, JUDGE, CELLS, SCHEDULE = "morgazell_version", "morgazell_judge", "morgazell_cells", "morgazell_schedule"
-BLANK, RECORDING = "morgazell_blank", "morgazell_recording"
-CALLERS = [(VERSION, JUDGE, RECORDING, CELLS, SCHEDULE, BLANK), (JUDGE, CELLS), (JUDGE,)]
+BLANK, RECORDING, ROW, PLAY = "morgazell_blank", "morgazell_recording", "morgazell_open_row", "morgazell_play"
+EXPORTS = ("morgazell_read_export", "morgazell_write_export")
+CALLERS = [(VERSION, JUDGE, RECORDING, CELLS, SCHEDULE, BLANK, ROW, PLAY, *EXPORTS), (JUDGE, CELLS), (JUDGE,)]
 
 
 def carried(archive, functions):

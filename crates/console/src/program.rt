@@ -26,7 +26,7 @@ pub struct Given {
     pub size: usize,
 }
 
-const NOTHING: Given = Given {
+pub const NOTHING: Given = Given {
     work: false,
     size: 0,
 };

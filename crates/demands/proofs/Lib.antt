@@ -15,6 +15,7 @@ pub mod Judged
 pub mod Converting
 pub mod Exporting
 pub mod OpenRow
+pub mod Months
 mod Finding
 mod Settled
 mod Held

@@ -208,3 +208,22 @@ refusal-told capture bank event records index r left words told number place h =
           ∙ back capture bank event records index r left words told records),
       told .2 ∙ ap (λ (a : Answer (Option ℕ)). over a (indexIn capture) index) e,
     )
+
+-- Else it says the row that the reading's part has open in the bank after the event, or idle, and fills both buffers; what lies
+-- behind the records and the index stays.
+pub row-told : (capture : List ℕ) (bank event : ℕ) (records : List Bank) (index : List ℕ) (r : ℕ) (left : List Bank) (words : List ℕ) →
+    Tells capture bank event records index r left words →
+    Accepted capture → Clean capture → bank ≤ 3 → event < eventCount capture → 4 ≤ length records → length (indexIn capture) ≤ length index →
+    (r ≡ packed (rowTold (answered (rowIn capture bank event))))
+    × (left ≡ map bankOf (recordsIn capture ++ drop (length (recordsIn capture)) (map recordOf records)))
+    × (words ≡ indexIn capture ++ drop (length (indexIn capture)) index)
+unfolding openRowOutcome
+row-told capture bank event records index r left words told open-to clean small early four room =
+    let e =
+    said capture bank event records index r left words told
+    ∙ lent capture bank event (length records) (length index) open-to clean small early (le-ltb (length records) 4 four)
+    (le-ltb (length index) (length (indexIn capture)) room) in (
+      told .0 ∙ ap (λ (a : Answer (Option ℕ)). packed (rowTold a)) e,
+      told .1 ∙ ap (λ (a : Answer (Option ℕ)). map bankOf (over a (recordsIn capture) (map recordOf records))) e,
+      told .2 ∙ ap (λ (a : Answer (Option ℕ)). over a (indexIn capture) index) e,
+    )

@@ -12,6 +12,7 @@ use Rattle.serving.proofs.Unique as serving
 use Rattle.schedule.proofs.Unique as schedule
 use Rattle.hidden.proofs.Unique as hidden
 use Rattle.exports.proofs.Unique as exports
+use Rattle.monthly.proofs.Unique as monthly
 use Rattle.demands.proofs.Finding as finding
 use Rattle.demands.proofs.Judging as judging
 use Rattle.words.proofs.word_at.Reads as words-word-at
@@ -117,6 +118,14 @@ use Rattle.browser.proofs.event_at.Reads as browser-event-at
 use Rattle.rows.proofs.stands.Reads as rows-stands
 use Rattle.rows.proofs.write.Reads as rows-write
 use Rattle.asking.proofs.open_row.Reads as asking-open-row
+use Rattle.monthly.proofs.wanted.Reads as monthly-wanted
+use Rattle.monthly.proofs.ends.Reads as monthly-ends
+use Rattle.monthly.proofs.told.Reads as monthly-told
+use Rattle.monthly.proofs.tally.Reads as monthly-tally
+use Rattle.monthly.proofs.nothing.Reads as monthly-nothing
+use Rattle.monthly.proofs.has_room.Reads as monthly-has-room
+use Rattle.monthly.proofs.add.Reads as monthly-add
+use Rattle.monthly.proofs.beats.Reads as monthly-beats
 use Rattle.morgazell.proofs.morgazell_judge.Reads as morgazell-morgazell-judge
 use Rattle.morgazell.proofs.morgazell_recording.Reads as morgazell-morgazell-recording
 use Rattle.morgazell.proofs.morgazell_cells.Reads as morgazell-morgazell-cells
@@ -587,6 +596,32 @@ exports-read-settles κs a z z′ e e′ p q = (exports.one-answer z z′ (p .0 
 pub exports-write-settles : (κs : _) (a : _) (z z′ : _) (e e′ : _) → exports-write.Post κs a z e → exports-write.Post κs a z′ e′ →
     (z ≡ z′) × (now (e .1 .0) ≡ now (e′ .1 .0))
 exports-write-settles κs a z z′ e e′ p q = (exports.one-answer z z′ (p .0 ∙ sym (q .0)), p .1 ∙ sym (q .1))
+
+-- ---- monthly
+
+pub monthly-wanted-settles : (κs : _) (a : _) (z z′ : _) (e e′ : _) → monthly-wanted.Post κs a z e → monthly-wanted.Post κs a z′ e′ → z ≡ z′
+monthly-wanted-settles κs a z z′ e e′ p q = p .0 ∙ sym (q .0)
+
+pub monthly-ends-settles : (κs : _) (a : _) (z z′ : _) (e e′ : _) → monthly-ends.Post κs a z e → monthly-ends.Post κs a z′ e′ → z ≡ z′
+monthly-ends-settles κs a z z′ e e′ p q = p ∙ sym q
+
+pub monthly-told-settles : (κs : _) (a : _) (z z′ : _) (e e′ : _) → monthly-told.Post κs a z e → monthly-told.Post κs a z′ e′ → z ≡ z′
+monthly-told-settles κs a z z′ e e′ p q = monthly.one-line z z′ (p ∙ sym q)
+
+pub monthly-tally-settles : (κs : _) (a : _) (z z′ : _) (e e′ : _) → monthly-tally.Post κs a z e → monthly-tally.Post κs a z′ e′ → z ≡ z′
+monthly-tally-settles κs a z z′ e e′ p q = p ∙ sym q
+
+pub monthly-nothing-settles : (κs : _) (a : _) (z z′ : _) (e e′ : _) → monthly-nothing.Post κs a z e → monthly-nothing.Post κs a z′ e′ → z ≡ z′
+monthly-nothing-settles κs a z z′ e e′ p q = monthly.one-sum z z′ (p .0 ∙ sym (q .0))
+
+pub monthly-has-room-settles : (κs : _) (a : _) (z z′ : _) (e e′ : _) → monthly-has-room.Post κs a z e → monthly-has-room.Post κs a z′ e′ → z ≡ z′
+monthly-has-room-settles κs a z z′ e e′ p q = p ∙ sym q
+
+pub monthly-add-settles : (κs : _) (a : _) (z z′ : _) (e e′ : _) → monthly-add.Post κs a z e → monthly-add.Post κs a z′ e′ → z ≡ z′
+monthly-add-settles κs a z z′ e e′ p q = monthly.one-sum z z′ (p .0 ∙ sym (q .0))
+
+pub monthly-beats-settles : (κs : _) (a : _) (z z′ : _) (e e′ : _) → monthly-beats.Post κs a z e → monthly-beats.Post κs a z′ e′ → z ≡ z′
+monthly-beats-settles κs a z z′ e e′ p q = p ∙ sym q
 
 -- ---- morgazell
 

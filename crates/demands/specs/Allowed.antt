@@ -28,6 +28,10 @@ use Rattle.player.specs.declared.Played.the-variants as played
 use Rattle.player.specs.Playing as player
 use Rattle.banks.specs.declared.Bank.{Bank}
 use Rattle.banks.specs.Banks.{bankOf, recordOf}
+use Rattle.reading.specs.Month.{lineOf}
+use Rattle.monthly.specs.declared.Line.{Line}
+use Rattle.monthly.specs.declared.Totals.{Totals}
+use Rattle.monthly.specs.Meaning.{lineMeans, totalsMean, added}
 use Rattle.morgazell.specs.Packing.{packed, rowTold}
 
 -- by `judge::judge_to`, where there may be so many events
@@ -68,6 +72,14 @@ Tells capture bank event records index r left words =
     (r ≡ packed (rowTold (openRowOutcome capture bank event (map recordOf records) index .answer)))
     × (left ≡ map bankOf (openRowOutcome capture bank event (map recordOf records) index .records))
     × (words ≡ openRowOutcome capture bank event (map recordOf records) index .index)
+
+-- by `monthly::told`, of bytes as a capture
+abbrev pub TellsLine : List ℕ → Line → Type 0
+TellsLine capture r = lineMeans r ≡ lineOf capture
+
+-- by `monthly::add`
+abbrev pub AddsUp : Totals → Line → Totals → Type 0
+AddsUp t x r = totalsMean r ≡ added (totalsMean t) (lineMeans x)
 
 -- by `player::play`, lent a window and words to read to, which hold `left` and `words` afterwards
 abbrev pub Ends : Played → List ℕ → List ℕ → PlayOutcome → Type 0

@@ -1,9 +1,14 @@
 // An export of the handheld analyser as a capture on standard output. Its settings and its edition are those of another
 // capture, of which header and settings alone are looked at. What is refused has no output: that is told on standard error,
 // so that it is never taken for a capture.
+use console::Input;
 use console::Out;
 use console::arguments;
 use console::program;
+use console::program::Given;
+use console::program::NOTHING;
+use console::program::Source;
+use console::read_input;
 use console::say;
 use exports::Converted;
 use settings::COUNT;
@@ -20,6 +25,17 @@ const FRONT: usize = capture::EVENTS + 8;
 
 // One record more than there may be, so that a longer export is seen to have too many.
 const RECORDS: usize = exports::LONGEST + exports::RECORD;
+
+// So often is the rest of an export that is too long read, a longest export at a time; no file is so long.
+const ROUNDS: u64 = 0x1_0000_0000;
+
+// What lies behind the records that are kept: whole records, or an end within one, or a read that failed, or more.
+enum Rest {
+    Whole,
+    Part,
+    Failed,
+    More,
+}
 
 fn write(read: &[u8]) {
     let mut out: Out = true;
@@ -44,6 +60,78 @@ fn convert(front: &[u8], records: &[u8])
             &UNDONE,
         ),
         Converted::Written { bytes } => write(&room[..bytes as usize]),
+    }
+}
+
+// A longest export more, of which nothing is kept: how it ends decides whether the length of the whole is a multiple of six.
+fn passed(fd: i32) -> Rest {
+    let mut room = [0u8; exports::LONGEST];
+    let input = read_input(fd, &mut room);
+    let Input::Whole(size) = input else {
+        return Rest::Failed;
+    };
+    if size % exports::RECORD != 0 {
+        return Rest::Part;
+    }
+    if size < exports::LONGEST {
+        return Rest::Whole;
+    }
+    Rest::More
+}
+
+fn rest_of(fd: i32) -> Rest {
+    for round in 0..ROUNDS {
+        let rest = passed(fd);
+        let Rest::More = rest else {
+            return rest;
+        };
+    }
+    Rest::Whole
+}
+
+// How many of the bytes that were read tell what the whole export tells: all, or where there are too many records and it does not
+// end with one, a byte less.
+fn told(size: usize, fd: i32, place: usize) -> Given
+    ensures { λ r. ⌜ r .size ≤ 48006 ⌝ }
+{
+    if size < RECORDS {
+        return Given { work: true, size };
+    }
+    let rest = rest_of(fd);
+    match rest {
+        Rest::Failed => {
+            program::complain_unread(&NAME, place, &UNDONE);
+            NOTHING
+        }
+        Rest::Part => Given {
+            work: true,
+            size: RECORDS - 1,
+        },
+        _ => Given {
+            work: true,
+            size: RECORDS,
+        },
+    }
+}
+
+// The export that argument `export` names, under the settings and the edition of a capture that begins so.
+fn run(front: &[u8], export: usize)
+    requires { ⌜ 88 ≤ length (now front) ⌝ }
+{
+    let source = program::open(&NAME, export, &UNDONE);
+    let Source::Open { fd, place } = source else {
+        return;
+    };
+    let mut records = [0u8; RECORDS];
+    let input = read_input(fd, &mut records);
+    let Input::Whole(size) = input else {
+        program::complain_unread(&NAME, place, &UNDONE);
+        return;
+    };
+    let given = told(size, fd, place);
+    if given.work {
+        let n = given.size;
+        convert(front, &records[..n]);
     }
 }
 
@@ -103,11 +191,5 @@ is refused has no output, and standard error says `refused NUMBER place PLACE`.
         complain_of_settings(from);
         return;
     }
-    let mut records = [0u8; RECORDS];
-    let given = program::read(&NAME, export, &UNDONE, &mut records);
-    if !given.work {
-        return;
-    }
-    let n = given.size;
-    convert(&front, &records[..n]);
+    run(&front, export);
 }

@@ -14,11 +14,10 @@ use console::read_input;
 use console::say;
 use console::watched;
 use monthly::Line;
-use monthly::MOST_CAPTURES;
 use monthly::Totals;
 ghost use mathlib.Core.Path.{_≡_};
+ghost use Prim.Native.Nat.{_≤_};
 ghost use lib.ListN.{length};
-ghost use Rattle.io.specs.Counts.{Counts};
 ghost use Rattle.console.specs.Input.{sizeOf};
 ghost use Rattle.monthly.specs.Meaning.{Held};
 
@@ -36,9 +35,9 @@ const ROOM: usize = capture::MOST;
 // The bytes of the next capture, as far as there are any: its total word, and what that says.
 fn next(fd: i32, buffer: &mut [u8]) -> Input
     requires { ⌜ length (now buffer) ≡ 64088 ⌝ }
-    ensures { λ r. ⌜ Counts (sizeOf r) (now (buffer .exit)) ⌝ }
+    ensures { λ r. ⌜ sizeOf r ≤ 64088 ⌝ }
 {
-    let start = read_input(fd, &mut buffer[..4]);
+    let start = read_input(fd, &mut buffer[0..4]);
     let Input::Whole(got) = start else {
         return Input::Failed;
     };
@@ -144,7 +143,7 @@ fn last(out: &mut Out, csv: bool, fd: i32, place: usize, t: Totals)
 fn walk(out: &mut Out, csv: bool, fd: i32, place: usize) -> u64 {
     let mut buffer = [0u8; ROOM];
     let mut totals = monthly::nothing();
-    while totals.captures < MOST_CAPTURES {
+    while monthly::has_room(totals) {
         let input = next(fd, &mut buffer);
         let Input::Whole(n) = input else {
             lost(place);

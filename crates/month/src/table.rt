@@ -5,10 +5,10 @@ use console::line::put;
 use console::line::put_number;
 use console::say;
 use judge::Verdict;
+use monthly::Counts;
 use monthly::Line;
 use monthly::Totals;
-use wording::verdict::put_told;
-ghost use Rattle.io.specs.Counts.{Counts};
+ghost use Rattle.io.specs.Counts.{Counts as Within};
 
 // Room for the longest.
 const LINE: usize = 400;
@@ -22,27 +22,33 @@ pub fn print_head(out: &mut Out) {
 
 // A column more.
 fn comma(line: &mut [u8], at: usize, n: u64) -> usize
-    ensures { λ r. ⌜ Counts r (now (line .exit)) ⌝ }
+    ensures { λ r. ⌜ Within r (now (line .exit)) ⌝ }
 {
-    put_told(line, at, b",", n)
+    let next = put(line, at, b",");
+    put_number(line, next, n)
 }
 
-// How many there are of each kind, and their events.
-fn put_counts(line: &mut [u8], at: usize, v: Verdict) -> usize
-    ensures { λ r. ⌜ Counts r (now (line .exit)) ⌝ }
+// How many there are of each kind.
+fn put_kinds(line: &mut [u8], at: usize, counts: Counts) -> usize
+    ensures { λ r. ⌜ Within r (now (line .exit)) ⌝ }
 {
-    let counts = monthly::tally(v);
     let mut next = comma(line, at, 1);
     next = comma(line, next, counts.clean as u64);
     next = comma(line, next, counts.broken as u64);
-    next = comma(line, next, counts.refused as u64);
-    next = comma(line, next, counts.events as u64);
+    comma(line, next, counts.refused as u64)
+}
+
+// Their events, and how many of these were judged.
+fn put_judged(line: &mut [u8], at: usize, counts: Counts) -> usize
+    ensures { λ r. ⌜ Within r (now (line .exit)) ⌝ }
+{
+    let next = comma(line, at, counts.events as u64);
     comma(line, next, counts.judged as u64)
 }
 
 // Rule, event and cycle; refusal and place.
 fn put_found(line: &mut [u8], at: usize, v: Verdict) -> usize
-    ensures { λ r. ⌜ Counts r (now (line .exit)) ⌝ }
+    ensures { λ r. ⌜ Within r (now (line .exit)) ⌝ }
 {
     match v {
         Verdict::Refused { number, place } => {
@@ -67,7 +73,7 @@ fn put_found(line: &mut [u8], at: usize, v: Verdict) -> usize
 
 // The share of the bus, and the end of the row.
 fn put_bus(line: &mut [u8], at: usize, read: u64, written: u64, bus: u64, cycles: u64) -> usize
-    ensures { λ r. ⌜ Counts r (now (line .exit)) ⌝ }
+    ensures { λ r. ⌜ Within r (now (line .exit)) ⌝ }
 {
     let mut next = comma(line, at, read);
     next = comma(line, next, written);
@@ -78,9 +84,11 @@ fn put_bus(line: &mut [u8], at: usize, read: u64, written: u64, bus: u64, cycles
 
 pub fn print_line(out: &mut Out, i: u64, x: Line) {
     let verdict = x.verdict;
+    let counts = monthly::tally(verdict);
     let mut line = [0u8; LINE];
     let mut at = put_number(&mut line, 0, i);
-    at = put_counts(&mut line, at, verdict);
+    at = put_kinds(&mut line, at, counts);
+    at = put_judged(&mut line, at, counts);
     at = put_found(&mut line, at, verdict);
     let read = x.read as u64;
     let written = x.written as u64;

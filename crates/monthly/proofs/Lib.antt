@@ -3,3 +3,5 @@ pub mod Lines
 pub mod Sums
 pub mod Cutting
 pub mod Limits
+pub mod Unique
+pub mod Listed

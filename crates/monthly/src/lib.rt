@@ -2,6 +2,7 @@
 use judge::Verdict;
 ghost use mathlib.Core.Path.{_≡_};
 ghost use Prim.Native.Nat.{_+_, _*_, _≤_, _<_};
+ghost use lib.Dec.{ltb};
 ghost use lib.ListN.{length};
 ghost use Rattle.reading.specs.Capture.{lastCycle};
 ghost use Rattle.reading.specs.Schedule.{lastFrom};
@@ -160,6 +161,13 @@ pub fn nothing() -> Totals
         written: 0,
         cycles: 0,
     }
+}
+
+// Whether there may be one more.
+pub fn has_room(t: Totals) -> bool
+    ensures { λ r. ⌜ r ≡ ltb (t .captures) mostCaptures ⌝ }
+{
+    t.captures < MOST_CAPTURES
 }
 
 // Those with one line more.

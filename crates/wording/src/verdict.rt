@@ -4,23 +4,19 @@ use console::line::put;
 use console::line::put_number;
 use console::say;
 use judge::Verdict;
-ghost use Rattle.io.specs.Counts.{Counts};
 
 // Room for the longest.
 const LINE: usize = 128;
 
-// A text and a number behind it, from place `at` of the line on; answers where they end.
-pub fn put_told(line: &mut [u8], at: usize, before: &[u8], n: u64) -> usize
-    ensures { λ r. ⌜ Counts r (now (line .exit)) ⌝ }
-{
+// A text and a number behind it, from place `at` of the line on; answers where they end. What puts a line together ends with
+// a text, whose end is known to lie in the line.
+pub fn put_told(line: &mut [u8], at: usize, before: &[u8], n: u64) -> usize {
     let next = put(line, at, before);
     put_number(line, next, n)
 }
 
 // What is said of the rules, or that it is refused; without the counts.
-pub fn put_verdict(line: &mut [u8], at: usize, v: Verdict) -> usize
-    ensures { λ r. ⌜ Counts r (now (line .exit)) ⌝ }
-{
+pub fn put_verdict(line: &mut [u8], at: usize, v: Verdict) -> usize {
     match v {
         Verdict::Refused { number, place } => {
             let next = put_told(line, at, b"refused ", number as u64);
@@ -40,18 +36,14 @@ pub fn put_verdict(line: &mut [u8], at: usize, v: Verdict) -> usize
     }
 }
 
-fn put_counts(line: &mut [u8], events: u32, judged: u32) -> usize
-    ensures { λ r. ⌜ Counts r (now (line .exit)) ⌝ }
-{
+fn put_counts(line: &mut [u8], events: u32, judged: u32) -> usize {
     let mut at = put_told(line, 0, b"events ", events as u64);
     at = put_told(line, at, b"\njudged ", judged as u64);
     put(line, at, b"\n")
 }
 
 // The counts of what is not refused.
-fn put_judged(line: &mut [u8], v: Verdict) -> usize
-    ensures { λ r. ⌜ Counts r (now (line .exit)) ⌝ }
-{
+fn put_judged(line: &mut [u8], v: Verdict) -> usize {
     match v {
         Verdict::Refused { .. } => 0,
         Verdict::Clean { events, judged } => put_counts(line, events, judged),

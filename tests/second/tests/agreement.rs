@@ -5,9 +5,12 @@ use second::capture::{
     bytes_of_edition, word, Capture, Edition, Refusal, HEADER_BYTES, SETTINGS, SLEEP_SETTINGS,
 };
 use second::generate::{input, long_recording, other_addresses, Dice, Input, Tally, NO_RULE};
+use second::openings::Record;
 use second::schedule::schedule_literally;
 use second::verdict::{cells_literally, judge_literally};
-use second::{blank, c, cells, judge, judge_recording, packed, plain, replay, schedule, Answer};
+use second::{
+    blank, c, cells, judge, judge_recording, open_row, packed, plain, replay, schedule, Answer,
+};
 
 const SEED: u64 = 1;
 const INPUTS: usize = 40_000;
@@ -54,6 +57,20 @@ fn tried_schedule(
     (schedule(settings, requests, policy, &mut out), out)
 }
 
+/// A question about open rows, with three records or four and a short index or a long one.
+fn count_row(tally: &mut Tally, dice: &mut Dice, capture: &[u8]) {
+    let events = Capture::read(capture).map_or(0, |read| read.events.len()) as u32;
+    let (bank, event) = (dice.below(5), dice.below(events + 1));
+    let mut records = [Record {
+        before: 0,
+        count: 0,
+    }; 4];
+    let lent = if dice.once_in(8) { 3 } else { 4 };
+    let mut index = vec![0; if dice.once_in(4) { 8 } else { 24_000 }];
+    let answer = open_row(capture, bank, event, &mut records[..lent], &mut index);
+    tally.count_row(capture, [bank, event], answer, &records, &index);
+}
+
 #[test]
 fn everything_comes_up() {
     let mut tally = Tally::default();
@@ -68,6 +85,7 @@ fn everything_comes_up() {
                 tally.count_recording(&capture, judge_recording(&capture));
                 tally.count_cells(&capture, cells(&capture, &mut [0; 40]));
                 tally.count_blank(&capture, blank(&capture, &mut [0; 300]));
+                count_row(&mut tally, &mut dice, &capture);
                 if let Ok(read) = Capture::read(&capture) {
                     let other = other_addresses(&mut dice, &capture, &read);
                     tally.count_addresses(&capture, &read, &other);

@@ -23,6 +23,15 @@ blank-requires c κs = search needs
 enum-known-blanked : tie.Need-enum-known-blanked
 enum-known-blanked c = search needs
 
+slice-aggregate-refuse : tie.Need-slice-aggregate-refuse
+slice-aggregate-refuse c = search needs
+
+slice-aggregate-refuse-2 : tie.Need-slice-aggregate-refuse-2
+slice-aggregate-refuse-2 c = search needs
+
+slice-aggregate-refuse-3 : tie.Need-slice-aggregate-refuse-3
+slice-aggregate-refuse-3 c = search needs
+
 refuse-requires : tie.Need-refuse-requires
 refuse-requires c κs = search needs
 
@@ -58,6 +67,9 @@ blank-spec =
     slice-aggregate-blank
     blank-requires
     enum-known-blanked
+    slice-aggregate-refuse
+    slice-aggregate-refuse-2
+    slice-aggregate-refuse-3
     refuse-requires
     enum-known-blanked-2
     cast-room

@@ -29,7 +29,9 @@ pub fn export(dice: &mut Dice) -> Export {
     match dice.below(12) {
         0 => settings = request_list(dice).0,
         1 => edition = dice.pick(&[2, 3, 256, u32::MAX]),
-        2 => {
+        2 if dice.percent(50) => settings.truncate(13),
+        2 => settings.extend([2, 20]),
+        3 => {
             let rest = dice.between(1, 5) as usize;
             records.extend(vec![dice.word() as u8; rest]);
         }
@@ -43,11 +45,11 @@ pub fn export(dice: &mut Dice) -> Export {
 }
 
 fn records(dice: &mut Dice) -> Vec<Record> {
-    let count = match dice.below(400) {
+    let count = match dice.below(60) {
         0 => MOST_RECORDS as u32,
         1 => MOST_RECORDS as u32 + dice.between(1, 3),
-        2..=20 => 0,
-        21..=60 => dice.between(40, 300),
+        2..=4 => 0,
+        5..=10 => dice.between(40, 300),
         _ => dice.between(1, 40),
     };
     let word = dice.word();

@@ -217,7 +217,7 @@ impl PlayTally {
         let part = part_after(capture, LookBack::Running).expect("it is clean");
         let end = u64::from(play.first) + play.window.len() as u64;
         let large = play.window.len() > MOST_WINDOW;
-        let leaves = end > u64::from(part.settings.cells());
+        let leaves = end > part.settings.cells();
         self.show(TooLarge, large && place == 0);
         self.show(
             Leaves,
