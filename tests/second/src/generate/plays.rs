@@ -40,7 +40,12 @@ pub fn play_of(dice: &mut Dice, capture: &[u8]) -> Play {
     let (least, most) = touched(&part);
     let (fault, all) = (fault(dice), part.settings.cells() as u32);
     let spare = dice.below(9).min(least);
-    let wide = (most - least + spare + dice.below(9)).min(MOST_WINDOW as u32 - 1) + 1;
+    let ample = if dice.once_in(8) {
+        MOST_WINDOW as u32
+    } else {
+        dice.below(9)
+    };
+    let wide = (most - least + spare + ample).min(MOST_WINDOW as u32 - 1) + 1;
     let size = wide.min(all - (least - spare));
     let (first, size) = match fault {
         Fault::Outside if dice.once_in(2) => (least + 1, size),
