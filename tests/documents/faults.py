@@ -15,7 +15,7 @@ FAULTS = [
     ("a file of laws that is not there", "crate bridge has no proofs/Nexts", "docs/ARCHITECTURE.md", "`bridge/proofs/Next`", "`bridge/proofs/Nexts`"),
     ("an edit that is not there", "there is no edit judge/clean_to_some", "docs/IMPOSTORS.md", "`judge/clean_to_all`", "`judge/clean_to_some`"),
     ("an edit without its row", "no row has the edit words/word_read_from_wrong_byte", "docs/IMPOSTORS.md", "(`word_read_from_wrong_byte`)", "(`a10_is_column_bit`)"),
-    ("a test that is not there", "tests/run has no listings", "docs/PROMISES.md", "`tests/run report listing blank openings`", "`tests/run report listings blank openings`"),
+    ("a test that is not there", "tests/run has no listings", "docs/PROMISES.md", "`tests/run report listing blank openings exports play month`", "`tests/run report listings blank openings exports play month`"),
     ("a decision that is not there", "there is no decision C99999", "docs/STATUS.md", "C19", "C99999"),
     ("a decision that sources name, dropped", "it names C14, which is not there", "docs/DECISIONS.md", "\n**C14. ", "\n**C1414. "),
     ("a decision that stands twice", "two decisions have the number C19", "docs/DECISIONS.md", "\n**C20. ", "\n**C19. "),
