@@ -405,6 +405,33 @@ def export_of_a_pause(part, _):
     return export(events), broken_lines(with_nops(events), 14, at)
 
 
+# ---- plays: a capture, a window and words with their masks, and what the program `play` says; under the settings of document 01's
+# cases, lane code 1, so that the upper half of a cell stays and is not read
+
+def play(events, window, writes, read, cells):
+    """The window stands from cell 0 on."""
+    behind = [0, len(window), *window, *(word for pair in writes for word in pair)]
+    lines = [f"words {len(read)}", *(f"word 0x{word:08x}" for word in read)]
+    lines += [f"cell {i} 0x{word:08x}" for i, word in enumerate(cells)]
+    return capture(events) + b"".join(word.to_bytes(4, "little") for word in behind), lines
+
+
+def write_and_read(*_):
+    """Masks 0 to 3: both bytes, the upper one, the lower one, none."""
+    events = [(0, ACTIVE), (3, WRITE | column(1)), (7, READ | column(0))]
+    writes = [(0x11111111, 0), (0x22222222, 1), (0x33333333, 2), (0x44444444, 3)]
+    cells = [0xAAAA0000, 0xAAAA1111, 0xAAAA2202, 0xAAAA0033]
+    return play(events, [0xAAAA0000 + i for i in range(8)], writes, [cell & 0xFFFF for cell in cells],
+                cells + [0xAAAA0000 + i for i in range(4, 8)])
+
+
+def cut_write(*_):
+    """The second WRITE leaves the first two words, and has the four behind those that the first one took."""
+    events = [(0, ACTIVE), (3, WRITE), (4, WRITE | column(8)), (8, READ)]
+    cells = [0x100, 0x101] + [0] * 6 + [0x104, 0x105, 0x106, 0x107]
+    return play(events, [0] * 12, [(0x100 + i, 0) for i in range(8)], cells[:4], cells)
+
+
 # ---- samples written by the library's scheduler: clean, since every schedule is
 
 SERVED_SEED = 8
@@ -523,6 +550,11 @@ EXPORTS = [
     ("read-after-a-pause", export_of_a_pause, "the sample as an export; the NOP that was put in is an event with nine owed"),
 ]
 
+PLAYS = [
+    ("write-and-read", write_and_read, "a WRITE under four masks and a READ of what it left, played on eight cells"),
+    ("cut-write", cut_write, "a WRITE cut by the next one, which takes the words behind all four of the first"),
+]
+
 
 def row(file, key, part, shows, lines):
     of = f"{key[0]} {key[1]}, x{part['width']}" if key else "-"
@@ -546,6 +578,8 @@ def main(folder):
     for name, make, shows in EXPORTS:
         key, part, seed = seeds[name]
         sample(name + ".export", folder, key, part, shows, make(part, seed))
+    for name, make, shows in PLAYS:
+        sample(name + ".play", folder, None, None, shows, make())
 
 
 if __name__ == "__main__":

@@ -4,8 +4,8 @@
  *     bench call WHAT FILE WHO N   N calls of one of them, for counting instructions
  *
  * WHAT is judge, recording (beside the C's judge), cells, rows (which row bank 0 has open after the last event, with the whole
- * index), open or closed, a schedule by that row policy, write, an export, or read, what the C wrote as an export; WHO is ours
- * or c. FILE is a capture, or for a schedule the settings and the requests as words. */
+ * index), play (on a window from the row of the first ACTIVE on), open or closed, a schedule by that row policy, write, an
+ * export, or read, what the C wrote as an export; WHO is ours or c. FILE is a capture, or for a schedule the settings and the requests as words. */
 #define _POSIX_C_SOURCE 199309L
 #include <stdio.h>
 #include <stdlib.h>
@@ -67,6 +67,33 @@ static int same_rows(void)
     return memcmp(our_banks, c_s_banks, sizeof our_banks) == 0 && memcmp(our_index, c_s_index, sizeof our_index) == 0;
 }
 
+/* Each plays on a window of its own, which is compared too, and reads to words of its own. */
+static uint32_t our_window[MORGAZELL_MOST_WINDOW], c_s_window[MORGAZELL_MOST_WINDOW];
+static uint32_t our_reads[MOST_CELLS], c_s_reads[MOST_CELLS];
+static uint32_t supply[2 * MOST_CELLS];
+
+/* The first cell of the row that the first event opens: settings are words 6 to 19, pins word 21 of 14 settings. */
+static uint32_t first_cell(void)
+{
+    uint32_t rows = words[7], columns = words[8], pins = words[21];
+    return ((pins >> 14 & 3) << rows | (pins & 0x3fff)) << columns;
+}
+
+static uint64_t our_play(void)
+{
+    return morgazell_play(capture(), size, first_cell(), our_window, MORGAZELL_MOST_WINDOW, supply, 2 * MOST_CELLS, our_reads, MOST_CELLS);
+}
+
+static uint64_t c_s_play(void)
+{
+    return c_play(capture(), size, first_cell(), c_s_window, MORGAZELL_MOST_WINDOW, supply, 2 * MOST_CELLS, c_s_reads, MOST_CELLS);
+}
+
+static int same_play(void)
+{
+    return memcmp(our_window, c_s_window, sizeof our_window) == 0 && memcmp(our_reads, c_s_reads, sizeof our_reads) == 0;
+}
+
 static uint64_t our_write(void) { return morgazell_write_export(capture(), size, bytes, MOST_BYTES); }
 static uint64_t c_s_write(void) { return c_write_export(capture(), size, bytes, MOST_BYTES); }
 
@@ -89,6 +116,7 @@ static const struct {
     {"recording", our_recording, c_s_judge},
     {"cells", our_cells, c_s_cells},
     {"rows", our_rows, c_s_rows},
+    {"play", our_play, c_s_play},
     {"open", our_open, c_s_open},
     {"closed", our_closed, c_s_closed},
     {"write", our_write, c_s_write},
@@ -131,11 +159,13 @@ int main(int count, char **word)
     if (count < 4 || !load(word[3]))
         return 2;
     recorded = (uint32_t)c_write_export(capture(), size, records, sizeof records);
+    for (uint32_t i = 0; i < 2 * MOST_CELLS; i++)
+        supply[i] = i % 2 == 0 ? 0x9e3779b9 * i : i / 2 % 16;
     for (size_t i = 0; i < sizeof questions / sizeof *questions; i++) {
         if (strcmp(questions[i].what, word[2]) != 0)
             continue;
         call *ours = questions[i].ours, *c = questions[i].c;
-        if (ours() != c() || !same_rows())
+        if (ours() != c() || !same_rows() || !same_play())
             return 1;
         if (strcmp(word[1], "time") == 0) {
             print_times(ours, c);

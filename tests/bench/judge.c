@@ -887,3 +887,105 @@ uint64_t c_write_export(const uint8_t *bytes, size_t len, uint8_t *out, size_t o
     }
     return total;
 }
+
+/* ---- the bench player */
+
+enum { MOST_WINDOW = 16384 };
+
+/* A burst that is played: the start of its row, its column and mode, its kept beats. */
+struct burst {
+    uint32_t row_start, column, mode, beats, writes;
+};
+
+static inline uint32_t beat_cell(const struct burst *burst, uint32_t j)
+{
+    uint32_t within = 2 * pairs_of(burst->mode) - 1;
+    uint32_t place = burst->mode & 8 ? burst->column ^ j : burst->column + j;
+    return burst->row_start + (burst->column & ~within) + (place & within);
+}
+
+/* The bits of a word that a mask keeps. */
+static inline uint32_t masked(uint32_t mask)
+{
+    uint32_t lanes = (mask & 1) | (mask & 2) << 7 | (mask & 4) << 14 | (mask & 8) << 21;
+    return lanes * 255;
+}
+
+static inline int in_window(const struct burst *burst, uint32_t first, size_t size)
+{
+    for (uint32_t j = 0; j < burst->beats; j++) {
+        if (beat_cell(burst, j) - first >= size)
+            return 0;
+    }
+    return 1;
+}
+
+/* The bursts of a clean capture with how many words are read, or refusal 15 by the lowest event. */
+static uint64_t find_bursts(const struct capture *c, uint32_t first, size_t size, size_t supply,
+                            struct burst *bursts, uint32_t *found)
+{
+    const struct settings *s = &c->settings;
+    uint8_t kept[MOST_EVENTS];
+    uint32_t row_start[BANKS] = {0};
+    uint32_t mode = s->mode, needed = 0;
+    *found = 0;
+    if (c->edition == 1)
+        keep_pairs(s, c->events, c->count, kept);
+    for (uint32_t i = 0; i < c->count; i++) {
+        uint32_t pins = pins_of(c->events, i);
+        uint32_t bank = bank_of(pins), command = command_of(pins);
+        if (command == ACTIVE) {
+            row_start[bank] = ((bank << s->row_bits) + (pins & 0x3fff)) << s->column_bits;
+        } else if (command == READ || command == WRITE) {
+            uint32_t whole = pairs_of(mode);
+            uint32_t pairs = c->edition == 1 ? kept[i] : kept_pairs(c->events, c->count, i, whole);
+            uint32_t takes = command == WRITE ? 2 * whole : 0;
+            struct burst burst = {row_start[bank], column_of(pins, s->column_bits), mode, 2 * pairs, takes};
+            if (!in_window(&burst, first, size) || supply < takes)
+                return refused(15, i);
+            supply -= takes;
+            needed += takes ? 0 : burst.beats;
+            bursts[(*found)++] = burst;
+        } else if (command == MODE_SET && bank == 0) {
+            mode = pins & 127;
+        }
+    }
+    return needed;
+}
+
+uint64_t c_play(const uint8_t *bytes, size_t len, uint32_t first, uint32_t *window, size_t size,
+                const uint32_t *writes, size_t writes_len, uint32_t *reads, size_t reads_len)
+{
+    struct capture capture;
+    struct burst bursts[MOST_EVENTS];
+    uint32_t found;
+    uint64_t answer = check_capture(bytes, len, &capture);
+    if (answer != 0)
+        return answer;
+    answer = walk(&capture);
+    if (is_broken(answer))
+        return refused(8, (uint32_t)answer);
+    const struct settings *s = &capture.settings;
+    if (size > MOST_WINDOW || (uint64_t)first + size > (uint64_t)BANKS << (s->row_bits + s->column_bits))
+        return refused(15, 0);
+    answer = find_bursts(&capture, first, size, writes_len / 2, bursts, &found);
+    if (is_refused(answer))
+        return answer;
+    if (reads_len < answer)
+        return refused(7, (uint32_t)answer);
+    uint32_t stays = s->lane == 1 ? 0xffff0000 : 0;
+    for (uint32_t i = 0; i < found; i++) {
+        const struct burst *burst = bursts + i;
+        for (uint32_t j = 0; j < burst->beats; j++) {
+            uint32_t *cell = window + (beat_cell(burst, j) - first);
+            if (burst->writes) {
+                uint32_t keeps = stays | masked(writes[2 * j + 1]);
+                *cell = (*cell & keeps) | (writes[2 * j] & ~keeps);
+            } else {
+                *reads++ = *cell & ~stays;
+            }
+        }
+        writes += 2 * burst->writes;
+    }
+    return answer;
+}

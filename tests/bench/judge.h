@@ -1,5 +1,5 @@
-/* A hand-written judge, burst list, schedule writer, index of open rows, and reader and
- * writer of exports for document 01 and the customer requests that have landed, made for
+/* A hand-written judge, burst list, schedule writer, index of open rows, player, and reader
+ * and writer of exports for document 01 and the customer requests that have landed, made for
  * speed.
  *
  * Every answer is one number: bits 56-63 the refusal (0: none), bits 48-55 the broken
@@ -31,5 +31,8 @@ uint64_t c_read_export(const uint8_t *records, size_t len, const uint32_t *setti
                        size_t settings_len, uint32_t edition, uint8_t *out, size_t out_len);
 
 uint64_t c_write_export(const uint8_t *bytes, size_t len, uint8_t *out, size_t out_len);
+
+uint64_t c_play(const uint8_t *bytes, size_t len, uint32_t first, uint32_t *window, size_t window_len,
+                const uint32_t *writes, size_t writes_len, uint32_t *reads, size_t reads_len);
 
 #endif

@@ -1,5 +1,5 @@
 #!/usr/bin/env python3
-"""Holds the samples to each other: samples/make.py makes the captures and exports that are there and the table of
+"""Holds the samples to each other: samples/make.py makes the captures, exports and plays that are there and the table of
 samples/README.md, tools/judge-samples prints what the table says, the clean samples stand at the limits of the rules, and the board that
 interrupts writes is the same in both editions."""
 import os
@@ -26,7 +26,7 @@ ASKING_BESIDES = {"clean-power-down.capture": [(14, [15])], "clean-self-refresh.
 def samples_in(folder):
     found = {}
     for name in os.listdir(folder):
-        if name.endswith((".capture", ".export")):
+        if name.endswith((".capture", ".export", ".play")):
             with open(os.path.join(folder, name), "rb") as f:
                 found[name] = f.read()
     return found
@@ -38,9 +38,9 @@ def table():
 
 
 def expected(rows):
-    """What judge-samples has to print: each file's name, captures first, and under it the lines of the table's last column."""
+    """What judge-samples has to print: each file's name, captures first, then exports, then plays, and under it the lines of the table's last column."""
     lines = []
-    for row in sorted(rows, key=lambda row: (".export`" in row, row)):
+    for row in sorted(rows, key=lambda row: (".play`" in row, ".export`" in row, row)):
         cells = row.strip("| ").split(" | ")
         lines.append(cells[0].strip("`"))
         lines += ["    " + said for said in re.findall("`([^`]*)`", cells[-1])]
