@@ -91,7 +91,7 @@
  * call at the same time, each with buffers of its own; inputs may be shared.
  *
  * Stack. The most that a call takes, in bytes, the return address included: morgazell_judge 1280, morgazell_recording 1280,
- * morgazell_cells 1280, morgazell_schedule 66560, morgazell_blank 640, morgazell_open_row 1280, morgazell_read_export 512,
+ * morgazell_cells 1280, morgazell_schedule 66560, morgazell_blank 640, morgazell_open_row 1408, morgazell_read_export 512,
  * morgazell_write_export 512, morgazell_play 1536, morgazell_version 136; besides, what memcpy and memset of the C library take.
  * The archive wants nothing of anyone but these two, and not even these where it is built for the smallest size. */
 #ifndef MORGAZELL_H

@@ -274,8 +274,8 @@ def hold_changing_recordings(program, folder):
 
 
 def said_of_samples():
-    """What the table of the samples says of each, in the words of the example."""
-    for row in (line for line in read(ROOT, "samples", "README.md").splitlines() if line.startswith("| `")):
+    """What the table of the samples says of each capture, in the words of the example."""
+    for row in re.findall(r"^\| `[^`]*\.capture` .*", read(ROOT, "samples", "README.md"), re.M):
         cells = row.strip("| ").split(" | ")
         report = " ".join(re.findall("`([^`]*)`", cells[-1]))
         yield cells[0].strip("`"), re.sub(r"events \d+ judged (\d+) clean", r"clean, \1 events judged",
