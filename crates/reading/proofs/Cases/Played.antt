@@ -111,6 +111,15 @@ plays-refused : (played (wrote usual) 0 eight (masked 0 1 2 3) 3
 unfolding played refuses
 plays-refused = refl
 
+-- cells behind the window; the cell right behind it; a write behind a cut one lacks a word, since that one took four
+plays-short : (played (captureOf usual (at 0 ACTIVE ∷ at 3 (READ + 4) ∷ [])) 0 (7 ∷ 7 ∷ 7 ∷ 7 ∷ []) [] 4
+    ∷ played (captureOf usual (at 0 ACTIVE ∷ at 3 READ ∷ [])) 0 (7 ∷ 7 ∷ 7 ∷ []) [] 4
+    ∷ played (captureOf usual (at 0 ACTIVE ∷ at 3 WRITE ∷ at 4 (WRITE + 8) ∷ [])) 0 (replicate 12 7) (masked 0 0 0 0 ++ take 6 (masked 0 0 0 0)) 0
+    ∷ [])
+    ≡ (refuses 15 1 (7 ∷ 7 ∷ 7 ∷ 7 ∷ []) 4 ∷ refuses 15 1 (7 ∷ 7 ∷ 7 ∷ []) 4 ∷ refuses 15 2 (replicate 12 7) 0 ∷ [])
+unfolding played refuses
+plays-short = refl
+
 -- so many words may be lent, and not one more
 large-windows : (played (captureOf usual []) 0 (replicate 16384 7) [] 0 .answer ∷ played (captureOf usual []) 0 (replicate 16385 7) [] 0 .answer ∷ [])
     ≡ (answered 0 ∷ refused 15 0 ∷ [])
