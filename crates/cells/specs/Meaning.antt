@@ -58,12 +58,16 @@ toldBy s bytes n i firsts mode =
 unfoldable pub givenBy : Settings → List ℕ → ℕ → ℕ → List ℕ → ℕ → Option Burst
 givenBy s bytes n i firsts mode = cond (gives (eventAt bytes i .pins)) (some (toldBy s bytes n i firsts mode)) none
 
--- n events fit, and so do the settings
-pub record Listable (settings bytes : List ℕ) (n : ℕ) : Type 0 where
-  pub few : n ≤ mostEvents
+-- n events fit, of which there are so many at most, and so do the settings
+pub record ListableTo (most : ℕ) (settings bytes : List ℕ) (n : ℕ) : Type 0 where
+  pub few : n ≤ most
   pub fit : Fit settings bytes n
   pub sized : Sized (settingsOf settings)
   pub moded : modeWord (settingsOf settings .mode) ≡ true
+
+-- as in a capture
+abbrev pub Listable : List ℕ → List ℕ → ℕ → Type 0
+Listable = ListableTo mostEvents
 
 -- if event i gives a burst, that keeps a pair at least
 abbrev pub KeepsPair : Settings → List ℕ → ℕ → ℕ → ℕ → Type 0

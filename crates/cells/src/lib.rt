@@ -14,7 +14,7 @@ ghost use lib.ListN.{length};
 ghost use lib.Seq.{sets};
 ghost use Rattle.words.specs.Found.{placeOf};
 ghost use Rattle.reading.specs.Settings.{settingsOf, newer};
-ghost use Rattle.reading.specs.Capture.{eventAt};
+ghost use Rattle.reading.specs.Capture.{eventAt, mostRecorded};
 ghost use Rattle.reading.specs.Bursts.{reads};
 ghost use Rattle.reading.specs.Cells.{beatsBy};
 ghost use Rattle.reading.specs.Verdict.{verdictOf};
@@ -23,7 +23,7 @@ ghost use Rattle.pins.specs.Pins.{codeOf, modeAfter};
 ghost use Rattle.beats.specs.Kept.{eventsFrom, keptOf};
 ghost use Rattle.beats.specs.Rows.{Sized, cellsOpened};
 ghost use Rattle.judge.specs.Meaning.{eventsIn};
-ghost use Rattle.cells.specs.Meaning.{means, Listable, Clean, KeepsPair, givenMeans, givenBy, givenAt, At, firstsAt, modeAt};
+ghost use Rattle.cells.specs.Meaning.{means, ListableTo, Listable, Clean, KeepsPair, givenMeans, givenBy, givenAt, At, firstsAt, modeAt};
 ghost use Rattle.cells.specs.Meaning.{burstsOn, cellsOn, lackingIn, listing};
 
 // What is said of a capture whose cells are asked for.
@@ -63,10 +63,10 @@ fn first_broken(s: &Settings, bytes: &[u8], n: u32) -> Found
     Found::At(event)
 }
 
-// The pairs of event i, in any edition. `newer_step` chooses by itself: the compiler puts a function with one caller into it,
+// The pairs that the burst of event i keeps, in any edition and of any number of events. `newer_step` chooses by itself: the compiler puts a function with one caller into it,
 // and `interrupted` inside a loop slows every event; the loop of edition 0 does without it (docs/DECISIONS.md, C19).
-fn pairs_of(s: &Settings, bytes: &[u8], n: u32, i: u32, mode: u32) -> u32
-    requires { ⌜ Listable (now s) (now bytes) n × (i < n) ⌝ }
+pub fn pairs_of(s: &Settings, bytes: &[u8], n: u32, i: u32, mode: u32) -> u32
+    requires { ⌜ ListableTo mostRecorded (now s) (now bytes) n × (i < n) ⌝ }
     requires { ⌜ KeepsPair (settingsOf (now s)) (now bytes) n i mode ⌝ }
     ensures { λ r. ⌜ r ≡ keptOf (settingsOf (now (s .entry))) mode (eventAt (now (bytes .entry)) i) (eventsFrom (now (bytes .entry)) n (i + 1)) ⌝ }
 {

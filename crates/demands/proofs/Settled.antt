@@ -109,6 +109,7 @@ use Rattle.beats.proofs.write_burst.Reads as beats-write-burst
 use Rattle.beats.proofs.interruptible.Reads as beats-interruptible
 use Rattle.beats.proofs.interrupted.Reads as beats-interrupted
 use Rattle.beats.proofs.kept.Reads as beats-kept
+use Rattle.cells.proofs.pairs_of.Reads as cells-pairs-of
 use Rattle.cells.proofs.kept_beats.Reads as cells-kept-beats
 use Rattle.cells.proofs.burst_at.Reads as cells-burst-at
 use Rattle.cells.proofs.passed.Reads as cells-passed
@@ -540,6 +541,9 @@ pub beats-kept-settles : (κs : _) (a : _) (z z′ : _) (e e′ : _) → beats-k
 beats-kept-settles κs a z z′ e e′ p q = p ∙ sym q
 
 -- ---- cells
+
+pub cells-pairs-of-settles : (κs : _) (a : _) (z z′ : _) (e e′ : _) → cells-pairs-of.Post κs a z e → cells-pairs-of.Post κs a z′ e′ → z ≡ z′
+cells-pairs-of-settles κs a z z′ e e′ p q = p ∙ sym q
 
 pub cells-kept-beats-settles : (κs : _) (a : _) (z z′ : _) (e e′ : _) → cells-kept-beats.Post κs a z e → cells-kept-beats.Post κs a z′ e′ → z ≡ z′
 cells-kept-beats-settles κs a z z′ e e′ p q = cells.one-count z z′ (p .0 ∙ sym (q .0)) (p .1 ∙ sym (q .1))

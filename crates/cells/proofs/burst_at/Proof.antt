@@ -3,6 +3,7 @@ use mathlib.Core.Path.{refl, _∙_}
 use borrow.Author.Needs.{needs}
 use borrow.Author.Tests.{not-true, not-false}
 use Rattle.reading.specs.Settings.{settingsOf}
+use Rattle.cells.proofs.Alone.{wider}
 use Rattle.cells.proofs.Pairs.{pair-kept}
 use Rattle.cells.proofs.Walked.{given-is}
 use Rattle.cells.proofs.Stepping.{found-none, found}
@@ -45,7 +46,7 @@ pairs-of-requires c κs =
     let start = c .before .before .before .before .before .before .before .before in
     let a = start .args in
     let f = start .pre in
-    (f .0, pair-kept (a .s .now) (a .bytes .now) (a .n) (f .0 .0) (f .1 .0) (a .i) (f .0 .1) (f .1 .1 .moded))
+    ((wider (f .0 .0), f .0 .1), pair-kept (a .s .now) (a .bytes .now) (a .n) (f .0 .0) (f .1 .0) (a .i) (f .0 .1) (f .1 .1 .moded))
 
 returns-2 : tie.Need-returns-2
 returns-2 c =

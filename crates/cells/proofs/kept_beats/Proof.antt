@@ -7,6 +7,7 @@ use Rattle.reading.specs.Settings.{settingsOf}
 use Rattle.reading.specs.Capture.{eventAt}
 use Rattle.beats.specs.Kept.{eventsFrom}
 use Rattle.beats.proofs.Looking.{kept-le}
+use Rattle.cells.proofs.Alone.{wider}
 use Rattle.cells.proofs.Pairs.{pair-kept}
 use Rattle.cells.proofs.Counting.{Counted, begins, room, goes-on, all-read, all-written}
 use Rattle.cells.proofs.kept_beats.Statement.{statement}
@@ -38,7 +39,7 @@ pairs-of-requires c κs =
     let x = test .before .events in
     let start = test .before .before .before .before in
     let a = start .args in (
-      (start .pre .0, test .events-test .taken),
+      (wider (start .pre .0), test .events-test .taken),
       pair-kept (a .s .now) (a .bytes .now) (a .n) (start .pre .0) (start .pre .1) (x .i) (test .events-test .taken) (x .inv .on .moded),
     )
 
