@@ -1,0 +1,3 @@
+-- Events that are found, and what is known of them.
+pub mod Seeking
+pub mod Closing
