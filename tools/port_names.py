@@ -9,7 +9,7 @@ import os
 import re
 import sys
 
-NAME = re.compile(r"[A-Za-zͰ-ῼ_₀-₉'][\wͰ-ῼ₀-₉'°′-]*")
+NAME = re.compile(r"(?<![\w'])[A-Za-zͰ-ῼ_₀-₉'][\wͰ-ῼ₀-₉'°′-]*")
 
 
 # Lemmas whose names a definition takes over.
@@ -56,7 +56,11 @@ def pieces(text, comment):
 def turned(text, comment):
     out = []
     for piece, code in pieces(text, comment):
-        out.append(NAME.sub(lambda m: spelled(m[0]), piece) if code else re.sub(r"`([^`]*)`", lambda m: "`" + NAME.sub(lambda n: spelled(n[0]), m[1]) + "`", piece))
+        if code:
+            piece = NAME.sub(lambda m: spelled(m[0]), piece)
+        elif piece[:2] in ("--", "//"):
+            piece = re.sub(r"`([^`]*)`", lambda m: "`" + NAME.sub(lambda n: spelled(n[0]), m[1]) + "`", piece)
+        out.append(piece)
     return "".join(out)
 
 

@@ -5,14 +5,14 @@ ghost use Rattle.banks.specs.Banks.{filled_of, filled_from};
 
 // Of a bank: how many openings stand before its own, and how many it has. In C: struct morgazell_bank.
 #[repr(C)]
-#[derive(Drop)]
+#[derive(Clone, Copy)]
 pub struct Bank {
     pub before: u32,
     pub count: u32,
 }
 
 // What is said of a bank after an event.
-#[derive(Drop)]
+#[derive(Clone, Copy)]
 pub enum Asked {
     Refused { number: u32, place: u32 },
     Open { row: u32 },
@@ -20,7 +20,7 @@ pub enum Asked {
 }
 
 // What was found: the answer, and the records of the banks.
-#[derive(Drop)]
+#[derive(Clone, Copy)]
 pub struct Told {
     pub answer: Asked,
     pub banks: [Bank; 4],

@@ -4,7 +4,7 @@ ghost use Rattle.reading.specs.Capture.{capture_size, count_in, event_count};
 ghost use Rattle.browser.specs.Browsed.{seen_at};
 
 // What stands at a position: an event, or nothing behind the last.
-#[derive(Drop)]
+#[derive(Clone, Copy)]
 pub enum Seen {
     Event { cycle: u32, pins: u32 },
     End,
@@ -24,7 +24,7 @@ pub fn event_at(capture: &[u8], at: usize) -> Seen
     Seen::End
 }
 
-#[derive(Drop)]
+#[derive(Clone, Copy)]
 pub struct Reader<'a> {
     pub capture: &'a [u8],
     pub at: usize,

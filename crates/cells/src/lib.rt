@@ -22,21 +22,21 @@ use settings::{Checked, Settings};
 use words::Found;
 
 // What is said of a capture whose cells are asked for.
-#[derive(Drop)]
+#[derive(Clone, Copy)]
 pub enum Listed {
     Refused { number: u32, place: u32 },
     Written { cells: u32 },
 }
 
 // The kept beats of a clean capture, by what they do.
-#[derive(Drop)]
+#[derive(Clone, Copy)]
 pub struct Beats {
     pub read: u32,
     pub written: u32,
 }
 
 // What an event gives: a burst, by the first cell of its row, its column and the pairs that it keeps in the end; or none.
-#[derive(Drop)]
+#[derive(Clone, Copy)]
 pub enum Given {
     Burst {
         writes: bool,

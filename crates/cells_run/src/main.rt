@@ -17,9 +17,9 @@ const SEQUENTIAL: u32 = 0x30;
 const INTERLEAVED: u32 = 0x38;
 
 // Pin words for bank 0: CAS# and WE# high; RAS# and WE# high.
-const ACTIVE: u32 = 0x000_c_0000;
+const ACTIVE: u32 = 0x000C_0000;
 
-const READ: u32 = 0x000_a_0000;
+const READ: u32 = 0x000A_0000;
 
 // ---- captures
 

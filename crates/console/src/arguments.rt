@@ -1,7 +1,7 @@
 // What the arguments ask of a program. A name is an argument that does not begin with `-`, or `-` alone, which stands for
 // standard input; any other is an option.
 
-#[derive(Drop)]
+#[derive(Clone, Copy)]
 pub enum Asked {
     Work,
     Help,
@@ -44,7 +44,7 @@ fn is_name(i: usize) -> bool {
 // ---- all arguments
 
 // How many names may follow, or that none may stand here.
-#[derive(Drop)]
+#[derive(Clone, Copy)]
 enum Left {
     Names(usize),
     Unknown,

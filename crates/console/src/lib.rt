@@ -18,14 +18,14 @@ const TRIES: u32 = 1_000;
 // ---- input
 
 // All bytes up to the end of the input or of the buffer, or a read failed.
-#[derive(Drop)]
+#[derive(Clone, Copy)]
 pub enum Input {
     Whole(usize),
     Failed,
 }
 
 // What a read came to; no bytes at the end of the input.
-#[derive(Drop)]
+#[derive(Clone, Copy)]
 enum Piece {
     Bytes(usize),
     Lost,

@@ -11,7 +11,7 @@ const LINE: usize = 4_500;
 
 // What a program works on: so many bytes at the start of its buffer; or there is nothing to do, since help was asked for or
 // something went wrong, which was told.
-#[derive(Drop)]
+#[derive(Clone, Copy)]
 pub struct Given {
     pub work: bool,
     pub size: usize,
@@ -23,7 +23,7 @@ pub const NOTHING: Given = Given {
 };
 
 // An input that was opened: its descriptor, and which argument names it, 0 for standard input.
-#[derive(Drop)]
+#[derive(Clone, Copy)]
 pub enum Source {
     Open { fd: i32, place: usize },
     Nothing,

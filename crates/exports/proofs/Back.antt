@@ -104,11 +104,11 @@ all-rise (e ∷ es) f r =
     let none : between 0 e.cycle ≡ 0 = omega arith in
     rw none (omega arith, bridged-rises e.cycle es r.1)
 
-nops-low : (limit last : ℕ) (rest : List Event) → 0x_e0000 < limit → Low limit rest → (j n : ℕ) → Low limit (map (nop last) (count j n) ++ rest)
+nops-low : (limit last : ℕ) (rest : List Event) → 0xE0000 < limit → Low limit rest → (j n : ℕ) → Low limit (map (nop last) (count j n) ++ rest)
 nops-low limit last rest l r j zero = r
 nops-low limit last rest l r j (suc n) = (l, nops-low limit last rest l r (suc j) n)
 
-pub bridged-low : (limit last : ℕ) (es : List Event) → 0x_e0000 < limit → Low limit es → Low limit (bridged_from last es)
+pub bridged-low : (limit last : ℕ) (es : List Event) → 0xE0000 < limit → Low limit es → Low limit (bridged_from last es)
 unfolding bridged_from nops
 bridged-low limit last [] l r = tt
 bridged-low limit last (e ∷ es) l r =

@@ -121,13 +121,13 @@ module _ {last k at cycle j : ℕ} {out₀ out : List ℕ} (x : Nopping last k o
   unfolding export_of
   split l = rw (one_less k j l, add-one j)
 
-  pub nops-on : j < k → {next : ℕ} {o : List ℕ} → next ≡ cycle + reach → o ≡ sets out (at + 6 * j) (half_bytes (next % around) ++ word_bytes 0x_e0000) →
+  pub nops-on : j < k → {next : ℕ} {o : List ℕ} → next ≡ cycle + reach → o ≡ sets out (at + 6 * j) (half_bytes (next % around) ++ word_bytes 0xE0000) →
       Nopping last k out₀ at o next (j + 1)
   unfolding half_bytes word_bytes
   nops-on l {next} {o} e f =
       let reached : next ≡ last + reach * suc j = omega (arith, x.counted) in
       let there : o ≡ sets out (at + 6 * j) (record_bytes (nop last j)) =
-      f ∙ ap (λ (t : ℕ). sets out (at + 6 * j) (half_bytes (t % around) ++ word_bytes 0x_e0000)) reached in
+      f ∙ ap (λ (t : ℕ). sets out (at + 6 * j) (half_bytes (t % around) ++ word_bytes 0xE0000)) reached in
       let place : at + 6 * (j + 1) ≡ at + 6 * j + length (record_bytes (nop last j)) = omega arith in
       record {
         within = omega arith;

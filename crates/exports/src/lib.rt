@@ -13,7 +13,7 @@ use settings::Checked;
 use words::Found;
 
 // What is said of an export, or of a capture that is to be one.
-#[derive(Drop)]
+#[derive(Clone, Copy)]
 pub enum Converted {
     Refused { number: u32, place: u32 },
     Written { bytes: u32 },
@@ -44,7 +44,7 @@ const REACH: u32 = 65_535;
 
 const AROUND: u32 = 65_536;
 
-const NOP: u32 = 0x_e_0000;
+const NOP: u32 = 0xE_0000;
 
 // ---- from an export to a capture
 

@@ -23,7 +23,7 @@ const RECORDS: usize = exports::LONGEST + exports::RECORD;
 const ROUNDS: u64 = 0x1_0000_0000;
 
 // What lies behind the records that are kept: whole records, or an end within one, or a read that failed, or more.
-#[derive(Drop)]
+#[derive(Clone, Copy)]
 enum Rest {
     Whole,
     Part,

@@ -10,7 +10,7 @@ use settings::places::ROW_BITS;
 use settings::{Checked, Settings};
 
 // What is said of a capture that is to be blanked.
-#[derive(Drop)]
+#[derive(Clone, Copy)]
 pub enum Blanked {
     Refused { number: u32, place: u32 },
     Written { bytes: u32 },

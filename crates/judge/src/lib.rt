@@ -10,7 +10,7 @@ use settings::places::MODE;
 use settings::{Checked, Settings};
 
 // What is said of a capture.
-#[derive(Drop)]
+#[derive(Clone, Copy)]
 pub enum Verdict {
     Refused {
         number: u32,

@@ -64,7 +64,7 @@ const NOWHERE: u32 = 100_000;
 const SETTINGS: [u32; settings::COUNT] = [1, 13, 10, 0x32, 3, 3, 10_000, 1, 2, 3, 1, 12, 2, 1000];
 
 // A number of 01's table and a place; 0 and 0 for what is accepted.
-#[derive(Drop)]
+#[derive(Clone, Copy)]
 struct Answer(u32, u32);
 
 fn of_checked(c: Checked) -> Answer {
@@ -109,7 +109,7 @@ fn store_events(out: &mut [u8], events: u32)
 {
     for i in 0..8_001 {
         store(out, events + 8 * i, 10 * i);
-        store(out, events + 4 + 8 * i, 0x000_e_0000);
+        store(out, events + 4 + 8 * i, 0x000E_0000);
     }
 }
 
@@ -220,7 +220,7 @@ fn event_counts() {
 
 fn pins() {
     changed(104, PINS_1, 0, 0, 0);
-    changed(104, PINS_1, 0x000_f_ffff, 0, 0); // bits 0 to 19
+    changed(104, PINS_1, 0x000F_FFFF, 0, 0); // bits 0 to 19
     for bit in 20u32..32 {
         changed(104, PINS_1, 1 << bit, 4, 1);
     }
@@ -241,7 +241,7 @@ fn rising_cycles() {
 fn large_cycles() {
     changed(104, CYCLE_2, 2_000_000_000, 0, 0); // "at most 2,000,000,000"
     changed(104, CYCLE_2, 2_000_000_001, 4, 2);
-    changed(104, CYCLE_2, 0x_ffff_ffff, 4, 2);
+    changed(104, CYCLE_2, 0xFFFF_FFFF, 4, 2);
     changed(104, CYCLE_0, 2_000_000_000, 4, 1); // it fits, and the second is below it
     changed(104, CYCLE_0, 2_000_000_001, 4, 0);
     twice_changed(104, CYCLE_1, 1_999_999_999, CYCLE_2, 2_000_000_000, 0, 0);
@@ -348,7 +348,7 @@ fn burst_lengths() {
     mode(0x27, 3, 3);
     mode(0x28, 3, 3);
     mode(0x29, 0, 0);
-    mode(0x3_c, 0, 0);
+    mode(0x3C, 0, 0);
 }
 
 fn latencies() {
@@ -366,7 +366,7 @@ fn mode_range() {
     mode(0, 3, 3);
     mode(127, 3, 3);
     mode(128, 3, 3);
-    mode(0x_b2, 3, 3); // 0x32 and bit 7
+    mode(0xB2, 3, 3); // 0x32 and bit 7
     mode(0x8000_0032, 3, 3);
 }
 
@@ -438,7 +438,7 @@ fn sleeping_settings() {
 
 // The second of three events has its pins at byte 100.
 fn sleeping_pins() {
-    sleeping(112, 100, 0x001_f_ffff, 0, 0); // bits 0 to 20
+    sleeping(112, 100, 0x001F_FFFF, 0, 0); // bits 0 to 20
     for bit in 21u32..32 {
         sleeping(112, 100, 1 << bit, 4, 1);
     }
@@ -509,7 +509,7 @@ fn contradictions() {
     together([9_998, 1, 10_000], 3, 7);
     together([10_000, 10_000, 10_000], 0, 0);
     together([10_000, 10_000, 10_001], 3, 7); // out of its range
-    together([0x_ffff_ffff, 7, 7], 3, 5); // in 32 bits the sum is 6
+    together([0xFFFF_FFFF, 7, 7], 3, 5); // in 32 bits the sum is 6
 }
 
 fn contradictions_and_other_faults() {

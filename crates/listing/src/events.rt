@@ -19,7 +19,7 @@ const RISE: usize = 7;
 
 const OTHER: usize = 8;
 
-#[derive(Drop)]
+#[derive(Clone, Copy)]
 struct Event {
     cycle: u32,
     pins: u32,

@@ -12,7 +12,7 @@ use judge::Verdict;
 pub const MOST_CAPTURES: u64 = 10_000;
 
 // What is told of a capture. Beats and cycles are 0 unless it is clean; the cycles are twice that of its last event.
-#[derive(Drop)]
+#[derive(Clone, Copy)]
 pub struct Line {
     pub verdict: Verdict,
     pub read: u32,
@@ -21,7 +21,7 @@ pub struct Line {
 }
 
 // What a verdict adds to the totals: 1 to one of the first three.
-#[derive(Drop)]
+#[derive(Clone, Copy)]
 pub struct Counts {
     pub clean: u32,
     pub broken: u32,
@@ -31,7 +31,7 @@ pub struct Counts {
 }
 
 // The sums of lines. Ten thousand words of 32 bits do not fill 64.
-#[derive(Drop)]
+#[derive(Clone, Copy)]
 pub struct Totals {
     pub captures: u64,
     pub clean: u64,

@@ -11,7 +11,7 @@ use deadlines::{Deadlines, Pace};
 use settings::Settings;
 
 // What an event answers: all rules are kept, or some are broken, of which this is the lowest.
-#[derive(Drop)]
+#[derive(Clone, Copy)]
 pub enum Answer {
     Kept,
     Broke(u32),

@@ -230,7 +230,7 @@ fn main() {
 Plays a clean capture of a Mobile DDR bus against a window of cells. Behind the
 capture stand words of 32 bits: the first cell, how many words the window has,
 these, and to the end words and masks for its writes. Prints `words COUNT`, each
-word read as `word 0x_word` and each cell of the window as `cell CELL 0x_word`;
+word read as `word 0xWORD` and each cell of the window as `cell CELL 0xWORD`;
 of what cannot be played `refused NUMBER place PLACE`.
 ",
         &UNDONE,

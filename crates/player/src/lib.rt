@@ -23,7 +23,7 @@ use settings::{Checked, Settings, mode};
 const MOST_WINDOW: usize = 16_384;
 
 // What is said of a capture that is to be played.
-#[derive(Drop)]
+#[derive(Clone, Copy)]
 pub enum Played {
     Refused { number: u32, place: u32 },
     Words { read: u32 },

@@ -33,10 +33,10 @@ mod Played
 
 -- pin words, put together by adding: a command, a bank, A10, column or row pins
 abbrev ACTIVE : ℕ
-ACTIVE = 0x_c0000
+ACTIVE = 0xC0000
 
 abbrev READ : ℕ
-READ = 0x_a0000
+READ = 0xA0000
 
 abbrev WRITE : ℕ
 WRITE = 0x20000
@@ -54,7 +54,7 @@ abbrev MODE : ℕ
 MODE = 0x00000
 
 abbrev NOP : ℕ
-NOP = 0x_e0000
+NOP = 0xE0000
 
 abbrev DESELECT : ℕ
 DESELECT = 0x10000

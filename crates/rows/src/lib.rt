@@ -9,13 +9,13 @@ ghost use Rattle.rows.specs.Walks.{opens_bank, closes_bank, Room, none_yet, note
 use browser::Seen;
 
 // How many openings each bank has.
-#[derive(Drop)]
+#[derive(Clone, Copy)]
 pub struct Tally {
     pub counts: [u32; 4],
 }
 
 // How a bank stands: idle, or open on a row since an event.
-#[derive(Drop)]
+#[derive(Clone, Copy)]
 pub enum Standing {
     Idle,
     Open { row: u32, first: u32 },

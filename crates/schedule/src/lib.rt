@@ -15,14 +15,14 @@ use settings::{COUNT, Checked, HELD, Settings};
 use words::Found;
 
 // What is said of settings, requests and a buffer.
-#[derive(Drop)]
+#[derive(Clone, Copy)]
 pub enum Scheduled {
     Refused { number: u32, place: u32 },
     Written { bytes: u32 },
 }
 
 // What becomes of the requests: so many events, or the request at which refresh cannot be kept.
-#[derive(Drop)]
+#[derive(Clone, Copy)]
 enum Planned {
     Late(u32),
     Events(u32),

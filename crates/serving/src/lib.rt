@@ -20,7 +20,7 @@ use settings::places::{T_RAS, T_RCD, T_RFC, T_RP, T_RRD, T_WR, T_WTR};
 use soonest::{FREE, ROW, Standing};
 
 // Refresh is kept by the request's turn, or it cannot be.
-#[derive(Drop)]
+#[derive(Clone, Copy)]
 pub enum Turn {
     Kept,
     Late,

@@ -22,7 +22,7 @@ pub const HELD: usize = SLEEPING + 1;
 pub type Settings = [u32; HELD];
 
 // The least and the most that a setting may be.
-#[derive(Drop)]
+#[derive(Clone, Copy)]
 struct Limits(u32, u32);
 
 const LIMITS: [Limits; SLEEPING] = [
@@ -45,7 +45,7 @@ const LIMITS: [Limits; SLEEPING] = [
 ];
 
 // What is wrong with a list of settings, or with a capture.
-#[derive(Drop)]
+#[derive(Clone, Copy)]
 pub enum Checked {
     Fine,
     Refused { number: u32, place: u32 },

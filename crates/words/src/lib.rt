@@ -4,7 +4,7 @@ ghost use Rattle.std.proofs.lemmas.List.Edits.{sets};
 ghost use Rattle.reading.specs.Words.{word_at, word_bytes, bytes_of, half_at, half_bytes};
 
 // What a search for the lowest number of a kind answers.
-#[derive(Drop)]
+#[derive(Clone, Copy)]
 pub enum Found {
     Nothing,
     At(u32),

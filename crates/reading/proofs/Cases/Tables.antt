@@ -63,7 +63,7 @@ interleaved-2 : table 0x39 ≡
 unfolding table
 interleaved-2 = refl
 
-interleaved-4 : table 0x3_a ≡
+interleaved-4 : table 0x3A ≡
     (0 ∷ 1 ∷ 2 ∷ 3 ∷ []) ∷
     (1 ∷ 0 ∷ 3 ∷ 2 ∷ []) ∷
     (2 ∷ 3 ∷ 0 ∷ 1 ∷ []) ∷
@@ -71,7 +71,7 @@ interleaved-4 : table 0x3_a ≡
 unfolding table
 interleaved-4 = refl
 
-interleaved-8 : table 0x3_b ≡
+interleaved-8 : table 0x3B ≡
     (0 ∷ 1 ∷ 2 ∷ 3 ∷ 4 ∷ 5 ∷ 6 ∷ 7 ∷ []) ∷
     (1 ∷ 0 ∷ 3 ∷ 2 ∷ 5 ∷ 4 ∷ 7 ∷ 6 ∷ []) ∷
     (2 ∷ 3 ∷ 0 ∷ 1 ∷ 6 ∷ 7 ∷ 4 ∷ 5 ∷ []) ∷
@@ -83,7 +83,7 @@ interleaved-8 : table 0x3_b ≡
 unfolding table
 interleaved-8 = refl
 
-interleaved-16 : table 0x3_c ≡
+interleaved-16 : table 0x3C ≡
     (0 ∷ 1 ∷ 2 ∷ 3 ∷ 4 ∷ 5 ∷ 6 ∷ 7 ∷ 8 ∷ 9 ∷ 10 ∷ 11 ∷ 12 ∷ 13 ∷ 14 ∷ 15 ∷ []) ∷
     (1 ∷ 0 ∷ 3 ∷ 2 ∷ 5 ∷ 4 ∷ 7 ∷ 6 ∷ 9 ∷ 8 ∷ 11 ∷ 10 ∷ 13 ∷ 12 ∷ 15 ∷ 14 ∷ []) ∷
     (2 ∷ 3 ∷ 0 ∷ 1 ∷ 6 ∷ 7 ∷ 4 ∷ 5 ∷ 10 ∷ 11 ∷ 8 ∷ 9 ∷ 14 ∷ 15 ∷ 12 ∷ 13 ∷ []) ∷
