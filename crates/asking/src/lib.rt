@@ -1,4 +1,6 @@
 // Which row was open: a question about a bank and an event of a clean capture, with the index of all openings filled.
+#![tactic(auto)]
+
 ghost use Rattle.std.specs.Prelude.{◌≡◌, map, ◌≤◌, length};
 ghost use Rattle.reading.specs.Openings.{records_from};
 ghost use Rattle.reading.specs.OpenRow.{open_row_answer, index_in, records_in, over};

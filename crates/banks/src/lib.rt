@@ -1,4 +1,6 @@
 // The four bank records, lent by the caller and filled in place, and what is said of a question about open rows.
+#![tactic(auto)]
+
 ghost use Rattle.std.specs.Prelude.{◌≡◌, ◌≤◌, ◌<◌, length};
 ghost use Rattle.reading.specs.Search.{lesser};
 ghost use Rattle.banks.specs.Banks.{filled_of, filled_from};

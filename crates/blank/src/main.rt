@@ -1,5 +1,7 @@
 // A capture with its addresses blanked on standard output. What is no capture has no output: a refusal is told on standard
 // error, so that it is never taken for one.
+#![tactic(auto)]
+
 use console::{Out, program, say};
 use hidden::Blanked;
 

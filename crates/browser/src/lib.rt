@@ -1,4 +1,6 @@
 // The browser's reader: it holds a capture and a position, and sees the event that stands there.
+#![tactic(auto)]
+
 ghost use Rattle.std.specs.Prelude.{◌≡◌, ◌+◌, ◌≤◌, ◌<◌, ◌^◌, length};
 ghost use Rattle.reading.specs.Capture.{capture_size, count_in, event_count};
 ghost use Rattle.browser.specs.Browsed.{seen_at};

@@ -1,4 +1,6 @@
 // A capture in bytes: whether it is accepted, and its settings and events.
+#![tactic(auto)]
+
 pub mod front;
 
 ghost use Rattle.std.specs.Prelude.{◌≡◌, true, not, ◌+◌, ◌*◌, ◌^◌, ◌≤◌, ◌<◌, length, eqb};

@@ -1,5 +1,7 @@
 // Cells of small captures: case k of document 01 ("01" below), refusals 8 and 7, and every row of the published burst
 // tables, written as the tables have it: length, starting column, type, order of the columns.
+#![tactic(auto)]
+
 ghost use Rattle.std.specs.Prelude.{◌≤◌};
 
 use cells::Listed;

@@ -1,5 +1,7 @@
 // What every program has around its work: its arguments, an input read to its end, complaints, and text on standard output,
 // of which all is written up to the first byte that cannot be, and nothing behind it.
+#![tactic(auto)]
+
 pub mod arguments;
 pub mod line;
 pub mod plain;

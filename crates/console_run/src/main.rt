@@ -1,5 +1,7 @@
 // Arguments and lines, as the programs use them: what the arguments in the file `args` ask of programs with other options and
 // numbers of names, and lines at the limits of their numbers and their room.
+#![tactic(auto)]
+
 use console::arguments::{Asked, asked_for, has, name};
 use console::line::{cover, put, put_number};
 use console::plain::say;

@@ -1,4 +1,6 @@
 // The deadlines that are kept of a part, in an array that is lent: where each stands, and the sums they are made of.
+#![tactic(auto)]
+
 pub mod banks;
 pub mod clock;
 pub mod places;

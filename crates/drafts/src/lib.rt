@@ -1,5 +1,7 @@
 // One command of a schedule: its cycle, what it makes of the deadlines and of where the schedule stands, and its words behind
 // those of the events before it.
+#![tactic(auto)]
+
 ghost use Rattle.std.specs.Prelude.{◌≡◌, [], ◌∷◌, ◌+◌, ◌*◌, ◌<◌, ◌≤◌, length, set};
 ghost use Rattle.std.proofs.lemmas.List.Edits.{sets};
 ghost use Rattle.reading.specs.Settings.{settings_of};

@@ -1,4 +1,6 @@
 // What a command makes of the deadlines.
+#![tactic(auto)]
+
 ghost use Rattle.std.specs.Prelude.{◌≡◌, ◌+◌, ◌<◌};
 ghost use Rattle.reading.specs.Settings.{settings_of};
 ghost use Rattle.deadlines.specs.Deadlines as is;

@@ -1,6 +1,8 @@
 // An export of the handheld analyser as a capture on standard output. Its settings and its edition are those of another
 // capture, of which header and settings alone are looked at. What is refused has no output: that is told on standard error,
 // so that it is never taken for a capture.
+#![tactic(auto)]
+
 ghost use Rattle.std.specs.Prelude.{◌≤◌, length};
 
 use console::program::{Given, NOTHING, Source};

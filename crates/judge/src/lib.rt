@@ -1,4 +1,6 @@
 // The judge: refused by document 01's table, or judged event by event until one breaks a rule.
+#![tactic(auto)]
+
 ghost use Rattle.std.specs.Prelude.{◌≡◌};
 ghost use Rattle.reading.specs.Settings.{settings_of};
 ghost use Rattle.reading.specs.Answers.{judge_answer_to, judge_answer};

@@ -1,6 +1,8 @@
 // Captures and lists of settings at the limits of document 01 ("01" below), each with the number and the place that 01's
 // table of refusals gives it, or 0 and 0 where it is accepted. A line is written for each: what was tried and what was
 // answered, and "WRONG" where 01 says otherwise.
+#![tactic(auto)]
+
 ghost use Rattle.std.specs.Prelude.{◌<◌, ◌≤◌};
 
 use console::plain::{print, say};

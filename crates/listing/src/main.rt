@@ -1,5 +1,7 @@
 // The listing: of a capture its settings, what document 01 says of it, and the events around the broken one.
 // docs/LISTING.md has every line.
+#![tactic(auto)]
+
 mod events;
 mod open;
 

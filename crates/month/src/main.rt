@@ -1,4 +1,6 @@
 // The month in numbers: captures one behind another, a line for each as soon as it is read, and behind them the totals.
+#![tactic(auto)]
+
 mod plain;
 mod table;
 

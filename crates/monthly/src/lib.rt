@@ -1,4 +1,6 @@
 // The month in numbers: the line of a capture, the totals of lines, and how far a stream is read for a capture.
+#![tactic(auto)]
+
 ghost use Rattle.std.specs.Prelude.{◌≡◌, ◌+◌, ◌*◌, ◌≤◌, ◌<◌, ltb, length, []};
 ghost use Rattle.reading.specs.Capture.{last_cycle};
 ghost use Rattle.reading.specs.Schedule.{last_from};

@@ -1,4 +1,6 @@
 // The calls for C and Rust programs. Each answers one number, whose bits `specs/Packing` and include/morgazell.h describe.
+#![tactic(auto)]
+
 ghost use Rattle.std.specs.Prelude.{◌≡◌, ◌<◌, map};
 ghost use Rattle.reading.specs.Answers.{judge_answer_to, judge_answer, recording_answer, cells_outcome, schedule_outcome};
 ghost use Rattle.reading.specs.Blank.{blank_outcome};

@@ -1,4 +1,6 @@
 // The index of a clean capture in words: the openings of each bank, in order (docs/RULES.md, section 8.3).
+#![tactic(auto)]
+
 use banks::Bank;
 use console::line::{put, put_number};
 use console::{Out, program, say, say_number};

@@ -1,4 +1,6 @@
 // What the judge keeps of a part: its deadlines in a lent array, no rows and no bursts; and the step from event to event.
+#![tactic(auto)]
+
 ghost use Rattle.std.specs.Prelude.{◌≡◌, true, cond, ◌≤◌, ◌<◌, eqb};
 ghost use Rattle.reading.specs.Settings.{settings_of};
 ghost use Rattle.deadlines.specs.Deadlines as is;

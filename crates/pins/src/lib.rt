@@ -1,4 +1,6 @@
 // Pin words: what the pins of an event ask for, and the pins that ask for a command.
+#![tactic(auto)]
+
 ghost use Rattle.std.specs.Prelude.{◌≡◌, ◌<◌};
 ghost use Rattle.pins.specs.Pins.{code_of, wide_code_of, bank_of, address_of, ten_of, low_of, gives};
 

@@ -1,5 +1,7 @@
 // A capture played against a window of cells (docs/RULES.md, section 10.1): the input is the capture and behind it words, the
 // first cell, how many words the window has, these, and to the end words and masks for its writes.
+#![tactic(auto)]
+
 ghost use Rattle.std.specs.Prelude.{◌≤◌};
 ghost use Rattle.io.specs.Counts.{IsPrefixLen};
 

@@ -1,5 +1,7 @@
 // The bench player: a clean capture played against a window of lent cells. It knows the judge, the bursts and their cells by
 // what these promise, and no rule, step or deadline.
+#![tactic(auto)]
+
 ghost use Rattle.std.specs.Prelude.{◌≡◌, true, map, ◌+◌, ◌*◌, ◌%◌, ◌^◌, ◌≤◌, length};
 ghost use Rattle.std.proofs.Math.Option.{none};
 ghost use Rattle.std.proofs.lemmas.List.Edits.{sets};

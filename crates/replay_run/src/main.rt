@@ -10,6 +10,8 @@
 //
 // Lane code 1, two lanes, every cell ccdd at first: the low halves, where bits 0 and 1 of the mask decide. So cell 1 becomes
 // cc54, cell 2 becomes 6314, cell 3 becomes 7374, and cell 0 stays cc34.
+#![tactic(auto)]
+
 use cells::Listed;
 use console::plain::say;
 use schedule::{CLOSED_ROWS, OPEN_ROWS, Scheduled};

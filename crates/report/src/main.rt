@@ -1,4 +1,6 @@
 // The report: what document 01 says of a capture.
+#![tactic(auto)]
+
 use console::{Out, program};
 use wording::verdict::print_verdict;
 

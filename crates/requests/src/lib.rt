@@ -1,4 +1,6 @@
 // A request: whether it fits, and the pins of its commands. Pins that are not named are 0.
+#![tactic(auto)]
+
 ghost use Rattle.std.specs.Prelude.{◌≡◌, true, cond, ◌^◌, ◌≤◌, ◌<◌};
 ghost use Rattle.words.specs.Found.{place_of};
 ghost use Rattle.reading.specs.Settings.{settings_of};

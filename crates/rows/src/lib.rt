@@ -1,5 +1,7 @@
 // The openings of the banks of a clean capture: how many each has, their words for the index, and how a bank stands after an
 // event. A row is open from its ACTIVE on, until a PRECHARGE or auto precharge closes its bank.
+#![tactic(auto)]
+
 ghost use Rattle.std.specs.Prelude.{◌≡◌, [], ◌∷◌, ◌+◌, ◌*◌, ◌≤◌, ◌<◌, length};
 ghost use Rattle.std.proofs.lemmas.List.Edits.{sets};
 ghost use Rattle.reading.specs.Capture.{capture_size, count_in, event_count, event_bytes, event_at};

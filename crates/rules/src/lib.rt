@@ -1,4 +1,6 @@
 // Which rule a command breaks: a comparison for each timed rule, a search for each rule that looks at several banks.
+#![tactic(auto)]
+
 ghost use Rattle.std.specs.Prelude.{◌≡◌, cond, ◌+◌, ◌<◌, leb, ltb, eqb};
 ghost use Rattle.reading.specs.Mode.{mode_word};
 ghost use Rattle.reading.specs.Settings.{settings_of};

@@ -1,4 +1,6 @@
 // The fixed schedule of a list of requests, with rows left open or closed, written as a whole capture.
+#![tactic(auto)]
+
 ghost use Rattle.std.specs.Prelude.{◌≡◌, length};
 ghost use Rattle.reading.specs.Settings.{settings_count, settings_of};
 ghost use Rattle.reading.specs.Rules.{placing};

@@ -1,6 +1,8 @@
 // Schedules of small and of the longest lists, by both row policies, each judged by the judge: case m of document 01 ("01"
 // below), and lists whose schedules are worked out beside them, for 01's settings: tRCD 3, tRP 3, tRAS 7, tRC 10, tRFC 12,
 // bursts of 2 pairs.
+#![tactic(auto)]
+
 use console::plain::{print, say};
 use judge::Verdict;
 use schedule::{CLOSED_ROWS, OPEN_ROWS, Scheduled};

@@ -1,4 +1,6 @@
 // One request's turn in a schedule, with rows left open or closed: alone, or behind a refresh, or not in time.
+#![tactic(auto)]
+
 ghost use Rattle.std.specs.Prelude.{◌≡◌, not, ◌||◌, ◌+◌, ◌*◌, ◌<◌, []};
 ghost use Rattle.reading.specs.Search.{given};
 ghost use Rattle.reading.specs.Settings.{settings_of};

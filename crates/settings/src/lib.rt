@@ -1,4 +1,6 @@
 // The settings of a board: their places, their limits, and the list of words that holds them.
+#![tactic(auto)]
+
 pub mod mode;
 pub mod places;
 

@@ -1,5 +1,7 @@
 // When a command of a schedule may go: not before the deadlines that the rules ask of it, nor before the end of a burst that
 // it would cut (specs of `plan`).
+#![tactic(auto)]
+
 ghost use Rattle.std.specs.Prelude.{◌≡◌, ◌+◌, ◌<◌};
 ghost use Rattle.deadlines.specs.Deadlines.{other_bank};
 ghost use Rattle.plan.specs.Soonest.{active_soonest, read_soonest, write_soonest, burst_soonest, close_soonest, open_till, all_till, close_all_soonest, refresh_soonest};

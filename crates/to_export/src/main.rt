@@ -1,5 +1,7 @@
 // A capture as an export of the handheld analyser on standard output. What is refused has no output: that is told on
 // standard error, so that it is never taken for an export.
+#![tactic(auto)]
+
 use console::{Out, program, say};
 use exports::Converted;
 

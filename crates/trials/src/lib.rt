@@ -1,4 +1,6 @@
 // Captures that the test programs put together, word by word.
+#![tactic(auto)]
+
 ghost use Rattle.std.specs.Prelude.{◌≡◌};
 ghost use Rattle.trials.specs.Stored.{stored, stored_from};
 

@@ -1,4 +1,6 @@
 // Little-endian words of 32 bits, and of 16, in a slice of bytes.
+#![tactic(auto)]
+
 ghost use Rattle.std.specs.Prelude.{◌≡◌, ◌&&◌, ◌+◌, ◌*◌, ◌≤◌, ◌<◌, length, take};
 ghost use Rattle.std.proofs.lemmas.List.Edits.{sets};
 ghost use Rattle.reading.specs.Words.{word_at, word_bytes, bytes_of, half_at, half_bytes};

@@ -1,0 +1,6 @@
+use Rattle.std.proofs.Common.{◌-◌}
+use Rattle.exports.proofs.Bridges.{Exporting}
+use Rattle.exports.proofs.put_export.Given as goal
+
+abbrev pub invariant-events : goal.invariant-events
+invariant-events l = Exporting l.bytes l.n l.initial.out l.out l.at l.last l.i

@@ -1,0 +1,6 @@
+use Rattle.std.proofs.Common.{◌-◌}
+use Rattle.exports.proofs.Bridges.{Counting}
+use Rattle.exports.proofs.records_needed.Given as goal
+
+abbrev pub invariant-events : goal.invariant-events
+invariant-events l = Counting l.bytes l.n l.needed l.last l.i

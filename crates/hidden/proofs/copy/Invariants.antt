@@ -1,0 +1,6 @@
+use Prim.Native.Nat.{◌-◌}
+use Rattle.hidden.proofs.Filling.{Copying}
+use Rattle.hidden.proofs.copy.Given as goal
+
+abbrev pub invariant-loop-i : goal.invariant-loop-i
+invariant-loop-i l = Copying l.capture l.n l.initial.out l.out l.i

@@ -1,0 +1,29 @@
+use mathlib.Core.Path.{◌∙◌}
+use native.Mathlib.Omega.{arith}
+use Rattle.hidden.specs.Meaning.{means}
+use Rattle.morgazell.proofs.Fitting.{blank-fits}
+use Rattle.morgazell.proofs.Saying.{count_fits, count-packed}
+use Rattle.morgazell.proofs.morgazell_blank.Goals as goal
+
+pub pack-requires : goal.pack-requires
+pack-requires c =     (
+      (count_fits means c.blank-blanked.ensures.result_value c.in-Refused.is
+          (blank-fits c.args.capture.now c.args.out.now)).0.1,
+      omega arith,
+    )
+
+pub returns-in-Refused : goal.returns-in-Refused
+returns-in-Refused c =
+    let p = (
+      c.pack.ensures ∙ count-packed means c.blank-blanked.ensures.result_value c.in-Refused.is,
+      c.blank-blanked.ensures.out_after,
+    ) in
+    record { value = p.0; out_after = p.1 }
+
+pub returns-in-Written : goal.returns-in-Written
+returns-in-Written c =
+    let p = (
+      c.pack-in-Written.ensures ∙ count-packed means c.blank-blanked.ensures.result_value c.in-Written.is,
+      c.blank-blanked.ensures.out_after,
+    ) in
+    record { value = p.0; out_after = p.1 }

@@ -1,0 +1,24 @@
+use mathlib.Core.Path.{◌∙◌}
+use native.Mathlib.Omega.{arith}
+use Rattle.schedule.specs.Meaning.{means}
+use Rattle.morgazell.proofs.Fitting.{schedule-fits}
+use Rattle.morgazell.proofs.Saying.{count_fits, count-packed}
+use Rattle.morgazell.proofs.morgazell_schedule.Goals as goal
+
+pub pack-requires : goal.pack-requires
+pack-requires c =     let a = c.args in (
+      (count_fits means c.schedule-scheduled.ensures.result_value c.in-Refused.is
+          (schedule-fits a.settings.now a.requests.now a.policy a.out.now)).0.1,
+      omega arith,
+    )
+
+pub returns-in-Refused : goal.returns-in-Refused
+returns-in-Refused c = record { value = c.pack.ensures ∙ count-packed means c.schedule-scheduled.ensures.result_value c.in-Refused.is; out_after = c.schedule-scheduled.ensures.out_after }
+
+pub returns-in-Written : goal.returns-in-Written
+returns-in-Written c =
+    let p = (
+      c.pack-in-Written.ensures ∙ count-packed means c.schedule-scheduled.ensures.result_value c.in-Written.is,
+      c.schedule-scheduled.ensures.out_after,
+    ) in
+    record { value = p.0; out_after = p.1 }

@@ -1,0 +1,6 @@
+use Prim.Native.Nat.{◌-◌}
+use Rattle.trials.proofs.Storing.{Storing}
+use Rattle.trials.proofs.store_settings.Given as goal
+
+abbrev pub invariant-loop-i : goal.invariant-loop-i
+invariant-loop-i l = Storing l.list l.initial.out l.out l.at l.i

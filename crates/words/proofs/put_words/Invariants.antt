@@ -1,0 +1,6 @@
+use Prim.Native.Nat.{◌-◌}
+use Rattle.words.proofs.Storing.{Storing}
+use Rattle.words.proofs.put_words.Given as goal
+
+abbrev pub invariant-words : goal.invariant-words
+invariant-words l = Storing l.initial.out l.at l.list l.n l.out l.i
