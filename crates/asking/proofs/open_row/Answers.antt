@@ -14,17 +14,17 @@ use Prim.Native.Nat.{ℕ, ◌≤◌, ◌<◌}
 use Rattle.asking.proofs.open_row.Goals as goal
 
 pub returns-in-Refused : goal.returns-in-Refused
-returns-in-Refused c =     let a = c.args in
+returns-in-Refused c = let a = c.args in
     refused-told (records_in a.capture.now) (index_in a.capture.now) a.index.now
     (unclean a.capture.now a.bank a.event a.records (length a.index.now)
     (sym c.clean-checked.ensures ∙ ap check.means c.in-Refused.is))
     c.refused.ensures
 
 pub event_count-n-requires : goal.event_count-n-requires
-event_count-n-requires c = omega (arith, long (c.args.capture.now) ((clean-so (c.args.capture.now) ((sym c.clean-checked.ensures ∙ ap check.means c.in_default.is)))).0 ((clean-so (c.args.capture.now) ((sym c.clean-checked.ensures ∙ ap check.means c.in_default.is)))).1)
+event_count-n-requires c = omega (arith, long c.args.capture.now ((clean-so c.args.capture.now ((sym c.clean-checked.ensures ∙ ap check.means c.in_default.is)))).0 ((clean-so c.args.capture.now ((sym c.clean-checked.ensures ∙ ap check.means c.in_default.is)))).1)
 
 pub returns-in-Refused-asked : goal.returns-in-Refused-asked
-returns-in-Refused-asked c =     let a = c.args in
+returns-in-Refused-asked c = let a = c.args in
     refused-told (records_in a.capture.now) (index_in a.capture.now) a.index.now
     (unfit a.capture.now a.bank a.event a.records (length a.index.now) ((sym c.clean-checked.ensures ∙ ap check.means c.in_default.is))
     (ap (λ (n : ℕ). question_said n a.bank a.event a.records) (sym c.event_count-n.ensures)
@@ -32,7 +32,7 @@ returns-in-Refused-asked c =     let a = c.args in
     c.refused-in-Refused-asked.ensures
 
 pub count-tally-requires : goal.count-tally-requires
-count-tally-requires c = long (c.args.capture.now) ((clean-so (c.args.capture.now) ((sym c.clean-checked.ensures ∙ ap check.means c.in_default.is)))).0 ((clean-so (c.args.capture.now) ((sym c.clean-checked.ensures ∙ ap check.means c.in_default.is)))).1
+count-tally-requires c = long c.args.capture.now ((clean-so c.args.capture.now ((sym c.clean-checked.ensures ∙ ap check.means c.in_default.is)))).0 ((clean-so c.args.capture.now ((sym c.clean-checked.ensures ∙ ap check.means c.in_default.is)))).1
 
 pub records_of-banks-requires : goal.records_of-banks-requires
 records_of-banks-requires c =
@@ -50,7 +50,7 @@ overflow_mul-words c =
     counted-few (capture-of told) (clean_of told).0 (clean_of told).1 c.event_count-n.ensures c.count-tally.ensures)) c.records_of-banks.ensures)
 
 pub returns-then-index-words : goal.returns-then-index-words
-returns-then-index-words c =     let a = c.args in
+returns-then-index-words c = let a = c.args in
     refused-told (records_in a.capture.now) (index_in a.capture.now) a.index.now
     (short a.capture.now a.bank a.event a.records (length a.index.now) ((sym c.clean-checked.ensures ∙ ap check.means c.in_default.is)) ((let a = (c).before.before.before.before.before.args in
     ap (λ (n : ℕ). question_said n a.bank a.event a.records) (sym c.event_count-n.ensures)
@@ -63,32 +63,32 @@ returns-then-index-words c =     let a = c.args in
     c.count-tally.ensures c.records_of-banks.ensures)) refl refl)))
 
 pub write-requires : goal.write-requires
-write-requires c =     let counted = c.event_count-n.ensures in
-    let k = (clean-so (c.args.capture.now) ((sym c.clean-checked.ensures ∙ ap check.means c.in_default.is))) in (
-      (long (c.args.capture.now) k.0 k.1, omega (arith, counted)),
-      writes (c.args.capture.now) k.0 k.1 counted ((let told = c in words-needed (capture-of told) (clean_of told).0 (clean_of told).1 ((let told = c in
+write-requires c = let counted = c.event_count-n.ensures in
+    let k = (clean-so c.args.capture.now ((sym c.clean-checked.ensures ∙ ap check.means c.in_default.is))) in (
+      (long c.args.capture.now k.0 k.1, omega (arith, counted)),
+      writes c.args.capture.now k.0 k.1 counted ((let told = c in words-needed (capture-of told) (clean_of told).0 (clean_of told).1 ((let told = c in
     let p = counted-so (capture-of told) (clean_of told).0 (clean_of told).1 c.event_count-n.ensures
     c.count-tally.ensures c.records_of-banks.ensures)) refl refl)) (omega (arith, c.if-index-words.false)),
     ) in
     record { capture_in_bounds = p.0; n_in_bounds = p.1 }
 
 pub overflow_add-event : goal.overflow_add-event
-overflow_add-event c =     let k = clean_of (c) in
+overflow_add-event c = let k = clean_of (c) in
     omega (arith, ((let a = (c).before.before.before.before.before.args in
     fits-so (event_count a.capture.now) a.bank a.event a.records ((let a = (c).before.before.before.before.before.args in
     ap (λ (n : ℕ). question_said n a.bank a.event a.records) (sym c.event_count-n.ensures)
     ∙ (sym c.question-asked.ensures ∙ ap check.means c.in_default-asked.is))))).1, few-events (capture-of (c)) k.0 k.1)
 
 pub stands-stands-requires : goal.stands-stands-requires
-stands-stands-requires c =     let k = (clean-so (c.args.capture.now) ((sym c.clean-checked.ensures ∙ ap check.means c.in_default.is))) in
-    (long (c.args.capture.now) k.0 k.1, omega (arith, ((let a = (c).before.before.before.before.before.args in
+stands-stands-requires c = let k = (clean-so c.args.capture.now ((sym c.clean-checked.ensures ∙ ap check.means c.in_default.is))) in
+    (long c.args.capture.now k.0 k.1, omega (arith, ((let a = (c).before.before.before.before.before.args in
     fits-so (event_count a.capture.now) a.bank a.event a.records ((let a = (c).before.before.before.before.before.args in
     ap (λ (n : ℕ). question_said n a.bank a.event a.records) (sym c.event_count-n.ensures)
     ∙ (sym c.question-asked.ensures ∙ ap check.means c.in_default-asked.is))))).1))
 
 pub returns : goal.returns
-returns c =     let a = c.args in
-    let k = (clean-so (c.args.capture.now) ((sym c.clean-checked.ensures ∙ ap check.means c.in_default.is))) in
+returns c = let a = c.args in
+    let k = (clean-so c.args.capture.now ((sym c.clean-checked.ensures ∙ ap check.means c.in_default.is))) in
     let room : length (index_in a.capture.now) ≤ length a.index.now = subst (λ (w : ℕ). w ≤ length a.index.now) ((let told = c in words-needed (capture-of told) (clean_of told).0 (clean_of told).1 ((let told = c in
     counted-so (capture-of told) (clean_of told).0 (clean_of told).1 c.event_count-n.ensures
     c.count-tally.ensures c.records_of-banks.ensures)) refl refl)) (omega (arith, c.if-index-words.false)) in

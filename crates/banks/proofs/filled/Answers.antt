@@ -3,5 +3,5 @@ use Rattle.banks.proofs.Filling.{answered-new}
 use Rattle.banks.proofs.filled.Goals as goal
 
 pub returns : goal.returns
-returns c =     let a = c.args in
+returns c = let a = c.args in
     answered-new a.t.answer a.b (bank_at a.t.banks a.bank) c.in_default.in_default-own.keys2

@@ -12,7 +12,7 @@ pub overflow_add-block : goal.overflow_add-block
 overflow_add-block c = omega (arith, block-le c.burst_length-length.result c.args.column, c.requires.0, c.requires.1.0)
 
 pub overflow_add-result : goal.overflow_add-result
-overflow_add-result c =     let a = c.args in
+overflow_add-result c = let a = c.args in
     let p = c.requires in
     let size = c.burst_length-length.result in
     omega (
@@ -25,11 +25,11 @@ overflow_add-result c =     let a = c.args in
     )
 
 pub returns-then-interleaved : goal.returns-then-interleaved
-returns-then-interleaved c =     let a = c.args in
+returns-then-interleaved c = let a = c.args in
     beat-in-block a.first a.mode a.column true a.beat (sym c.interleaved.ensures ∙ c.if-interleaved.true) c.burst_length-length.ensures
 
 pub overflow_add-result-3 : goal.overflow_add-result-3
-overflow_add-result-3 c =     let a = c.args in
+overflow_add-result-3 c = let a = c.args in
     let p = c.requires in
     let size = c.burst_length-length.result in
     omega (
@@ -42,5 +42,5 @@ overflow_add-result-3 c =     let a = c.args in
     )
 
 pub returns : goal.returns
-returns c =     let a = c.args in
+returns c = let a = c.args in
     beat-in-block a.first a.mode a.column false a.beat (sym c.interleaved.ensures ∙ c.if-interleaved.false) c.burst_length-length.ensures

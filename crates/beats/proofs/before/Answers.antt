@@ -4,7 +4,7 @@ use Rattle.beats.proofs.Searching.{none_before}
 use Rattle.beats.proofs.before.Goals as goal
 
 pub returns-then-t-from : goal.returns-then-t-from
-returns-then-t-from c =     let a = c.args in
+returns-then-t-from c = let a = c.args in
     none_before a.pairs a.t a.from c.if-t-from.true
 
 pub returns-then-pairs-gone : goal.returns-then-pairs-gone

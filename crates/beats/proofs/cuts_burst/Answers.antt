@@ -9,7 +9,7 @@ pub returns-then-asked-eq-READ : goal.returns-then-asked-eq-READ
 returns-then-asked-eq-READ c = rw (← c.code.ensures, ← c.code-asked.ensures, ne_eqb _ 2 c.if-code-eq-WRITE.false, eq-eqb _ 10 c.if-asked-eq-READ.true)
 
 pub returns-then-asked-eq-TERMINATE : goal.returns-then-asked-eq-TERMINATE
-returns-then-asked-eq-TERMINATE c =     rw (
+returns-then-asked-eq-TERMINATE c = rw (
       ← c.code.ensures,
       ← c.code-asked.ensures,
       ne_eqb _ 2 c.if-code-eq-WRITE.false,
@@ -18,7 +18,7 @@ returns-then-asked-eq-TERMINATE c =     rw (
     )
 
 pub returns-then-asked-ne-PRECHARGE : goal.returns-then-asked-ne-PRECHARGE
-returns-then-asked-ne-PRECHARGE c =     rw (
+returns-then-asked-ne-PRECHARGE c = rw (
       ← c.code.ensures,
       ← c.code-asked.ensures,
       ne_eqb _ 2 c.if-code-eq-WRITE.false,
@@ -28,7 +28,7 @@ returns-then-asked-ne-PRECHARGE c =     rw (
     )
 
 pub returns : goal.returns
-returns c =     c.names_bank.ensures
+returns c = c.names_bank.ensures
     ∙ rw (
       ← c.bank.ensures.0,
       ← c.code.ensures,

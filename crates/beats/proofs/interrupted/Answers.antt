@@ -9,17 +9,17 @@ use Rattle.beats.proofs.Looking.{one-there, one_left}
 use Rattle.beats.proofs.interrupted.Goals as goal
 
 pub returns-then-half-eq1 : goal.returns-then-half-eq1
-returns-then-half-eq1 c =     let a = c.args in
+returns-then-half-eq1 c = let a = c.args in
     one-there (settings_of a.s.now) a.mode (event_at a.bytes.now a.i) (events_from a.bytes.now a.n (a.i + 1)) c.requires.bound
     c.half-half.ensures c.if-half-eq1.true
 
 pub returns-then-next-eq1 : goal.returns-then-next-eq1
-returns-then-next-eq1 c =     let a = c.args in
+returns-then-next-eq1 c = let a = c.args in
     one_left (settings_of a.s.now) a.mode (event_at a.bytes.now a.i) (events_from a.bytes.now a.n (a.i + 1)) c.requires.bound
     c.half-half.ensures c.next_leaves-next.ensures c.if-next-eq1.true
 
 pub returns : goal.returns
-returns c =     let a = c.args in
+returns c = let a = c.args in
     let s = settings_of a.s.now in
     let e = event_at a.bytes.now a.i in
     let later = events_from a.bytes.now a.n (a.i + 1) in

@@ -8,4 +8,4 @@ pub returns-then-code-ne-WRITE : goal.returns-then-code-ne-WRITE
 returns-then-code-ne-WRITE c = rw (eq-eqb _ _ c.if-s-ne1.false, ← c.code.ensures, ne_eqb _ 2 c.if-code-ne-WRITE.true)
 
 pub returns : goal.returns
-returns c =     rw (eq-eqb _ _ c.if-s-ne1.false, ← c.code.ensures, eq-eqb _ 2 c.if-code-ne-WRITE.false, ← c.ten.ensures)
+returns c = rw (eq-eqb _ _ c.if-s-ne1.false, ← c.code.ensures, eq-eqb _ 2 c.if-code-ne-WRITE.false, ← c.ten.ensures)

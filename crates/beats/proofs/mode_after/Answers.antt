@@ -12,5 +12,5 @@ returns-then-bank-ne0 c = rw (← c.code.ensures, eq-eqb _ 0 c.if-code-ne-MODE_S
 
 pub returns : goal.returns
 unfolding mode_after
-returns c =     rw (← c.code.ensures, eq-eqb _ 0 c.if-code-ne-MODE_SET.false, ← c.bank.ensures.0, eq-eqb _ 0 c.if-bank-ne0.false)
+returns c = rw (← c.code.ensures, eq-eqb _ 0 c.if-code-ne-MODE_SET.false, ← c.bank.ensures.0, eq-eqb _ 0 c.if-bank-ne0.false)
     c.address.ensures.0

@@ -18,7 +18,7 @@ pub overflow_add-j : goal.overflow_add-j
 overflow_add-j c = omega arith
 
 pub later-init : goal.later-init
-later-init c =     let a = c.args in
+later-init c = let a = c.args in
     begins (settings_of a.s.now) a.bytes.now a.n a.i a.pairs (next (settings_of a.s.now) a.bytes.now a.n a.i a.pairs) c.requires.1
 
 pub overflow_cast-behind : goal.overflow_cast-behind
@@ -28,7 +28,7 @@ pub cycle_at-t-requires : goal.cycle_at-t-requires
 cycle_at-t-requires c = omega (arith, c.requires.0.long)
 
 pub returns-then-past : goal.returns-then-past
-returns-then-past c =     let a = c.args in
+returns-then-past c = let a = c.args in
     next-far (settings_of a.s.now) a.bytes.now a.n a.i a.pairs c.later-test.true c.cycle_at-t.ensures
     c.later.invariant c.requires.0
     (omega (
@@ -48,19 +48,19 @@ pub later-smaller : goal.later-smaller
 later-smaller c = omega arith
 
 pub later-preserved : goal.later-preserved
-later-preserved c =     let a = c.args in
+later-preserved c = let a = c.args in
     goes_on (settings_of a.s.now) a.bytes.now a.n a.i a.pairs c.later.invariant c.later-test.true
     (next-passes (settings_of a.s.now) a.bytes.now a.n a.i a.pairs c.later-test.true c.cycle_at-t.ensures
-    c.pins_at-w.ensures (sym c.gives_burst.ensures ∙ not-true _ c.if-not-gives_burst.true))
+    c.pins_at-w.ensures (sym c.gives_burst.ensures ∙ c.if-not-gives_burst.true))
 
 pub returns-in-later : goal.returns-in-later
-returns-in-later c =     let a = c.args in
+returns-in-later c = let a = c.args in
     c.left_by.ensures
     ∙ ap (λ (k : ℕ). lesser a.pairs (c.cycle_at-t.result - cond (eqb (code_of c.pins_at-w.result) 10) (k + 1 + (settings_of a.s.now).t_wtr) k))
     c.cycle_at-k.ensures
     ∙ next-takes (settings_of a.s.now) a.bytes.now a.n a.i a.pairs c.later-test.true c.cycle_at-t.ensures
-    c.pins_at-w.ensures c.later.invariant (sym c.gives_burst.ensures ∙ not-false _ c.if-not-gives_burst.false)
+    c.pins_at-w.ensures c.later.invariant (sym c.gives_burst.ensures ∙ c.if-not-gives_burst.false)
 
 pub returns : goal.returns
-returns c =     let a = c.args in
+returns c = let a = c.args in
     next-ends (settings_of a.s.now) a.bytes.now a.n a.i a.pairs c.later.invariant (omega arith)

@@ -20,7 +20,7 @@ pub overflow_add-j : goal.overflow_add-j
 overflow_add-j c = omega arith
 
 pub later-init : goal.later-init
-later-init c =     let a = c.args in
+later-init c = let a = c.args in
     begins (settings_of a.s.now) a.bytes.now a.n a.i a.pairs (row (settings_of a.s.now) a.bytes.now a.n a.i a.pairs) c.requires.1
 
 pub overflow_cast-behind : goal.overflow_cast-behind
@@ -30,7 +30,7 @@ pub cycle_at-t-requires : goal.cycle_at-t-requires
 cycle_at-t-requires c = omega (arith, c.requires.0.long)
 
 pub returns-then-past : goal.returns-then-past
-returns-then-past c =     let a = c.args in
+returns-then-past c = let a = c.args in
     row-far (settings_of a.s.now) a.bytes.now a.n a.i a.pairs c.later-test.true c.cycle_at-t.ensures
     c.later.invariant c.requires.0
     (omega (
@@ -44,7 +44,7 @@ pub pins_at-w-requires : goal.pins_at-w-requires
 pins_at-w-requires c = omega (arith, c.requires.0.long)
 
 pub returns-then-shuts_bank : goal.returns-then-shuts_bank
-returns-then-shuts_bank c =     let a = c.args in
+returns-then-shuts_bank c = let a = c.args in
     let own = c.bank-bank.ensures.0 ∙ ap bank_of c.pins_at.ensures in
     c.before-then-shuts_bank.ensures ∙ ap (λ (k : ℕ). lesser a.pairs (c.cycle_at-t.result - k)) c.after2.ensures
     ∙ ap (λ (k : ℕ). lesser a.pairs (c.cycle_at-t.result - (k + 1 + (settings_of a.s.now).t_wr))) c.cycle_at-k.ensures
@@ -53,7 +53,7 @@ returns-then-shuts_bank c =     let a = c.args in
     (ap (λ (b : ℕ). shuts_bank b c.pins_at-w.result) (sym own) ∙ sym c.shuts_bank.ensures ∙ c.if-shuts_bank.true)
 
 pub returns-then-takes_bank : goal.returns-then-takes_bank
-returns-then-takes_bank c =     let a = c.args in
+returns-then-takes_bank c = let a = c.args in
     let own = c.bank-bank.ensures.0 ∙ ap bank_of c.pins_at.ensures in
     row-taken (settings_of a.s.now) a.bytes.now a.n a.i a.pairs c.later-test.true c.cycle_at-t.ensures
     c.pins_at-w.ensures (ap (λ (b : ℕ). shuts_bank b c.pins_at-w.result) (sym own) ∙ sym c.shuts_bank.ensures ∙ c.if-shuts_bank.false)
@@ -66,7 +66,7 @@ pub later-smaller : goal.later-smaller
 later-smaller c = omega arith
 
 pub later-preserved : goal.later-preserved
-later-preserved c =     let a = c.args in
+later-preserved c = let a = c.args in
     let own = c.bank-bank.ensures.0 ∙ ap bank_of c.pins_at.ensures in
     goes_on (settings_of a.s.now) a.bytes.now a.n a.i a.pairs c.later.invariant c.later-test.true
     (row-passes (settings_of a.s.now) a.bytes.now a.n a.i a.pairs c.later-test.true c.cycle_at-t.ensures
@@ -74,5 +74,5 @@ later-preserved c =     let a = c.args in
     (ap (λ (b : ℕ). takes_bank b c.pins_at-w.result) (sym own) ∙ sym c.takes_bank.ensures ∙ c.if-takes_bank.false))
 
 pub returns : goal.returns
-returns c =     let a = c.args in
+returns c = let a = c.args in
     row_ends (settings_of a.s.now) a.bytes.now a.n a.i a.pairs c.later.invariant (omega arith)

@@ -6,5 +6,5 @@ pub returns-then-code-ne-PRECHARGE : goal.returns-then-code-ne-PRECHARGE
 returns-then-code-ne-PRECHARGE c = rw (← c.code.ensures, ne_eqb _ 4 c.if-code-ne-PRECHARGE.true)
 
 pub returns : goal.returns
-returns c =     c.names_bank.ensures
+returns c = c.names_bank.ensures
     ∙ rw (← c.code.ensures, eq-eqb _ 4 c.if-code-ne-PRECHARGE.false)

@@ -5,10 +5,10 @@ pub returns-then-bank : goal.returns-then-bank
 returns-then-bank c = rw (← c.bank.ensures.0, ne_eqb _ _ c.if-bank.true)
 
 pub returns-then-asked-eq-ACTIVE : goal.returns-then-asked-eq-ACTIVE
-returns-then-asked-eq-ACTIVE c =     rw (← c.bank.ensures.0, eq-eqb _ _ c.if-bank.false, ← c.code-asked.ensures, eq-eqb _ 12 c.if-asked-eq-ACTIVE.true)
+returns-then-asked-eq-ACTIVE c = rw (← c.bank.ensures.0, eq-eqb _ _ c.if-bank.false, ← c.code-asked.ensures, eq-eqb _ 12 c.if-asked-eq-ACTIVE.true)
 
 pub returns-then-asked-eq-WRITE : goal.returns-then-asked-eq-WRITE
-returns-then-asked-eq-WRITE c =     rw (
+returns-then-asked-eq-WRITE c = rw (
       ← c.bank.ensures.0,
       eq-eqb _ _ c.if-bank.false,
       ← c.code-asked.ensures,
@@ -17,7 +17,7 @@ returns-then-asked-eq-WRITE c =     rw (
     )
 
 pub returns-then-asked-ne-READ : goal.returns-then-asked-ne-READ
-returns-then-asked-ne-READ c =     rw (
+returns-then-asked-ne-READ c = rw (
       ← c.bank.ensures.0,
       eq-eqb _ _ c.if-bank.false,
       ← c.code-asked.ensures,
@@ -27,7 +27,7 @@ returns-then-asked-ne-READ c =     rw (
     )
 
 pub returns : goal.returns
-returns c =     rw (
+returns c = rw (
       ← c.bank.ensures.0,
       eq-eqb _ _ c.if-bank.false,
       ← c.code-asked.ensures,

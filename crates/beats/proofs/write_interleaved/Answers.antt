@@ -15,7 +15,7 @@ pub loop-beat-init : goal.loop-beat-init
 loop-beat-init c = begins (λ (j : ℕ). c.args.block + place_in true c.args.size c.args.column j) c.args.out.now c.args.at (2 * c.args.pairs)
 
 pub overflow_add-out : goal.overflow_add-out
-overflow_add-out c =     omega (
+overflow_add-out c = omega (
       arith,
       c.requires.in_block.cell,
       place-lt true c.args.size c.args.column c.loop-beat.beat c.requires.in_block.some c.requires.in_block.most
@@ -38,7 +38,7 @@ pub loop-beat-smaller : goal.loop-beat-smaller
 loop-beat-smaller c = omega arith
 
 pub loop-beat-preserved : goal.loop-beat-preserved
-loop-beat-preserved c =     let a = c.args in
+loop-beat-preserved c = let a = c.args in
     goes_on (λ (j : ℕ). a.block + place_in true a.size a.column j) a.out.now a.at (2 * a.pairs) c.loop-beat.invariant (omega arith)
     refl
 
@@ -46,5 +46,5 @@ pub shape_of-out : goal.shape_of-out
 shape_of-out c = c.loop-beat.invariant.size
 
 pub returns : goal.returns
-returns c =     let a = c.args in
+returns c = let a = c.args in
     ends (λ (j : ℕ). a.block + place_in true a.size a.column j) a.out.now a.at (2 * a.pairs) c.loop-beat.invariant (omega arith)

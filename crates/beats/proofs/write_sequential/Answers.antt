@@ -39,7 +39,7 @@ pub offset_bounds-out-next-in-loop-pair : goal.offset_bounds-out-next-in-loop-pa
 offset_bounds-out-next-in-loop-pair c = omega arith
 
 pub bounds-out-next-in-loop-pair : goal.bounds-out-next-in-loop-pair
-bounds-out-next-in-loop-pair c =     omega (
+bounds-out-next-in-loop-pair c = omega (
       arith,
       length-set c.loop-pair.out c.loop-pair.next (c.args.block + c.loop-pair.from % c.args.size),
       c.loop-pair.invariant.0.place,
@@ -60,7 +60,7 @@ pub loop-pair-smaller : goal.loop-pair-smaller
 loop-pair-smaller c = omega arith
 
 pub loop-pair-preserved : goal.loop-pair-preserved
-loop-pair-preserved c =     let a = c.args in (
+loop-pair-preserved c = let a = c.args in (
       pair-on (λ (j : ℕ). a.block + place_in false a.size a.column j) a.out.now a.at (2 * a.pairs) c.loop-pair.pair
           c.loop-pair.invariant.0 (omega arith) (rw c.loop-pair.invariant.1)
           (ap (λ (k : ℕ). a.block + k % a.size) (omega (arith, c.loop-pair.invariant.1))),
@@ -71,5 +71,5 @@ pub shape_of-out : goal.shape_of-out
 shape_of-out c = c.loop-pair.invariant.0.size
 
 pub returns : goal.returns
-returns c =     let a = c.args in
+returns c = let a = c.args in
     ends (λ (j : ℕ). a.block + place_in false a.size a.column j) a.out.now a.at (2 * a.pairs) c.loop-pair.invariant.0 (omega arith)

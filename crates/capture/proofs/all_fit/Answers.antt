@@ -13,7 +13,7 @@ pub cycle_at-last-requires : goal.cycle_at-last-requires
 cycle_at-last-requires c = omega arith
 
 pub loop-i-init : goal.loop-i-init
-loop-i-init c =     begins c.args.limit c.args.bytes.now c.args.n (omega arith) c.pins_at.ensures c.cycle_at-last.ensures
+loop-i-init c = begins c.args.limit c.args.bytes.now c.args.n (omega arith) c.pins_at.ensures c.cycle_at-last.ensures
 
 pub cycle_at-t-requires : goal.cycle_at-t-requires
 cycle_at-t-requires c = omega arith
@@ -34,11 +34,11 @@ pub loop-i-smaller : goal.loop-i-smaller
 loop-i-smaller c = omega arith
 
 pub loop-i-preserved : goal.loop-i-preserved
-loop-i-preserved c =     goes_on c.args.limit c.args.bytes.now c.args.n c.loop-i.invariant (omega arith) c.cycle_at-t.ensures
+loop-i-preserved c = goes_on c.args.limit c.args.bytes.now c.args.n c.loop-i.invariant (omega arith) c.cycle_at-t.ensures
     c.pins_at-w.ensures c.both.ensures c.both-fine.ensures
 
 pub both-requires-2 : goal.both-requires-2
 both-requires-2 c = tt
 
 pub returns : goal.returns
-returns c =     ends c.args.limit c.args.bytes.now c.args.n c.loop-i.invariant (omega arith) c.both-2.ensures
+returns c = ends c.args.limit c.args.bytes.now c.args.n c.loop-i.invariant (omega arith) c.both-2.ensures

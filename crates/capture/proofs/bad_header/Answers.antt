@@ -8,11 +8,11 @@ returns-then-word_at-count c = rw (← c.settings_count-count.ensures.value, ←
 
 pub returns-then-word_at : goal.returns-then-word_at
 unfolding header_fits_to
-returns-then-word_at c =     rw (← c.settings_count-count.ensures.value, ← c.word_at.ensures, eq-eqb _ _ c.if-word_at-count.false, ← c.word_at-2.ensures, ne_eqb _ _ c.if-word_at.true)
+returns-then-word_at c = rw (← c.settings_count-count.ensures.value, ← c.word_at.ensures, eq-eqb _ _ c.if-word_at-count.false, ← c.word_at-2.ensures, ne_eqb _ _ c.if-word_at.true)
 
 pub returns-then-most-n : goal.returns-then-most-n
 unfolding header_fits_to
-returns-then-most-n c =     rw (
+returns-then-most-n c = rw (
       ← c.settings_count-count.ensures.value,
       ← c.word_at.ensures,
       eq-eqb _ _ c.if-word_at-count.false,
@@ -24,7 +24,7 @@ returns-then-most-n c =     rw (
 
 pub returns-then-word_at-start : goal.returns-then-word_at-start
 unfolding header_fits_to
-returns-then-word_at-start c =     rw (
+returns-then-word_at-start c = rw (
       ← c.settings_count-count.ensures.value,
       ← c.word_at.ensures,
       eq-eqb _ _ c.if-word_at-count.false,
@@ -38,7 +38,7 @@ returns-then-word_at-start c =     rw (
 
 pub returns-then-edition-gt-NEWEST_EDITION : goal.returns-then-edition-gt-NEWEST_EDITION
 unfolding header_fits_to
-returns-then-edition-gt-NEWEST_EDITION c =     rw (
+returns-then-edition-gt-NEWEST_EDITION c = rw (
       ← c.settings_count-count.ensures.value,
       ← c.word_at.ensures,
       eq-eqb _ _ c.if-word_at-count.false,
@@ -54,7 +54,7 @@ returns-then-edition-gt-NEWEST_EDITION c =     rw (
 
 pub returns : goal.returns
 unfolding header_fits_to
-returns c =     rw (
+returns c = rw (
       ← c.settings_count-count.ensures.value,
       ← c.word_at.ensures,
       eq-eqb _ _ c.if-word_at-count.false,

@@ -30,14 +30,14 @@ pub events-smaller : goal.events-smaller
 events-smaller c = omega arith
 
 pub events-preserved : goal.events-preserved
-events-preserved c =     goes_on c.events.invariant (omega arith) c.cycle_at-cycle.ensures c.pins_at-pins.ensures
+events-preserved c = goes_on c.events.invariant (omega arith) c.cycle_at-cycle.ensures c.pins_at-pins.ensures
     (sym c.event_fits.ensures ∙ c.if-event_fits.true)
 
 pub overflow_cast-result : goal.overflow_cast-result
 overflow_cast-result c = omega arith
 
 pub returns-in-events : goal.returns-in-events
-returns-in-events c =     stops c.events.invariant (omega arith) c.cycle_at-cycle.ensures c.pins_at-pins.ensures
+returns-in-events c = stops c.events.invariant (omega arith) c.cycle_at-cycle.ensures c.pins_at-pins.ensures
     (sym c.event_fits.ensures ∙ c.if-event_fits.false)
 
 pub returns : goal.returns

@@ -6,11 +6,11 @@ use Rattle.cells.proofs.Room.{sixteen-each, enough}
 use Rattle.cells.proofs.lacking.Goals as goal
 
 pub returns-then-n-room : goal.returns-then-n-room
-returns-then-n-room c =     let a = c.args in
+returns-then-n-room c = let a = c.args in
     enough a.s.now a.bytes.now a.n c.requires.listable c.requires.clean (omega (arith, c.if-n-room.true))
 
 pub overflow_add-cells : goal.overflow_add-cells
-overflow_add-cells c =     let kept = c.kept_beats-kept.ensures in
+overflow_add-cells c = let kept = c.kept_beats-kept.ensures in
     let a = c.args in
     omega (
       arith,
@@ -20,7 +20,7 @@ overflow_add-cells c =     let kept = c.kept_beats-kept.ensures in
     )
 
 pub returns-then-room-cells : goal.returns-then-room-cells
-returns-then-room-cells c =     let kept = c.kept_beats-kept in
+returns-then-room-cells c = let kept = c.kept_beats-kept in
     let a = c.args in
     rw (
       ← all-beats a.s.now a.bytes.now a.n kept.ensures.read_value kept.ensures.written_value,
@@ -28,7 +28,7 @@ returns-then-room-cells c =     let kept = c.kept_beats-kept in
     )
 
 pub returns : goal.returns
-returns c =     let kept = c.kept_beats-kept in
+returns c = let kept = c.kept_beats-kept in
     let a = c.args in
     rw (
       ← all-beats a.s.now a.bytes.now a.n kept.ensures.read_value kept.ensures.written_value,

@@ -11,7 +11,7 @@ pub pins_at-w-requires : goal.pins_at-w-requires
 pins_at-w-requires c = omega (arith, c.requires.listable.0.fit.long)
 
 pub interrupted-requires : goal.interrupted-requires
-interrupted-requires c =     let a = c.args in
+interrupted-requires c = let a = c.args in
     let later = events_from a.bytes.now a.n (a.i + 1) in let p = (
       (fitting a.s.now a.bytes.now a.n c.requires.listable.0, c.requires.listable.1),
       early-keeps (settings_of a.s.now) a.mode (event_at a.bytes.now a.i) later c.pins_at-w.ensures c.interruptible.ensures
@@ -20,16 +20,16 @@ interrupted-requires c =     let a = c.args in
     record { fit = p.0; bound = p.1 }
 
 pub returns-then-interruptible : goal.returns-then-interruptible
-returns-then-interruptible c =     let a = c.args in
+returns-then-interruptible c = let a = c.args in
     let later = events_from a.bytes.now a.n (a.i + 1) in
     kept-early (settings_of a.s.now) a.mode (event_at a.bytes.now a.i) later c.pins_at-w.ensures c.interruptible.ensures
     c.if-interruptible.true c.interrupted.ensures
 
 pub kept-requires : goal.kept-requires
-kept-requires c =     (fitting c.args.s.now c.args.bytes.now c.args.n c.requires.listable.0, c.requires.listable.1)
+kept-requires c = (fitting c.args.s.now c.args.bytes.now c.args.n c.requires.listable.0, c.requires.listable.1)
 
 pub returns : goal.returns
-returns c =     let a = c.args in
+returns c = let a = c.args in
     let later = events_from a.bytes.now a.n (a.i + 1) in
     kept-else (settings_of a.s.now) a.mode (event_at a.bytes.now a.i) later c.pins_at-w.ensures c.interruptible.ensures
     c.if-interruptible.false c.kept.ensures

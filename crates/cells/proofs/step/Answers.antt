@@ -14,20 +14,20 @@ pub pins_at-w-requires : goal.pins_at-w-requires
 pins_at-w-requires c = omega (arith, c.requires.listable.0.fit.long)
 
 pub returns-then-not-gives_burst : goal.returns-then-not-gives_burst
-returns-then-not-gives_burst c =     let a = c.args in
+returns-then-not-gives_burst c = let a = c.args in
     found_none (settings_of a.s.now) a.bytes.now a.n a.i a.firsts.now a.mode
-    c.pins_at-w.ensures c.gives_burst.ensures (not-true _ c.if-not-gives_burst.true)
+    c.pins_at-w.ensures c.gives_burst.ensures c.if-not-gives_burst.true
 
 pub column-column-requires : goal.column-column-requires
 column-column-requires c = c.requires.listable.0.sized
 
 pub kept-pairs-requires : goal.kept-pairs-requires
-kept-pairs-requires c =     (fitting c.args.s.now c.args.bytes.now c.args.n c.requires.listable.0, c.requires.listable.1)
+kept-pairs-requires c = (fitting c.args.s.now c.args.bytes.now c.args.n c.requires.listable.0, c.requires.listable.1)
 
 pub returns : goal.returns
-returns c =     let a = c.args in
+returns c = let a = c.args in
     let s = settings_of a.s.now in
     let later = events_from a.bytes.now a.n (a.i + 1) in
     found s a.bytes.now a.n a.i a.firsts.now a.mode c.pins_at-w.ensures c.gives_burst.ensures
-    (not-false _ c.if-not-gives_burst.false) c.code-writes.ensures c.bank-bank.ensures.0 refl c.column-column.ensures
+    c.if-not-gives_burst.false c.code-writes.ensures c.bank-bank.ensures.0 refl c.column-column.ensures
     (kept-old s a.mode (event_at a.bytes.now a.i) later c.requires.s_value c.kept-pairs.ensures)

@@ -14,7 +14,7 @@ pub bounds-s-3 : goal.bounds-s-3
 bounds-s-3 c = omega arith
 
 pub events-init : goal.events-init
-events-init c =     begins c.args.s.now c.args.bytes.now c.args.n c.args.out.now c.requires.listable c.requires.clean
+events-init c = begins c.args.s.now c.args.bytes.now c.args.n c.args.out.now c.requires.listable c.requires.clean
     c.first_cells-firsts.ensures
 
 pub step-event-requires : goal.step-event-requires
@@ -24,10 +24,10 @@ pub overflow_cast-i : goal.overflow_cast-i
 overflow_cast-i c = omega arith
 
 pub pins_at-w-requires : goal.pins_at-w-requires
-pins_at-w-requires c =     omega (arith, c.requires.listable.fit.long, c.events-test.true)
+pins_at-w-requires c = omega (arith, c.requires.listable.fit.long, c.events-test.true)
 
 pub pass-mode-requires : goal.pass-mode-requires
-pass-mode-requires c =     c.requires.listable.sized
+pass-mode-requires c = c.requires.listable.sized
 
 pub overflow_step-i : goal.overflow_step-i
 overflow_step-i c = omega arith
@@ -36,7 +36,7 @@ pub events-smaller-in_default : goal.events-smaller-in_default
 events-smaller-in_default c = omega arith
 
 pub events-preserved-in_default : goal.events-preserved-in_default
-events-preserved-in_default c =     let x = c.events in
+events-preserved-in_default c = let x = c.events in
     let none = told-other (settings_of c.args.s.now) c.args.bytes.now c.args.n x.i x.firsts x.mode
     c.step-event.ensures c.in_default.is in
     let pins = c.pins_at-w.ensures in
@@ -44,7 +44,7 @@ events-preserved-in_default c =     let x = c.events in
     pins (rw pins none) c.pass-mode.ensures.firsts_after c.pass-mode.ensures.value
 
 pub write_burst-requires : goal.write_burst-requires
-write_burst-requires c =     let a = c.args in
+write_burst-requires c = let a = c.args in
     let x = c.events in
     let is = told (settings_of a.s.now) a.bytes.now a.n x.i x.firsts x.mode c.step-event.ensures c.in-Burst.is in
     let taken = c.events-test.true in let p = (
@@ -60,7 +60,7 @@ pub overflow_mul-next : goal.overflow_mul-next
 overflow_mul-next c = omega arith
 
 pub overflow_add-next : goal.overflow_add-next
-overflow_add-next c =     let a = c.args in
+overflow_add-next c = let a = c.args in
     let x = c.events in
     let is = told (settings_of a.s.now) a.bytes.now a.n x.i x.firsts x.mode c.step-event.ensures c.in-Burst.is in
     let taken = c.events-test.true in
@@ -77,21 +77,21 @@ pub events-smaller : goal.events-smaller
 events-smaller c = omega arith
 
 pub events-preserved : goal.events-preserved
-events-preserved c =     let a = c.args in
+events-preserved c = let a = c.args in
     let x = c.events in
     let is = told (settings_of a.s.now) a.bytes.now a.n x.i x.firsts x.mode c.step-event.ensures c.in-Burst.is in
     goes_on a.s.now a.bytes.now a.n a.out.now x.invariant c.events-test.true
     refl is.kept refl is.row is.place is.burst c.write_burst.ensures
 
 pub overflow_cast-result : goal.overflow_cast-result
-overflow_cast-result c =     let x = c.events.invariant in
+overflow_cast-result c = let x = c.events.invariant in
     omega (arith, x.on.small, x.on.within, c.requires.listable.few)
 
 pub shape_of-out : goal.shape_of-out
-shape_of-out c =     let a = c.args in
+shape_of-out c = let a = c.args in
     size a.s.now a.bytes.now a.n a.out.now c.events.invariant
 
 pub returns : goal.returns
-returns c =     let a = c.args in
+returns c = let a = c.args in
     let x = c.events.invariant in
     record { value = counted a.s.now a.bytes.now a.n a.out.now x (omega arith); out_after = ends a.s.now a.bytes.now a.n a.out.now x (omega arith) }

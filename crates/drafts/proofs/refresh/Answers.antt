@@ -5,6 +5,6 @@ use Rattle.drafts.proofs.Commands.{refreshed}
 use Rattle.drafts.proofs.refresh.Goals as goal
 
 pub returns : goal.returns
-returns c =     let x = draft c.args.d.now c.args.k.now c.args.words.now in
+returns c = let x = draft c.args.d.now c.args.k.now c.args.words.now in
     refreshed x c.cycle_for-t.ensures c.note.ensures.k_after c.note.ensures.words_after (settings_of c.args.s.now)
     c.refresh.ensures refl c.refresh_after.ensures refl

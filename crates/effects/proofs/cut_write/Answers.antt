@@ -8,4 +8,4 @@ returns-then-o-b c = rw (eq-eqb _ _ c.if-o-b.true)
 
 pub returns : goal.returns
 unfolding cut_other cut_write
-returns c =     rw (c.least.ensures, c.data_after.ensures, ne_eqb _ _ c.if-o-b.false)
+returns c = rw (c.least.ensures, c.data_after.ensures, ne_eqb _ _ c.if-o-b.false)

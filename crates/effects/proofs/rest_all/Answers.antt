@@ -3,4 +3,4 @@ use Rattle.effects.proofs.rest_all.Goals as goal
 
 pub returns : goal.returns
 unfolding rest_all
-returns c =     rw (c.rest_after-4.ensures, c.rest_after-3.ensures, c.rest_after-2.ensures, c.rest_after.ensures)
+returns c = rw (c.rest_after-4.ensures, c.rest_after-3.ensures, c.rest_after-2.ensures, c.rest_after.ensures)

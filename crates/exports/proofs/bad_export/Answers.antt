@@ -12,4 +12,4 @@ pub lowest_standing-requires : goal.lowest_standing-requires
 lowest_standing-requires c = record { few = omega arith; there = omega arith }
 
 pub returns : goal.returns
-returns c =     c.lowest_standing.ensures ∙ sym (standing c.args.records.now c.if-records-ne0.false c.if-n-gt-MOST_RECORDS.false)
+returns c = c.lowest_standing.ensures ∙ sym (standing c.args.records.now c.if-records-ne0.false c.if-n-gt-MOST_RECORDS.false)

@@ -17,13 +17,13 @@ pub records-smaller : goal.records-smaller
 records-smaller c = omega arith
 
 pub records-preserved : goal.records-preserved
-records-preserved c =     goes_on c.records.invariant c.records-test.true (low _ _ c.record_pins.ensures c.if-record_pins-lt-PINS.true)
+records-preserved c = goes_on c.records.invariant c.records-test.true (low _ _ c.record_pins.ensures c.if-record_pins-lt-PINS.true)
 
 pub overflow_cast-result : goal.overflow_cast-result
 overflow_cast-result c = omega (arith, c.requires.few)
 
 pub returns-in-records : goal.returns-in-records
-returns-in-records c =     stops c.records.invariant c.records-test.true (high _ _ c.record_pins.ensures c.if-record_pins-lt-PINS.false)
+returns-in-records c = stops c.records.invariant c.records-test.true (high _ _ c.record_pins.ensures c.if-record_pins-lt-PINS.false)
 
 pub returns : goal.returns
 returns c = ends c.records.invariant c.records-test.false

@@ -9,7 +9,7 @@ pub stamp_at-stamp-requires : goal.stamp_at-stamp-requires
 stamp_at-stamp-requires c = omega (arith, c.requires.held.there)
 
 pub next_cycle-cycle-requires : goal.next_cycle-cycle-requires
-next_cycle-cycle-requires c =     omega (arith, c.records.invariant.early, c.requires.held.few)
+next_cycle-cycle-requires c = omega (arith, c.records.invariant.early, c.requires.held.few)
 
 pub overflow_mul-i : goal.overflow_mul-i
 overflow_mul-i c = omega (arith, c.requires.held.few)
@@ -18,10 +18,10 @@ pub overflow_add-i : goal.overflow_add-i
 overflow_add-i c = omega (arith, c.requires.held.few)
 
 pub record_pins-requires : goal.record_pins-requires
-record_pins-requires c =     omega (arith, c.requires.held.there)
+record_pins-requires c = omega (arith, c.requires.held.there)
 
 pub put_event-requires : goal.put_event-requires
-put_event-requires c =     omega (arith, c.records.invariant.long, c.requires.room)
+put_event-requires c = omega (arith, c.records.invariant.long, c.requires.room)
 
 pub overflow_step-i : goal.overflow_step-i
 overflow_step-i c = omega arith
@@ -30,7 +30,7 @@ pub records-smaller : goal.records-smaller
 records-smaller c = omega arith
 
 pub records-preserved : goal.records-preserved
-records-preserved c =     reads_on c.records.invariant c.records-test.true (omega arith) c.stamp_at-stamp.ensures c.next_cycle-cycle.ensures
+records-preserved c = reads_on c.records.invariant c.records-test.true (omega arith) c.stamp_at-stamp.ensures c.next_cycle-cycle.ensures
     c.record_pins.ensures c.put_event.ensures
 
 pub shape_of-out : goal.shape_of-out

@@ -43,10 +43,10 @@ overflow_add-here c =
     ))).1)
 
 pub pins_at-requires : goal.pins_at-requires
-pins_at-requires c =     omega (arith, c.requires.given.there)
+pins_at-requires c = omega (arith, c.requires.given.there)
 
 pub put_record-requires : goal.put_record-requires
-put_record-requires c =     let long : length c.put_nops.new.0 ≡ length c.events.out =
+put_record-requires c = let long : length c.put_nops.new.0 ≡ length c.events.out =
     ap length c.put_nops.ensures ∙ simp length-sets in
     omega (arith, ((let given = c.requires.given in
     let timed = c.cycle_at-t.ensures in
@@ -71,7 +71,7 @@ pub events-smaller : goal.events-smaller
 events-smaller c = omega arith
 
 pub events-preserved : goal.events-preserved
-events-preserved c =     stores-on c.events.invariant c.events-test.true c.requires.given c.cycle_at-t.ensures
+events-preserved c = stores-on c.events.invariant c.events-test.true c.requires.given c.cycle_at-t.ensures
     c.nops_between-k.ensures c.pins_at.ensures refl refl c.put_nops.ensures c.put_record.ensures
 
 pub shape_of-out : goal.shape_of-out

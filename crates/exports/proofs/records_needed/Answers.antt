@@ -12,10 +12,10 @@ pub nops_between-requires : goal.nops_between-requires
 nops_between-requires c = tt
 
 pub overflow_add-needed : goal.overflow_add-needed
-overflow_add-needed c =     omega (arith, c.events.invariant.small, c.requires.few, c.requires.early c.events.i c.events-test.true)
+overflow_add-needed c = omega (arith, c.events.invariant.small, c.requires.few, c.requires.early c.events.i c.events-test.true)
 
 pub overflow_add-needed-in-events : goal.overflow_add-needed-in-events
-overflow_add-needed-in-events c =     omega (arith, c.events.invariant.small, c.requires.few, c.requires.early c.events.i c.events-test.true)
+overflow_add-needed-in-events c = omega (arith, c.events.invariant.small, c.requires.few, c.requires.early c.events.i c.events-test.true)
 
 pub overflow_step-i : goal.overflow_step-i
 overflow_step-i c = omega arith
@@ -24,7 +24,7 @@ pub events-smaller : goal.events-smaller
 events-smaller c = omega arith
 
 pub events-preserved : goal.events-preserved
-events-preserved c =     counts-on c.events.invariant c.events-test.true c.requires c.cycle_at-t.ensures
+events-preserved c = counts-on c.events.invariant c.events-test.true c.requires c.cycle_at-t.ensures
     c.nops_between.ensures refl
 
 pub returns : goal.returns

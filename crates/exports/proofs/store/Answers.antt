@@ -10,14 +10,14 @@ pub overflow_cast-size-2 : goal.overflow_cast-size-2
 overflow_cast-size-2 c = omega (arith, c.requires.records_le_most_records)
 
 pub returns-then-out-size : goal.returns-then-out-size
-returns-then-out-size c =     let a = c.args in
+returns-then-out-size c = let a = c.args in
     let p = too_short (events_in a.bytes.now a.n) a.records a.out.now c.if-out-size.true in
     record { value = p.0; out_after = p.1 }
 
 pub put_export-requires : goal.put_export-requires
-put_export-requires c =     record { given = c.requires.given; room = omega (arith, c.requires.records_value) }
+put_export-requires c = record { given = c.requires.given; room = omega (arith, c.requires.records_value) }
 
 pub returns : goal.returns
-returns c =     let a = c.args in
+returns c = let a = c.args in
     let p = wrote (events_in a.bytes.now a.n) a.records a.out.now c.if-out-size.false c.put_export.ensures in
     record { value = p.0; out_after = p.1 }

@@ -9,7 +9,7 @@ pub cycle_at-requires : goal.cycle_at-requires
 cycle_at-requires c = omega (arith, c.requires.given.there)
 
 pub returns-then-cycle_at-gt-REACH : goal.returns-then-cycle_at-gt-REACH
-returns-then-cycle_at-gt-REACH c =     first-far c.args.bytes.now c.args.n (omega arith) c.cycle_at.ensures c.if-cycle_at-gt-REACH.true
+returns-then-cycle_at-gt-REACH c = first-far c.args.bytes.now c.args.n (omega arith) c.cycle_at.ensures c.if-cycle_at-gt-REACH.true
 
 pub returns : goal.returns
-returns c =     counted-far c.args.bytes.now c.args.n (omega arith) c.cycle_at.ensures c.if-cycle_at-gt-REACH.false c.requires.records_value
+returns c = counted-far c.args.bytes.now c.args.n (omega arith) c.cycle_at.ensures c.if-cycle_at-gt-REACH.false c.requires.records_value

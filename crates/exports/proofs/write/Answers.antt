@@ -4,7 +4,7 @@ use Rattle.exports.proofs.Outgoing.{refused-so, long, sleeps, counted, too_far_l
 use Rattle.exports.proofs.write.Goals as goal
 
 pub returns-in-Refused : goal.returns-in-Refused
-returns-in-Refused c =     let a = c.args in
+returns-in-Refused c = let a = c.args in
     let p = refused-so a.capture.now a.out.now c.open-checked.ensures c.in-Refused.is in
     record { result_value = p.0; out_after = p.1 }
 
@@ -14,7 +14,7 @@ events_start-requires c =
     long a.capture.now a.out.now c.open-checked.ensures c.in_default.is))
 
 pub returns-then-events_start-gt-EVENTS : goal.returns-then-events_start-gt-EVENTS
-returns-then-events_start-gt-EVENTS c =     let a = c.args in
+returns-then-events_start-gt-EVENTS c = let a = c.args in
     let p = sleeps a.capture.now a.out.now c.open-checked.ensures c.in_default.is c.events_start.ensures.value c.if-events_start-gt-EVENTS.true in
     record { result_value = p.0; out_after = p.1 }
 
@@ -29,7 +29,7 @@ event_bytes-bytes-requires c =
     long a.capture.now a.out.now c.open-checked.ensures c.in_default.is)
 
 pub records_needed-records-requires : goal.records_needed-records-requires
-records_needed-records-requires c =     let a = c.args in
+records_needed-records-requires c = let a = c.args in
     counted a.capture.now a.out.now c.open-checked.ensures c.in_default.is c.events_start.ensures.value c.if-events_start-gt-EVENTS.false
     c.event_count-n.ensures c.event_bytes-bytes.ensures
 
@@ -43,7 +43,7 @@ too_far-requires c =
     record { given = p.0; records_value = p.1 }
 
 pub returns-then-too_far : goal.returns-then-too_far
-returns-then-too_far c =     let a = c.args in
+returns-then-too_far c = let a = c.args in
     let p = too_far_lem a.capture.now a.out.now c.open-checked.ensures c.in_default.is c.events_start.ensures.value c.if-events_start-gt-EVENTS.false
     c.event_count-n.ensures c.event_bytes-bytes.ensures c.too_far.ensures c.if-too_far.true in
     record { result_value = p.0; out_after = p.1 }
@@ -59,7 +59,7 @@ store-requires c =
       ); records_le_most_records =  }
 
 pub returns : goal.returns
-returns c =     let a = c.args in
+returns c = let a = c.args in
     let p = ends a.capture.now a.out.now c.open-checked.ensures c.in_default.is c.events_start.ensures.value c.if-events_start-gt-EVENTS.false
     c.event_count-n.ensures c.event_bytes-bytes.ensures c.too_far.ensures c.if-too_far.false c.records_needed-records.ensures
     c.store.ensures.value c.store.ensures.out_after in

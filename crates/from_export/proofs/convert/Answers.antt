@@ -13,13 +13,13 @@ held_bytes : (c : tie.After-read) {bytes : ℕ} → c.read.result ≡ Written by
 held_bytes c e = read-within _ _ _ _ (sym (ap means e) ∙ c.read.ensures.0) c.read.ensures.1
 
 pub settings_in-held-requires : goal.settings_in-held-requires
-settings_in-held-requires c =     omega (arith, (count-range c.args.front.now).1, c.requires)
+settings_in-held-requires c = omega (arith, (count-range c.args.front.now).1, c.requires)
 
 pub slice_bounds-read-end : goal.slice_bounds-read-end
 slice_bounds-read-end c = simp length-take (omega arith)
 
 pub slice_bounds-room-end : goal.slice_bounds-room-end
-slice_bounds-room-end c =     held_bytes c c.in-Written.is
+slice_bounds-room-end c = held_bytes c c.in-Written.is
 
 pub slice_bounds-write-end : goal.slice_bounds-write-end
-slice_bounds-write-end c =     simp length-take (omega (arith, held_bytes c c.in-Written.is))
+slice_bounds-write-end c = simp length-take (omega (arith, held_bytes c c.in-Written.is))

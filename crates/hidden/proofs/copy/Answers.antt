@@ -19,7 +19,7 @@ pub loop-i-smaller : goal.loop-i-smaller
 loop-i-smaller c = omega arith
 
 pub loop-i-preserved : goal.loop-i-preserved
-loop-i-preserved c =     copies-on c.loop-i.invariant c.requires.0 c.loop-i-test.true
+loop-i-preserved c = copies-on c.loop-i.invariant c.requires.0 c.loop-i-test.true
 
 pub shape_of-out : goal.shape_of-out
 shape_of-out c = c.loop-i.invariant.long

@@ -22,7 +22,7 @@ pub events-smaller : goal.events-smaller
 events-smaller c = omega arith
 
 pub events-preserved : goal.events-preserved
-events-preserved c =     kept_on c.args.s.now c.args.bytes.now c.args.n c.requires.fit c.events.invariant c.events-test.true
+events-preserved c = kept_on c.args.s.now c.args.bytes.now c.args.n c.requires.fit c.events.invariant c.events-test.true
     c.cycle_at-cycle.ensures c.pins_at-pins.ensures
     c.step-answer.result c.step-answer.ensures.result_value c.step-answer.ensures.d_after c.step-answer.ensures.pace_after c.in_default.is
 

@@ -6,7 +6,7 @@ use Rattle.morgazell.proofs.Saying.{count_fits, count-packed}
 use Rattle.morgazell.proofs.morgazell_play.Goals as goal
 
 pub pack-requires : goal.pack-requires
-pack-requires c =     let a = c.args in (
+pack-requires c = let a = c.args in (
       (count_fits means c.play-played.ensures.result_value c.in-Refused.is
           (play-fits a.capture.now a.first a.window.now a.writes.now a.reads.now)).0.1,
       omega arith,

@@ -6,7 +6,7 @@ use Rattle.morgazell.proofs.Saying.{count_fits, count-packed}
 use Rattle.morgazell.proofs.morgazell_read_export.Goals as goal
 
 pub pack-requires : goal.pack-requires
-pack-requires c =     let a = c.args in (
+pack-requires c = let a = c.args in (
       (count_fits means c.read-converted.ensures.result_value c.in-Refused.is
           (read_fits a.records.now a.settings.now a.edition a.out.now)).0.1,
       omega arith,

@@ -6,7 +6,7 @@ use Rattle.morgazell.proofs.Saying.{count_fits, count-packed}
 use Rattle.morgazell.proofs.morgazell_schedule.Goals as goal
 
 pub pack-requires : goal.pack-requires
-pack-requires c =     let a = c.args in (
+pack-requires c = let a = c.args in (
       (count_fits means c.schedule-scheduled.ensures.result_value c.in-Refused.is
           (schedule-fits a.settings.now a.requests.now a.policy a.out.now)).0.1,
       omega arith,

@@ -6,7 +6,7 @@ use Rattle.morgazell.proofs.Saying.{count_fits, count-packed}
 use Rattle.morgazell.proofs.morgazell_write_export.Goals as goal
 
 pub pack-requires : goal.pack-requires
-pack-requires c =     (
+pack-requires c = (
       (count_fits means c.write-converted.ensures.result_value c.in-Refused.is
           (write-fits c.args.capture.now c.args.out.now)).0.1,
       omega arith,

@@ -8,12 +8,12 @@ returns-then-t-d c = let early = lt-ltb _ _ c.if-t-d.true in record { value = rw
 
 pub returns-then-d-eq0 : goal.returns-then-d-eq0
 unfolding low_breaks low_after
-returns-then-d-eq0 c =     let late = le-ltb _ _ c.if-t-d.false in
+returns-then-d-eq0 c = let late = le-ltb _ _ c.if-t-d.false in
     let asleep = eq-eqb _ _ c.if-d-eq0.true in
     record { value = rw (late, asleep); d_after = rw (late, asleep) }
 
 pub returns : goal.returns
 unfolding low_breaks low_after
-returns c =     let late = le-ltb _ _ c.if-t-d.false in
+returns c = let late = le-ltb _ _ c.if-t-d.false in
     let awake = ne_eqb _ _ c.if-d-eq0.false in
     record { value = rw (late, awake) c.enter.ensures.value; d_after = rw (late, awake) c.enter.ensures.d_after }

@@ -29,7 +29,7 @@ pub words-smaller : goal.words-smaller
 words-smaller c = omega arith
 
 pub words-preserved : goal.words-preserved
-words-preserved c =     length-set c.words.out c.words.i c.word_at.result ∙ c.words.invariant
+words-preserved c = length-set c.words.out c.words.i c.word_at.result ∙ c.words.invariant
 
 pub returns : goal.returns
 returns c = tt

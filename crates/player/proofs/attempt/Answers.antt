@@ -14,14 +14,14 @@ pub bounds-s-3 : goal.bounds-s-3
 bounds-s-3 c = omega arith
 
 pub events-init : goal.events-init
-events-init c =     let a = c.args in
+events-init c = let a = c.args in
     begins a.s.now a.bytes.now a.n a.first a.size a.supply c.requires.playable.listable c.requires.clean c.first_cells-firsts.ensures
 
 pub burst_at-event-requires : goal.burst_at-event-requires
 burst_at-event-requires c = record { listable = (c.requires.playable.listable, c.events-test.true); clean = c.requires.clean; at = c.events.invariant.at }
 
 pub passed-mode-requires : goal.passed-mode-requires
-passed-mode-requires c =     let z = c.requires.playable.listable in
+passed-mode-requires c = let z = c.requires.playable.listable in
     record { sized = (z.sized, omega (arith, z.fit.long, c.events-test.true)); at = c.events.invariant.at }
 
 pub overflow_step-i : goal.overflow_step-i
@@ -31,14 +31,14 @@ pub events-smaller-in_default : goal.events-smaller-in_default
 events-smaller-in_default c = omega arith
 
 pub events-preserved-in_default : goal.events-preserved-in_default
-events-preserved-in_default c =     let a = c.args in
+events-preserved-in_default c = let a = c.args in
     let x = c.events in
     passes a.s.now a.bytes.now a.n a.first a.size a.supply c.requires.playable.listable c.requires.clean x.invariant c.events-test.true
     (found_none a.s.now a.bytes.now a.n x.i c.burst_at-event.ensures c.in_default.is)
     (record { rowed = c.passed-mode.ensures.firsts_after; moded = c.passed-mode.ensures.value })
 
 pub holds_burst-requires : goal.holds_burst-requires
-holds_burst-requires c =     let a = c.args in
+holds_burst-requires c = let a = c.args in
     let x = c.events in
     let f = found a.s.now a.bytes.now a.n x.i c.burst_at-event.ensures c.in-Burst.is in
     let taken = c.events-test.true in
@@ -46,15 +46,15 @@ holds_burst-requires c =     let a = c.args in
     in_row a.s.now a.bytes.now a.n x.i z c.requires.clean taken f
 
 pub returns-then-not-holds_burst : goal.returns-then-not-holds_burst
-returns-then-not-holds_burst c =     let a = c.args in
+returns-then-not-holds_burst c = let a = c.args in
     let x = c.events in
     let f = found a.s.now a.bytes.now a.n x.i c.burst_at-event.ensures c.in-Burst.is in
     let taken = c.events-test.true in
     let z = c.requires.playable.listable in
-    outside a.s.now a.bytes.now a.n a.first a.size a.supply z c.requires.clean x.invariant taken f c.holds_burst.ensures (not-true _ c.if-not-holds_burst.true)
+    outside a.s.now a.bytes.now a.n a.first a.size a.supply z c.requires.clean x.invariant taken f c.holds_burst.ensures c.if-not-holds_burst.true
 
 pub overflow_mul-read : goal.overflow_mul-read
-overflow_mul-read c =     let a = c.args in
+overflow_mul-read c = let a = c.args in
     let x = c.events in
     let f = found a.s.now a.bytes.now a.n x.i c.burst_at-event.ensures c.in-Burst.is in
     let taken = c.events-test.true in
@@ -62,7 +62,7 @@ overflow_mul-read c =     let a = c.args in
     omega (arith, (in_row a.s.now a.bytes.now a.n x.i z c.requires.clean taken f).short)
 
 pub overflow_add-read : goal.overflow_add-read
-overflow_add-read c =     let a = c.args in
+overflow_add-read c = let a = c.args in
     let x = c.events in
     let f = found a.s.now a.bytes.now a.n x.i c.burst_at-event.ensures c.in-Burst.is in
     let taken = c.events-test.true in
@@ -76,25 +76,25 @@ pub events-smaller-then-not-writes : goal.events-smaller-then-not-writes
 events-smaller-then-not-writes c = omega arith
 
 pub events-preserved-then-not-writes : goal.events-preserved-then-not-writes
-events-preserved-then-not-writes c =     let a = c.args in
+events-preserved-then-not-writes c = let a = c.args in
     let x = c.events in
     let f = found a.s.now a.bytes.now a.n x.i c.burst_at-event.ensures c.in-Burst.is in
     let taken = c.events-test.true in
     let z = c.requires.playable.listable in
     reads_on a.s.now a.bytes.now a.n a.first a.size a.supply z c.requires.clean x.invariant taken f c.holds_burst.ensures
-    (not-false _ c.if-not-holds_burst.false) (not-true _ c.if-not-writes.true) refl
+    c.if-not-holds_burst.false c.if-not-writes.true refl
 
 pub overflow_cast-length : goal.overflow_cast-length
 overflow_cast-length c = omega arith
 
 pub returns-then-left-length : goal.returns-then-left-length
-returns-then-left-length c =     let a = c.args in
+returns-then-left-length c = let a = c.args in
     let x = c.events in
     let f = found a.s.now a.bytes.now a.n x.i c.burst_at-event.ensures c.in-Burst.is in
     let taken = c.events-test.true in
     let z = c.requires.playable.listable in
     lacks a.s.now a.bytes.now a.n a.first a.size a.supply z c.requires.clean x.invariant taken f c.holds_burst.ensures
-    (not-false _ c.if-not-writes.false) c.burst_length-length.ensures (not-false _ c.if-not-holds_burst.false)
+    c.if-not-writes.false c.burst_length-length.ensures c.if-not-holds_burst.false
     c.if-left-length.true
 
 pub overflow_step-i-in-events : goal.overflow_step-i-in-events
@@ -104,15 +104,15 @@ pub events-smaller : goal.events-smaller
 events-smaller c = omega arith
 
 pub events-preserved : goal.events-preserved
-events-preserved c =     let a = c.args in
+events-preserved c = let a = c.args in
     let x = c.events in
     let f = found a.s.now a.bytes.now a.n x.i c.burst_at-event.ensures c.in-Burst.is in
     let taken = c.events-test.true in
     let z = c.requires.playable.listable in
     takes-on a.s.now a.bytes.now a.n a.first a.size a.supply z c.requires.clean x.invariant taken f c.holds_burst.ensures
-    (not-false _ c.if-not-writes.false) c.burst_length-length.ensures (not-false _ c.if-not-holds_burst.false)
+    c.if-not-writes.false c.burst_length-length.ensures c.if-not-holds_burst.false
     (omega (arith, c.if-left-length.false))
 
 pub returns : goal.returns
-returns c =     let a = c.args in
+returns c = let a = c.args in
     ends a.s.now a.bytes.now a.n a.first a.size a.supply c.events.invariant (omega (arith, c.events-test.false))

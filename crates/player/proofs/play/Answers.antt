@@ -7,25 +7,25 @@ use Rattle.player.proofs.Calling.{clean-so, refused-play, opened-playable, opene
 use Rattle.player.proofs.play.Goals as goal
 
 pub returns-in-Refused : goal.returns-in-Refused
-returns-in-Refused c =     let a = c.args in
+returns-in-Refused c = let a = c.args in
     let p = refused-play a.capture.now a.first a.window.now a.writes.now a.reads.now c.unclean-checked.result
     (c.unclean-checked.ensures ∙ ap clean_by c.judge.ensures) c.in-Refused.is in
     record { result_value = p.0; window_after = p.1.0; reads_after = p.1.1 }
 
 pub settings_in-settings-requires : goal.settings_in-settings-requires
-settings_in-settings-requires c = long most_events (c.args.capture.now) ((clean-so (c.args.capture.now) c.unclean-checked.result (c.unclean-checked.ensures ∙ ap clean_by c.judge.ensures) c.in_default.is)).0
+settings_in-settings-requires c = long most_events c.args.capture.now ((clean-so c.args.capture.now c.unclean-checked.result (c.unclean-checked.ensures ∙ ap clean_by c.judge.ensures) c.in_default.is)).0
 
 pub event_count-n-requires : goal.event_count-n-requires
-event_count-n-requires c = omega (arith, long most_events (c.args.capture.now) ((clean-so (c.args.capture.now) c.unclean-checked.result (c.unclean-checked.ensures ∙ ap clean_by c.judge.ensures) c.in_default.is)).0)
+event_count-n-requires c = omega (arith, long most_events c.args.capture.now ((clean-so c.args.capture.now c.unclean-checked.result (c.unclean-checked.ensures ∙ ap clean_by c.judge.ensures) c.in_default.is)).0)
 
 pub event_bytes-bytes-requires : goal.event_bytes-bytes-requires
-event_bytes-bytes-requires c = long most_events (c.args.capture.now) ((clean-so (c.args.capture.now) c.unclean-checked.result (c.unclean-checked.ensures ∙ ap clean_by c.judge.ensures) c.in_default.is)).0
+event_bytes-bytes-requires c = long most_events c.args.capture.now ((clean-so c.args.capture.now c.unclean-checked.result (c.unclean-checked.ensures ∙ ap clean_by c.judge.ensures) c.in_default.is)).0
 
 pub play_on-requires : goal.play_on-requires
-play_on-requires c =     let x = (opens ((clean-so (c.args.capture.now) c.unclean-checked.result (c.unclean-checked.ensures ∙ ap clean_by c.judge.ensures) c.in_default.is)).0 c.settings_in-settings.ensures c.event_count-n.ensures c.event_bytes-bytes.ensures) in
-    record { playable = opened-playable x; clean = opened-clean x ((clean-so (c.args.capture.now) c.unclean-checked.result (c.unclean-checked.ensures ∙ ap clean_by c.judge.ensures) c.in_default.is)).1 }
+play_on-requires c = let x = (opens ((clean-so c.args.capture.now c.unclean-checked.result (c.unclean-checked.ensures ∙ ap clean_by c.judge.ensures) c.in_default.is)).0 c.settings_in-settings.ensures c.event_count-n.ensures c.event_bytes-bytes.ensures) in
+    record { playable = opened-playable x; clean = opened-clean x ((clean-so c.args.capture.now c.unclean-checked.result (c.unclean-checked.ensures ∙ ap clean_by c.judge.ensures) c.in_default.is)).1 }
 
 pub returns : goal.returns
-returns c =     let a = c.args in
-    let p = played-so ((opens ((clean-so (c.args.capture.now) c.unclean-checked.result (c.unclean-checked.ensures ∙ ap clean_by c.judge.ensures) c.in_default.is)).0 c.settings_in-settings.ensures c.event_count-n.ensures c.event_bytes-bytes.ensures)) ((clean-so (c.args.capture.now) c.unclean-checked.result (c.unclean-checked.ensures ∙ ap clean_by c.judge.ensures) c.in_default.is)).1 a.first a.window.now a.writes.now a.reads.now c.play_on.ensures in
+returns c = let a = c.args in
+    let p = played-so ((opens ((clean-so c.args.capture.now c.unclean-checked.result (c.unclean-checked.ensures ∙ ap clean_by c.judge.ensures) c.in_default.is)).0 c.settings_in-settings.ensures c.event_count-n.ensures c.event_bytes-bytes.ensures)) ((clean-so c.args.capture.now c.unclean-checked.result (c.unclean-checked.ensures ∙ ap clean_by c.judge.ensures) c.in_default.is)).1 a.first a.window.now a.writes.now a.reads.now c.play_on.ensures in
     record { result_value = p.0; window_after = p.1.0; reads_after = p.1.1 }

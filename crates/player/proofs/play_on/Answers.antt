@@ -8,29 +8,29 @@ use Rattle.player.proofs.Calling.{unfit, unplayed, no_room, all-playable, read-s
 use Rattle.player.proofs.play_on.Goals as goal
 
 pub returns-then-not-window_fits : goal.returns-then-not-window_fits
-returns-then-not-window_fits c =     let a = c.args in
-    let p = unfit (settings_of a.s.now) (events_in a.bytes.now a.n) a.first a.window.now a.writes.now a.reads.now c.window_fits.ensures (not-true _ c.if-not-window_fits.true) in
+returns-then-not-window_fits c = let a = c.args in
+    let p = unfit (settings_of a.s.now) (events_in a.bytes.now a.n) a.first a.window.now a.writes.now a.reads.now c.window_fits.ensures c.if-not-window_fits.true in
     record { result_value = p.0; window_after = p.1.0; reads_after = p.1.1 }
 
 pub returns-in_default : goal.returns-in_default
-returns-in_default c =     let a = c.args in
+returns-in_default c = let a = c.args in
     let told = c.in_default.is in
     let ends = unplayed (settings_of a.s.now) (events_in a.bytes.now a.n) a.first a.window.now a.writes.now a.reads.now
-    c.window_fits.ensures (not-false _ c.if-not-window_fits.false) c.attempt-attempted.result c.attempt-attempted.ensures told in
+    c.window_fits.ensures c.if-not-window_fits.false c.attempt-attempted.result c.attempt-attempted.ensures told in
     let p = (ap means told ∙ ends.0, ends.1) in
     record { result_value = p.0; window_after = p.1.0; reads_after = p.1.1 }
 
 pub returns-then-reads-read : goal.returns-then-reads-read
-returns-then-reads-read c =     let a = c.args in
-    let fit = not-false _ c.if-not-window_fits.false in
+returns-then-reads-read c = let a = c.args in
+    let fit = c.if-not-window_fits.false in
     let p = no_room (settings_of a.s.now) (events_in a.bytes.now a.n) a.first a.window.now a.writes.now a.reads.now
     c.window_fits.ensures fit c.attempt-attempted.result c.attempt-attempted.ensures
     c.in-Words.is c.if-reads-read.true in
     record { result_value = p.0; window_after = p.1.0; reads_after = p.1.1 }
 
 pub run-requires : goal.run-requires
-run-requires c =     let a = c.args in
-    let fit = not-false _ c.if-not-window_fits.false in
+run-requires c = let a = c.args in
+    let fit = c.if-not-window_fits.false in
     let p = c.requires in let p = (
       p.playable,
       (
@@ -52,8 +52,8 @@ run-requires c =     let a = c.args in
     record { playable = p.0; clean = p.1.0; n_value = p.1.1.0; n_in_bounds = p.1.1.1 }
 
 pub returns : goal.returns
-returns c =     let a = c.args in
-    let fit = not-false _ c.if-not-window_fits.false in
+returns c = let a = c.args in
+    let fit = c.if-not-window_fits.false in
     let ran = c.run.ensures in
     let p = played-ends (settings_of a.s.now) (events_in a.bytes.now a.n) a.first a.window.now a.writes.now a.reads.now
     c.window_fits.ensures fit c.attempt-attempted.result c.attempt-attempted.ensures

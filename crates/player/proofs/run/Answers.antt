@@ -17,7 +17,7 @@ pub bounds-s-3 : goal.bounds-s-3
 bounds-s-3 c = omega arith
 
 pub events-init : goal.events-init
-events-init c =     let a = c.args in
+events-init c = let a = c.args in
     begins a.s.now a.bytes.now a.n a.first a.window.now a.writes.now a.reads.now c.requires.playable.listable c.requires.clean
     c.first_cells-firsts.ensures c.requires.n_value c.requires.n_in_bounds
 
@@ -25,7 +25,7 @@ pub burst_at-event-requires : goal.burst_at-event-requires
 burst_at-event-requires c = record { listable = (c.requires.playable.listable, c.events-test.true); clean = c.requires.clean; at = c.events.invariant.at }
 
 pub passed-mode-requires : goal.passed-mode-requires
-passed-mode-requires c =     let z = c.requires.playable.listable in
+passed-mode-requires c = let z = c.requires.playable.listable in
     record { sized = (z.sized, omega (arith, z.fit.long, c.events-test.true)); at = c.events.invariant.at }
 
 pub overflow_step-i : goal.overflow_step-i
@@ -35,7 +35,7 @@ pub events-smaller-in_default : goal.events-smaller-in_default
 events-smaller-in_default c = omega arith
 
 pub events-preserved-in_default : goal.events-preserved-in_default
-events-preserved-in_default c =     let a = c.args in
+events-preserved-in_default c = let a = c.args in
     let x = c.events in
     passes a.s.now a.bytes.now a.n a.first a.window.now a.writes.now a.reads.now c.requires.playable.listable c.requires.clean x.invariant
     c.events-test.true
@@ -43,7 +43,7 @@ events-preserved-in_default c =     let a = c.args in
     (record { rowed = c.passed-mode.ensures.firsts_after; moded = c.passed-mode.ensures.value })
 
 pub store-requires : goal.store-requires
-store-requires c =     let a = c.args in
+store-requires c = let a = c.args in
     let x = c.events in
     let f = found a.s.now a.bytes.now a.n x.i c.burst_at-event.ensures c.in-Burst.is in
     let taken = c.events-test.true in
@@ -58,7 +58,7 @@ pub overflow_cast-taken : goal.overflow_cast-taken
 overflow_cast-taken c = omega arith
 
 pub overflow_add-taken : goal.overflow_add-taken
-overflow_add-taken c =     let a = c.args in
+overflow_add-taken c = let a = c.args in
     let x = c.events in
     let f = found a.s.now a.bytes.now a.n x.i c.burst_at-event.ensures c.in-Burst.is in
     let taken = c.events-test.true in
@@ -79,7 +79,7 @@ pub events-smaller-then-stores : goal.events-smaller-then-stores
 events-smaller-then-stores c = omega arith
 
 pub events-preserved-then-stores : goal.events-preserved-then-stores
-events-preserved-then-stores c =     let a = c.args in
+events-preserved-then-stores c = let a = c.args in
     let x = c.events in
     let f = found a.s.now a.bytes.now a.n x.i c.burst_at-event.ensures c.in-Burst.is in
     let taken = c.events-test.true in
@@ -88,7 +88,7 @@ events-preserved-then-stores c =     let a = c.args in
     c.requires.playable.coded c.if-stores.true c.burst_length.ensures c.store.ensures
 
 pub fetch-requires : goal.fetch-requires
-fetch-requires c =     let a = c.args in
+fetch-requires c = let a = c.args in
     let x = c.events in
     let f = found a.s.now a.bytes.now a.n x.i c.burst_at-event.ensures c.in-Burst.is in
     let taken = c.events-test.true in
@@ -106,7 +106,7 @@ pub overflow_mul-next : goal.overflow_mul-next
 overflow_mul-next c = omega arith
 
 pub overflow_add-next : goal.overflow_add-next
-overflow_add-next c =     let a = c.args in
+overflow_add-next c = let a = c.args in
     let x = c.events in
     let f = found a.s.now a.bytes.now a.n x.i c.burst_at-event.ensures c.in-Burst.is in
     let taken = c.events-test.true in
@@ -127,7 +127,7 @@ pub events-smaller : goal.events-smaller
 events-smaller c = omega arith
 
 pub events-preserved : goal.events-preserved
-events-preserved c =     let a = c.args in
+events-preserved c = let a = c.args in
     let x = c.events in
     let f = found a.s.now a.bytes.now a.n x.i c.burst_at-event.ensures c.in-Burst.is in
     let taken = c.events-test.true in
@@ -136,11 +136,11 @@ events-preserved c =     let a = c.args in
     c.requires.playable.coded c.if-stores.false c.fetch.ensures
 
 pub shape_of-window : goal.shape_of-window
-shape_of-window c =     let a = c.args in as_wide a.s.now a.bytes.now a.n a.first a.window.now
+shape_of-window c = let a = c.args in as_wide a.s.now a.bytes.now a.n a.first a.window.now
     a.writes.now a.reads.now c.events.invariant
 
 pub shape_of-reads : goal.shape_of-reads
-shape_of-reads c =     let a = c.args in as_long a.s.now a.bytes.now a.n a.first a.window.now
+shape_of-reads c = let a = c.args in as_long a.s.now a.bytes.now a.n a.first a.window.now
     a.writes.now a.reads.now c.events.invariant
 
 pub returns : goal.returns

@@ -4,7 +4,7 @@ use Rattle.requests.proofs.Asking.{bank-low}
 use Rattle.requests.proofs.burst_pins.Goals as goal
 
 pub overflow_mul-result : goal.overflow_mul-result
-overflow_mul-result c =     omega (
+overflow_mul-result c = omega (
       arith,
       c.column_pins.ensures.upper_bound,
       c.burst_code-code.ensures.upper_bound,
@@ -13,7 +13,7 @@ overflow_mul-result c =     omega (
     )
 
 pub overflow_add-result : goal.overflow_add-result
-overflow_add-result c =     omega (
+overflow_add-result c = omega (
       arith,
       c.column_pins.ensures.upper_bound,
       c.burst_code-code.ensures.upper_bound,
@@ -22,7 +22,7 @@ overflow_add-result c =     omega (
     )
 
 pub overflow_add-result-2 : goal.overflow_add-result-2
-overflow_add-result-2 c =     omega (
+overflow_add-result-2 c = omega (
       arith,
       c.column_pins.ensures.upper_bound,
       c.burst_code-code.ensures.upper_bound,
@@ -31,7 +31,7 @@ overflow_add-result-2 c =     omega (
     )
 
 pub returns : goal.returns
-returns c =     rw (
+returns c = rw (
       c.column_pins.ensures.value,
       c.column.ensures.value,
       c.burst_code-code.ensures.value,

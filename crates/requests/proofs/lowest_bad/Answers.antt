@@ -15,11 +15,11 @@ pub all_fit-requires : goal.all_fit-requires
 all_fit-requires c = tt
 
 pub returns-then-all_fit : goal.returns-then-all_fit
-returns-then-all_fit c =     all_asked (settings_of c.args.s.now) c.args.requests.now c.requires c.if-n-gt2000.false c.cells-cells.ensures
+returns-then-all_fit c = all_asked (settings_of c.args.s.now) c.args.requests.now c.requires c.if-n-gt2000.false c.cells-cells.ensures
     (c.all_fit.ensures c.if-all_fit.true)
 
 pub requests-init : goal.requests-init
-requests-init c =     begins (settings_of c.args.s.now) c.args.requests.now c.if-n-gt2000.false
+requests-init c = begins (settings_of c.args.s.now) c.args.requests.now c.if-n-gt2000.false
 
 pub offset_bounds-requests-i : goal.offset_bounds-requests-i
 offset_bounds-requests-i c = omega arith
@@ -37,13 +37,13 @@ pub requests-smaller : goal.requests-smaller
 requests-smaller c = omega arith
 
 pub requests-preserved : goal.requests-preserved
-requests-preserved c =     goes_on c.requests.invariant (omega arith) c.requires c.cells-cells.ensures (sym ?c.before.fits2.ensures ∙ c.if-fits.true)
+requests-preserved c = goes_on c.requests.invariant (omega arith) c.requires c.cells-cells.ensures (sym ?c.before.fits2.ensures ∙ c.if-fits.true)
 
 pub overflow_cast-result : goal.overflow_cast-result
 overflow_cast-result c = omega arith
 
 pub returns-in-requests : goal.returns-in-requests
-returns-in-requests c =     stops c.requests.invariant (omega arith) c.requires c.cells-cells.ensures (sym ?c.before.fits2.ensures ∙ c.if-fits.false)
+returns-in-requests c = stops c.requests.invariant (omega arith) c.requires c.cells-cells.ensures (sym ?c.before.fits2.ensures ∙ c.if-fits.false)
 
 pub returns : goal.returns
 returns c = ends c.requests.invariant (omega arith)

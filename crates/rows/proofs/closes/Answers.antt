@@ -5,24 +5,24 @@ pub returns-then-shuts_bank : goal.returns-then-shuts_bank
 returns-then-shuts_bank c = rw (← c.shuts_bank.ensures, c.if-shuts_bank.true)
 
 pub returns-then-not-gives_burst : goal.returns-then-not-gives_burst
-returns-then-not-gives_burst c =     rw (← c.shuts_bank.ensures, c.if-shuts_bank.false, ← c.gives_burst.ensures, not-true c.gives_burst.result c.if-not-gives_burst.true)
+returns-then-not-gives_burst c = rw (← c.shuts_bank.ensures, c.if-shuts_bank.false, ← c.gives_burst.ensures, c.if-not-gives_burst.true)
 
 pub returns-then-bank : goal.returns-then-bank
-returns-then-bank c =     rw (
+returns-then-bank c = rw (
       ← c.shuts_bank.ensures,
       c.if-shuts_bank.false,
       ← c.gives_burst.ensures,
-      not-false c.gives_burst.result c.if-not-gives_burst.false,
+      c.if-not-gives_burst.false,
       ← c.bank.ensures.0,
       ne_eqb _ _ c.if-bank.true,
     )
 
 pub returns : goal.returns
-returns c =     rw (
+returns c = rw (
       ← c.shuts_bank.ensures,
       c.if-shuts_bank.false,
       ← c.gives_burst.ensures,
-      not-false c.gives_burst.result c.if-not-gives_burst.false,
+      c.if-not-gives_burst.false,
       ← c.bank.ensures.0,
       eq-eqb _ _ c.if-bank.false,
       ← c.ten.ensures,

@@ -9,4 +9,4 @@ pub overflow_add-counts : goal.overflow_add-counts
 overflow_add-counts c = omega (arith, c.requires c.bank-bank.result)
 
 pub returns : goal.returns
-returns c =     rw (← c.code.ensures, eq-eqb _ 12 c.if-code-ne-ACTIVE.false, ← c.bank-bank.ensures.0)
+returns c = rw (← c.code.ensures, eq-eqb _ 12 c.if-code-ne-ACTIVE.false, ← c.bank-bank.ensures.0)

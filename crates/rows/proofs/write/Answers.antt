@@ -27,5 +27,5 @@ write_bank-requires c =
     record { capture_in_bounds = p.0; n_in_bounds = p.1 }
 
 pub returns : goal.returns
-returns c =     (all-four c.args.index.now (events_up_to c.args.capture.now c.args.n) c.requires.n_in_bounds
+returns c = (all-four c.args.index.now (events_up_to c.args.capture.now c.args.n) c.requires.n_in_bounds
     c.write_bank-first.ensures c.write_bank-second.ensures c.write_bank-third.ensures c.write_bank.ensures).1

@@ -8,7 +8,7 @@ pub bounds-index-next-2 : goal.bounds-index-next-2
 bounds-index-next-2 c = omega (arith, length-set c.args.index.now c.args.next c.args.row, c.requires)
 
 pub bounds-index-next-3 : goal.bounds-index-next-3
-bounds-index-next-3 c =     let a = c.args in
+bounds-index-next-3 c = let a = c.args in
     let first = set a.index.now a.next a.row in
     omega (arith, length-set first (a.next + 1) a.first, length-set a.index.now a.next a.row, c.requires)
 

@@ -18,7 +18,7 @@ returns-then-d-b-ne0 c = rw (← c.rows.ensures, lt-ltb _ _ c.if-rows-row.false,
 
 pub returns-then-t-d : goal.returns-then-t-d
 unfolding active_breaks unmet
-returns-then-t-d c =     rw (
+returns-then-t-d c = rw (
       ← c.rows.ensures,
       lt-ltb _ _ c.if-rows-row.false,
       eq-eqb _ _ c.if-d-b-ne0.false,
@@ -27,7 +27,7 @@ returns-then-t-d c =     rw (
 
 pub returns-then-t-d-2 : goal.returns-then-t-d-2
 unfolding active_breaks unmet
-returns-then-t-d-2 c =     rw (
+returns-then-t-d-2 c = rw (
       ← c.rows.ensures,
       lt-ltb _ _ c.if-rows-row.false,
       eq-eqb _ _ c.if-d-b-ne0.false,
@@ -37,7 +37,7 @@ returns-then-t-d-2 c =     rw (
 
 pub returns-then-apart-ne0 : goal.returns-then-apart-ne0
 unfolding active_breaks unmet
-returns-then-apart-ne0 c =     let a = c.args in
+returns-then-apart-ne0 c = let a = c.args in
     let apart = other_bank a.d.now a.b in
     let told = told-broken (every_bank (λ i. leb (apart i) a.t)) 7 c.others_apart-apart.ensures c.if-apart-ne0.true in
     rw (
@@ -51,7 +51,7 @@ returns-then-apart-ne0 c =     let a = c.args in
 
 pub returns : goal.returns
 unfolding active_breaks unmet
-returns c =     let a = c.args in
+returns c = let a = c.args in
     let apart = other_bank a.d.now a.b in
     let kept = told-kept (every_bank (λ i. leb (apart i) a.t)) 6 c.others_apart-apart.ensures c.if-apart-ne0.false in
     rw (

@@ -45,10 +45,10 @@ pub banks-smaller : goal.banks-smaller
 banks-smaller c = omega arith
 
 pub banks-preserved : goal.banks-preserved
-banks-preserved c =     one_more c.banks.invariant (rw (sym c.past.ensures ∙ c.if-past.true))
+banks-preserved c = one_more c.banks.invariant (rw (sym c.past.ensures ∙ c.if-past.true))
 
 pub returns-in-banks : goal.returns-in-banks
-returns-in-banks c =     left c.banks.invariant (omega arith)
+returns-in-banks c = left c.banks.invariant (omega arith)
     (rw (sym c.past.ensures ∙ c.if-past.false, ne_eqb _ _ c.if-d-i-eq0.false)) _ _
 
 pub returns : goal.returns

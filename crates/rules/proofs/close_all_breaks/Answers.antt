@@ -9,13 +9,13 @@ returns-then-t-d c = rw (lt-leb _ _ c.if-t-d.true)
 
 pub returns-then-held-ne0 : goal.returns-then-held-ne0
 unfolding close_all_breaks
-returns-then-held-ne0 c =     let a = c.args in
+returns-then-held-ne0 c = let a = c.args in
     let told = told-broken (all_held a.d.now a.t) 9 c.all_held-held.ensures c.if-held-ne0.true in
     rw (le-leb _ _ c.if-t-d.false, told.fails) told.named
 
 pub returns-then-written-ne0 : goal.returns-then-written-ne0
 unfolding close_all_breaks
-returns-then-written-ne0 c =     let a = c.args in
+returns-then-written-ne0 c = let a = c.args in
     let d = c.args.d.now in
     let told = told-broken (all_written d a.t) 10 c.all_written-written.ensures c.if-written-ne0.true in
     rw (
@@ -27,7 +27,7 @@ returns-then-written-ne0 c =     let a = c.args in
 
 pub returns : goal.returns
 unfolding close_all_breaks
-returns c =     let a = c.args in
+returns c = let a = c.args in
     let d = c.args.d.now in
     rw (
       le-leb _ _ c.if-t-d.false,

@@ -9,7 +9,7 @@ returns-then-t-d c = rw (lt-leb _ _ c.if-t-d.true)
 
 pub returns-then-d-b-eq0 : goal.returns-then-d-b-eq0
 unfolding close_breaks
-returns-then-d-b-eq0 c =     rw (
+returns-then-d-b-eq0 c = rw (
       le-leb _ _ c.if-t-d.false,
       eq-eqb _ _ c.if-d-b-eq0.true,
       or-true _,
@@ -19,7 +19,7 @@ returns-then-d-b-eq0 c =     rw (
 
 pub returns-then-t-d-2 : goal.returns-then-t-d-2
 unfolding close_breaks
-returns-then-t-d-2 c =     rw (
+returns-then-t-d-2 c = rw (
       le-leb _ _ c.if-t-d.false,
       ne_eqb _ _ c.if-d-b-eq0.false,
       lt-leb _ _ c.if-t-d-2.true,
@@ -27,7 +27,7 @@ returns-then-t-d-2 c =     rw (
 
 pub returns-then-t-d-3 : goal.returns-then-t-d-3
 unfolding close_breaks
-returns-then-t-d-3 c =     rw (
+returns-then-t-d-3 c = rw (
       le-leb _ _ c.if-t-d.false,
       ne_eqb _ _ c.if-d-b-eq0.false,
       le-leb _ _ c.if-t-d-2.false,
@@ -36,7 +36,7 @@ returns-then-t-d-3 c =     rw (
 
 pub returns : goal.returns
 unfolding close_breaks
-returns c =     rw (
+returns c = rw (
       le-leb _ _ c.if-t-d.false,
       ne_eqb _ _ c.if-d-b-eq0.false,
       le-leb _ _ c.if-t-d-2.false,

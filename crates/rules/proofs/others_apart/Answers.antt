@@ -39,7 +39,7 @@ pub banks-preserved : goal.banks-preserved
 banks-preserved c = one_more c.banks.invariant (simp unasked (rw (eq-eqb _ _ c.if-i-b.true)))
 
 pub returns-in-banks : goal.returns-in-banks
-returns-in-banks c =     left c.banks.invariant (omega arith)
+returns-in-banks c = left c.banks.invariant (omega arith)
     (simp unasked (rw (ne_eqb _ _ c.if-i-b.false, sym c.past.ensures ∙ c.if-past.false))) _ _
 
 pub returns : goal.returns

@@ -9,16 +9,16 @@ returns-then-rule-ne0 c = rw (← c.refresh_breaks-rule.ensures, ne_eqb _ _ c.if
 
 pub returns-then-not-taken : goal.returns-then-not-taken
 unfolding self_breaks
-returns-then-not-taken c =     rw (
+returns-then-not-taken c = rw (
       ← c.refresh_breaks-rule.ensures,
       eq-eqb _ _ c.if-rule-ne0.false,
-      sym c.taken.ensures ∙ not-true _ c.if-not-taken.true,
+      sym c.taken.ensures ∙ c.if-not-taken.true,
     )
 
 pub returns : goal.returns
 unfolding self_breaks
-returns c =     rw (
+returns c = rw (
       ← c.refresh_breaks-rule.ensures,
       eq-eqb _ _ c.if-rule-ne0.false,
-      sym c.taken.ensures ∙ not-false _ c.if-not-taken.false,
+      sym c.taken.ensures ∙ c.if-not-taken.false,
     )

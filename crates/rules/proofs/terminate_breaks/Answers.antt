@@ -13,17 +13,17 @@ returns-then-t-d-2 c = rw (le-leb _ _ c.if-t-d.false, lt-leb _ _ c.if-t-d-2.true
 
 pub returns-then-not-taken : goal.returns-then-not-taken
 unfolding terminate_breaks
-returns-then-not-taken c =     rw (
+returns-then-not-taken c = rw (
       le-leb _ _ c.if-t-d.false,
       le-leb _ _ c.if-t-d-2.false,
-      sym c.taken.ensures ∙ not-true _ c.if-not-taken.true,
+      sym c.taken.ensures ∙ c.if-not-taken.true,
     )
 
 pub returns : goal.returns
 unfolding terminate_breaks
-returns c =     rw (
+returns c = rw (
       le-leb _ _ c.if-t-d.false,
       le-leb _ _ c.if-t-d-2.false,
-      sym c.taken.ensures ∙ not-false _ c.if-not-taken.false,
+      sym c.taken.ensures ∙ c.if-not-taken.false,
       c.last_breaks.ensures,
     )

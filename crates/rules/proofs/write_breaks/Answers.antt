@@ -12,7 +12,7 @@ returns-then-t-d c = rw (ne_eqb _ _ c.if-d-b-eq0.false, lt-leb _ _ c.if-t-d.true
 
 pub returns-then-t-d-2 : goal.returns-then-t-d-2
 unfolding write_breaks unmet
-returns-then-t-d-2 c =     rw (
+returns-then-t-d-2 c = rw (
       ne_eqb _ _ c.if-d-b-eq0.false,
       le-leb _ _ c.if-t-d.false,
       lt-leb _ _ c.if-t-d-2.true,
@@ -20,7 +20,7 @@ returns-then-t-d-2 c =     rw (
 
 pub returns-then-t-d-3 : goal.returns-then-t-d-3
 unfolding write_breaks unmet
-returns-then-t-d-3 c =     rw (
+returns-then-t-d-3 c = rw (
       ne_eqb _ _ c.if-d-b-eq0.false,
       le-leb _ _ c.if-t-d.false,
       le-leb _ _ c.if-t-d-2.false,
@@ -29,7 +29,7 @@ returns-then-t-d-3 c =     rw (
 
 pub returns-then-t-d-4 : goal.returns-then-t-d-4
 unfolding write_breaks unmet
-returns-then-t-d-4 c =     rw (
+returns-then-t-d-4 c = rw (
       ne_eqb _ _ c.if-d-b-eq0.false,
       le-leb _ _ c.if-t-d.false,
       le-leb _ _ c.if-t-d-2.false,
@@ -39,7 +39,7 @@ returns-then-t-d-4 c =     rw (
 
 pub returns : goal.returns
 unfolding write_breaks unmet
-returns c =     rw (
+returns c = rw (
       ne_eqb _ _ c.if-d-b-eq0.false,
       le-leb _ _ c.if-t-d.false,
       le-leb _ _ c.if-t-d-2.false,

@@ -19,7 +19,7 @@ pub set_aside-requires : goal.set_aside-requires
 set_aside-requires c = tt
 
 pub tries-init : goal.tries-init
-tries-init c =     let a = c.args in
+tries-init c = let a = c.args in
     begins (settings_of a.s.now) a.closed a.q a.margin a.d.now a.k.now a.words.now c.requires.room refl
 
 pub attempt-requires : goal.attempt-requires
@@ -29,7 +29,7 @@ pub shape_of-words-then-attempt : goal.shape_of-words-then-attempt
 shape_of-words-then-attempt c = omega (arith, c.tries.invariant.size)
 
 pub returns-then-attempt : goal.returns-then-attempt
-returns-then-attempt c =     let aside = c.set_aside.ensures in
+returns-then-attempt c = let aside = c.set_aside.ensures in
     let a = c.args in
     let turn =
     in-time-now (settings_of a.s.now) a.closed a.q a.margin a.d.now a.k.now a.words.now c.requires.sure
@@ -41,7 +41,7 @@ pub shape_of-words-then-refreshed-eq1 : goal.shape_of-words-then-refreshed-eq1
 shape_of-words-then-refreshed-eq1 c = omega (arith, c.tries.invariant.size)
 
 pub returns-then-refreshed-eq1 : goal.returns-then-refreshed-eq1
-returns-then-refreshed-eq1 c =     let aside = c.set_aside.ensures in
+returns-then-refreshed-eq1 c = let aside = c.set_aside.ensures in
     let a = c.args in
     let turn =
     late-now (settings_of a.s.now) a.closed a.q a.margin a.d.now a.k.now a.words.now c.requires.sure
@@ -50,7 +50,7 @@ returns-then-refreshed-eq1 c =     let aside = c.set_aside.ensures in
     record { result_value = p.0; words_after = p.1.0; earlier_after = p.1.1.0; stood_after = p.1.1.1 }
 
 pub start_again-requires : goal.start_again-requires
-start_again-requires c =     let aside = c.set_aside.ensures in
+start_again-requires c = let aside = c.set_aside.ensures in
     let a = c.args in
     let room =
     room-behind (settings_of a.s.now) a.closed a.q a.margin a.d.now a.k.now a.words.now c.requires.sure
@@ -65,7 +65,7 @@ pub tries-smaller : goal.tries-smaller
 tries-smaller c = omega arith
 
 pub tries-preserved : goal.tries-preserved
-tries-preserved c =     let aside = c.set_aside.ensures in
+tries-preserved c = let aside = c.set_aside.ensures in
     let a = c.args in
     once_more (settings_of a.s.now) a.closed a.q a.margin a.d.now a.k.now a.words.now c.requires.sure
     c.attempt.ensures.words_after c.attempt.ensures.value c.tries.invariant c.if-refreshed-eq1.false c.if-attempt.false

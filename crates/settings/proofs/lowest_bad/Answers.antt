@@ -24,13 +24,13 @@ pub settings-smaller : goal.settings-smaller
 settings-smaller c = omega arith
 
 pub settings-preserved : goal.settings-preserved
-settings-preserved c =     goes_on c.settings.invariant (omega arith) (sym c.setting_fits.ensures ∙ c.if-setting_fits.true)
+settings-preserved c = goes_on c.settings.invariant (omega arith) (sym c.setting_fits.ensures ∙ c.if-setting_fits.true)
 
 pub overflow_cast-result : goal.overflow_cast-result
 overflow_cast-result c = omega arith
 
 pub returns-in-settings : goal.returns-in-settings
-returns-in-settings c =     stops c.settings.invariant (omega arith) (sym c.setting_fits.ensures ∙ c.if-setting_fits.false)
+returns-in-settings c = stops c.settings.invariant (omega arith) (sym c.setting_fits.ensures ∙ c.if-setting_fits.false)
 
 pub bounds-words-6 : goal.bounds-words-6
 bounds-words-6 c = omega arith
@@ -39,7 +39,7 @@ pub bounds-words-5 : goal.bounds-words-5
 bounds-words-5 c = omega arith
 
 pub overflow_add-words : goal.overflow_add-words
-overflow_add-words c =     let s = c.settings.invariant in
+overflow_add-words c = let s = c.settings.invariant in
     omega (arith, row-most s (omega arith) 5 (omega arith), row-most s (omega arith) 6 (omega arith))
 
 pub bounds-words-7 : goal.bounds-words-7

@@ -4,7 +4,7 @@ use Rattle.soonest.proofs.active.Goals as goal
 
 pub returns : goal.returns
 unfolding active_soonest soonest
-returns c =     rw (
+returns c = rw (
       c.latest-3.ensures,
       c.latest-2.ensures,
       c.latest-apart.ensures,

@@ -3,7 +3,7 @@ use Rattle.soonest.proofs.all_till.Goals as goal
 
 pub returns : goal.returns
 unfolding all_till
-returns c =     rw (
+returns c = rw (
       c.latest-3.ensures,
       c.latest-2.ensures,
       c.till-4.ensures,

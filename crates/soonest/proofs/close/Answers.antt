@@ -5,7 +5,7 @@ use Rattle.soonest.proofs.close.Goals as goal
 
 pub returns : goal.returns
 unfolding close_soonest soonest
-returns c =     rw (
+returns c = rw (
       c.latest-2.ensures,
       c.pick.ensures,
       c.latest-rules.ensures,

@@ -5,7 +5,7 @@ use Rattle.soonest.proofs.read.Goals as goal
 
 pub returns : goal.returns
 unfolding read_soonest soonest
-returns c =     rw (
+returns c = rw (
       c.latest-3.ensures,
       c.latest-rules.ensures,
       c.latest-2.ensures,

@@ -4,7 +4,7 @@ use Rattle.soonest.proofs.refresh.Goals as goal
 
 pub returns : goal.returns
 unfolding refresh_soonest soonest
-returns c =     rw (
+returns c = rw (
       c.latest-4.ensures,
       c.latest-3.ensures,
       c.latest-2.ensures,

@@ -13,7 +13,7 @@ held_bytes c e =
     write-within c.before.before.before.args.capture.now _ (sym (ap means e) ∙ c.write.ensures.0) c.write.ensures.1
 
 pub slice_bounds-room-end : goal.slice_bounds-room-end
-slice_bounds-room-end c =     held_bytes c c.in-Written.is
+slice_bounds-room-end c = held_bytes c c.in-Written.is
 
 pub slice_bounds-write-end-in-Written : goal.slice_bounds-write-end-in-Written
-slice_bounds-write-end-in-Written c =     simp length-take (omega (arith, held_bytes c c.in-Written.is))
+slice_bounds-write-end-in-Written c = simp length-take (omega (arith, held_bytes c c.in-Written.is))

@@ -7,7 +7,7 @@ pub loop-i-init : goal.loop-i-init
 loop-i-init c = stores-none _ _
 
 pub loop-i-preserved : goal.loop-i-preserved
-loop-i-preserved c =     stores-on c.loop-i.invariant _ c.store.ensures (omega arith) c.loop-i-test.true
+loop-i-preserved c = stores-on c.loop-i.invariant _ c.store.ensures (omega arith) c.loop-i-test.true
 
 pub shape_of-out : goal.shape_of-out
 shape_of-out c = c.loop-i.invariant.long

@@ -28,7 +28,7 @@ pub words-smaller : goal.words-smaller
 words-smaller c = omega arith
 
 pub words-preserved : goal.words-preserved
-words-preserved c =     stores-on c.words.invariant (omega arith) c.requires.1 c.put_word.ensures
+words-preserved c = stores-on c.words.invariant (omega arith) c.requires.1 c.put_word.ensures
 
 pub shape_of-out : goal.shape_of-out
 shape_of-out c = stored-length c.words.invariant
