@@ -45,7 +45,9 @@ module _ (bytes : List ℕ) (n i mode : ℕ) where
     module _ {pins : ℕ} (ep : pins ≡ (event_at bytes j).pins) (m : t < k + half) where
       turn : left j ≡ kept_ahead b k (k + half) (cond (cuts_burst b pins) (lesser half (t - k)) half) (events_from bytes n (j + 1))
       unfolding kept_ahead
-      turn = rw (next-event bytes n j l, ← et, ← ep, ← eb, ← ek, ← eh, lt-ltb t (k + half) m)
+      turn =
+          let m' : t < burst.cycle + h mode = omega (arith, m, ek, eh) in
+          rw (eb, ek, eh, next-event bytes n j l, ← et, ← ep, lt-ltb t (burst.cycle + h mode) m')
 
       pub goes_on : false ≡ cuts_burst b pins → Looking (j + 1)
       goes_on f =

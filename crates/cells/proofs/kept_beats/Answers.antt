@@ -24,11 +24,7 @@ pins_at-w-requires c = omega (arith, c.requires.listable.fit.long)
 
 pub pairs_of-beats-requires : goal.pairs_of-beats-requires
 pairs_of-beats-requires c = let x = c.events in
-    let a = c.args in let p = (
-      (c.requires.listable, c.events-test.true),
-      pair-kept a.s.now a.bytes.now a.n c.requires.listable c.requires.clean x.i c.events-test.true x.invariant.on.moded,
-    ) in
-    record { listable = p.0; keeps_pair = p.1 }
+    let a = c.args in record { listable = (c.requires.listable, c.events-test.true); keeps_pair = pair-kept a.s.now a.bytes.now a.n c.requires.listable c.requires.clean x.i c.events-test.true x.invariant.on.moded }
 
 pub overflow_mul-beats : goal.overflow_mul-beats
 overflow_mul-beats c = let x = c.events in

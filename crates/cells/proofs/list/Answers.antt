@@ -11,12 +11,8 @@ returns-in-At c = let a = c.args in
 
 pub lacking-short-requires : goal.lacking-short-requires
 lacking-short-requires c =
-    let a = c.args in let p = (
-      c.requires,
-      none-broken (settings_of a.s.now) a.bytes.now a.n a.out.now c.first_broken-broken.result c.first_broken-broken.ensures
-          c.in_default.is,
-    ) in
-    record { listable = p.0; clean = p.1 }
+    let a = c.args in record { listable = c.requires; clean = none-broken (settings_of a.s.now) a.bytes.now a.n a.out.now c.first_broken-broken.result c.first_broken-broken.ensures
+          c.in_default.is }
 
 pub returns-in-At-short : goal.returns-in-At-short
 returns-in-At-short c = let a = c.args in

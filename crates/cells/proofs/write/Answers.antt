@@ -47,11 +47,7 @@ pub write_burst-requires : goal.write_burst-requires
 write_burst-requires c = let a = c.args in
     let x = c.events in
     let is = told (settings_of a.s.now) a.bytes.now a.n x.i x.firsts x.mode c.step-event.ensures c.in-Burst.is in
-    let taken = c.events-test.true in let p = (
-      in_row a.s.now a.bytes.now a.n a.out.now x.invariant taken refl is.kept refl is.row is.place c.requires.listable,
-      room a.s.now a.bytes.now a.n a.out.now x.invariant taken refl is.kept c.requires.n_in_bounds,
-    ) in
-    record { in_row = p.0; pairs_in_bounds = p.1 }
+    let taken = c.events-test.true in record { in_row = in_row a.s.now a.bytes.now a.n a.out.now x.invariant taken refl is.kept refl is.row is.place c.requires.listable; pairs_in_bounds = room a.s.now a.bytes.now a.n a.out.now x.invariant taken refl is.kept c.requires.n_in_bounds }
 
 pub overflow_cast-next : goal.overflow_cast-next
 overflow_cast-next c = omega arith

@@ -20,11 +20,7 @@ newer_events-init c = begins c.args.s.now c.args.bytes.now c.args.n c.args.out.n
 
 pub newer_step-event-requires : goal.newer_step-event-requires
 newer_step-event-requires c = let x = c.newer_events in
-    let a = c.args in let p = (
-      (c.requires.listable, c.newer_events-test.true),
-      pair-kept a.s.now a.bytes.now a.n c.requires.listable c.requires.clean x.i c.newer_events-test.true x.invariant.on.moded,
-    ) in
-    record { listable = p.0; keeps_pair = p.1 }
+    let a = c.args in record { listable = (c.requires.listable, c.newer_events-test.true); keeps_pair = pair-kept a.s.now a.bytes.now a.n c.requires.listable c.requires.clean x.i c.newer_events-test.true x.invariant.on.moded }
 
 pub overflow_cast-i : goal.overflow_cast-i
 overflow_cast-i c = omega arith
@@ -53,11 +49,7 @@ pub write_burst-requires : goal.write_burst-requires
 write_burst-requires c = let a = c.args in
     let x = c.newer_events in
     let is = told (settings_of a.s.now) a.bytes.now a.n x.i x.firsts x.mode c.newer_step-event.ensures c.in-Burst.is in
-    let taken = c.newer_events-test.true in let p = (
-      in_row a.s.now a.bytes.now a.n a.out.now x.invariant taken refl is.kept refl is.row is.place c.requires.listable,
-      room a.s.now a.bytes.now a.n a.out.now x.invariant taken refl is.kept c.requires.n_in_bounds,
-    ) in
-    record { in_row = p.0; pairs_in_bounds = p.1 }
+    let taken = c.newer_events-test.true in record { in_row = in_row a.s.now a.bytes.now a.n a.out.now x.invariant taken refl is.kept refl is.row is.place c.requires.listable; pairs_in_bounds = room a.s.now a.bytes.now a.n a.out.now x.invariant taken refl is.kept c.requires.n_in_bounds }
 
 pub overflow_cast-next : goal.overflow_cast-next
 overflow_cast-next c = omega arith

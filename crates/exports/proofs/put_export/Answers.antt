@@ -14,55 +14,30 @@ nops_between-k-requires c = tt
 
 pub put_nops-requires : goal.put_nops-requires
 put_nops-requires c =
-    ((let given = c.requires.given in
-    let timed = c.cycle_at-t.ensures in
-    let counted = c.nops_between-k.ensures in (
-      bridging c.events.invariant c.events-test.true given timed counted,
-      place-fits c.events.invariant c.events-test.true given timed counted,
-    ))).0
+    (bridging c.events.invariant c.events-test.true c.requires.given c.cycle_at-t.ensures c.nops_between-k.ensures)
 
 pub overflow_cast-here : goal.overflow_cast-here
 overflow_cast-here c = omega arith
 
 pub overflow_mul-here : goal.overflow_mul-here
 overflow_mul-here c =
-    omega (arith, ((let given = c.requires.given in
-    let timed = c.cycle_at-t.ensures in
-    let counted = c.nops_between-k.ensures in (
-      bridging c.events.invariant c.events-test.true given timed counted,
-      place-fits c.events.invariant c.events-test.true given timed counted,
-    ))).1)
+    omega (arith, (place-fits c.events.invariant c.events-test.true c.requires.given c.cycle_at-t.ensures c.nops_between-k.ensures))
 
 pub overflow_add-here : goal.overflow_add-here
 overflow_add-here c =
-    omega (arith, ((let given = c.requires.given in
-    let timed = c.cycle_at-t.ensures in
-    let counted = c.nops_between-k.ensures in (
-      bridging c.events.invariant c.events-test.true given timed counted,
-      place-fits c.events.invariant c.events-test.true given timed counted,
-    ))).1)
+    omega (arith, (place-fits c.events.invariant c.events-test.true c.requires.given c.cycle_at-t.ensures c.nops_between-k.ensures))
 
 pub pins_at-requires : goal.pins_at-requires
 pins_at-requires c = omega (arith, c.requires.given.there)
 
 pub put_record-requires : goal.put_record-requires
-put_record-requires c = let long : length c.put_nops.new.0 ≡ length c.events.out =
+put_record-requires c = let long : length c.put_nops.new.out ≡ length c.events.out =
     ap length c.put_nops.ensures ∙ simp length-sets in
-    omega (arith, ((let given = c.requires.given in
-    let timed = c.cycle_at-t.ensures in
-    let counted = c.nops_between-k.ensures in (
-      bridging c.events.invariant c.events-test.true given timed counted,
-      place-fits c.events.invariant c.events-test.true given timed counted,
-    ))).1)
+    omega (arith, (place-fits c.events.invariant c.events-test.true c.requires.given c.cycle_at-t.ensures c.nops_between-k.ensures))
 
 pub overflow_add-at : goal.overflow_add-at
 overflow_add-at c =
-    omega (arith, ((let given = c.requires.given in
-    let timed = c.cycle_at-t.ensures in
-    let counted = c.nops_between-k.ensures in (
-      bridging c.events.invariant c.events-test.true given timed counted,
-      place-fits c.events.invariant c.events-test.true given timed counted,
-    ))).1)
+    omega (arith, (place-fits c.events.invariant c.events-test.true c.requires.given c.cycle_at-t.ensures c.nops_between-k.ensures))
 
 pub overflow_step-i : goal.overflow_step-i
 overflow_step-i c = omega arith

@@ -35,12 +35,8 @@ records_needed-records-requires c = let a = c.args in
 
 pub too_far-requires : goal.too_far-requires
 too_far-requires c =
-    let a = c.args in let p = (
-      counted a.capture.now a.out.now c.open-checked.ensures c.in_default.is c.events_start.ensures.value
-          c.if-events_start-gt-EVENTS.false c.event_count-n.ensures c.event_bytes-bytes.ensures,
-      c.records_needed-records.ensures,
-    ) in
-    record { given = p.0; records_value = p.1 }
+    let a = c.args in record { given = counted a.capture.now a.out.now c.open-checked.ensures c.in_default.is c.events_start.ensures.value
+          c.if-events_start-gt-EVENTS.false c.event_count-n.ensures c.event_bytes-bytes.ensures; records_value = c.records_needed-records.ensures }
 
 pub returns-then-too_far : goal.returns-then-too_far
 returns-then-too_far c = let a = c.args in
@@ -51,12 +47,9 @@ returns-then-too_far c = let a = c.args in
 pub store-requires : goal.store-requires
 store-requires c =
     let a = c.args in record { given = counted a.capture.now a.out.now c.open-checked.ensures c.in_default.is c.events_start.ensures.value
-          c.if-events_start-gt-EVENTS.false c.event_count-n.ensures c.event_bytes-bytes.ensures; records_value = (
-        c.records_needed-records.ensures,
-        few a.capture.now a.out.now c.open-checked.ensures c.in_default.is c.events_start.ensures.value
+          c.if-events_start-gt-EVENTS.false c.event_count-n.ensures c.event_bytes-bytes.ensures; records_value = c.records_needed-records.ensures; records_le_most_records = few a.capture.now a.out.now c.open-checked.ensures c.in_default.is c.events_start.ensures.value
             c.if-events_start-gt-EVENTS.false c.event_count-n.ensures c.event_bytes-bytes.ensures c.too_far.ensures c.if-too_far.false
-            c.records_needed-records.ensures,
-      ); records_le_most_records =  }
+            c.records_needed-records.ensures }
 
 pub returns : goal.returns
 returns c = let a = c.args in

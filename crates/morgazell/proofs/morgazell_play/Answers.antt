@@ -14,10 +14,8 @@ pack-requires c = let a = c.args in (
 
 pub returns-in-Refused : goal.returns-in-Refused
 returns-in-Refused c =
-    let p = (c.pack.ensures ∙ count-packed means c.play-played.ensures.result_value c.in-Refused.is, ?at-play.play.ensures.1) in
-    record { value = p.0; window_after = p.1.0; reads_after = p.1.1 }
+    record { value = c.pack.ensures ∙ count-packed means c.play-played.ensures.result_value c.in-Refused.is; window_after = c.play-played.ensures.window_after; reads_after = c.play-played.ensures.reads_after }
 
 pub returns-in-Words : goal.returns-in-Words
 returns-in-Words c =
-    let p = (c.pack-in-Words.ensures ∙ count-packed means c.play-played.ensures.result_value c.in-Words.is, ?at-play.play.ensures.1) in
-    record { value = p.0; window_after = p.1.0; reads_after = p.1.1 }
+    record { value = c.pack-in-Words.ensures ∙ count-packed means c.play-played.ensures.result_value c.in-Words.is; window_after = c.play-played.ensures.window_after; reads_after = c.play-played.ensures.reads_after }

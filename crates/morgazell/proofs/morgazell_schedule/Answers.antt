@@ -16,9 +16,4 @@ pub returns-in-Refused : goal.returns-in-Refused
 returns-in-Refused c = record { value = c.pack.ensures ∙ count-packed means c.schedule-scheduled.ensures.result_value c.in-Refused.is; out_after = c.schedule-scheduled.ensures.out_after }
 
 pub returns-in-Written : goal.returns-in-Written
-returns-in-Written c =
-    let p = (
-      c.pack-in-Written.ensures ∙ count-packed means c.schedule-scheduled.ensures.result_value c.in-Written.is,
-      c.schedule-scheduled.ensures.out_after,
-    ) in
-    record { value = p.0; out_after = p.1 }
+returns-in-Written c = record { value = c.pack-in-Written.ensures ∙ count-packed means c.schedule-scheduled.ensures.result_value c.in-Written.is; out_after = c.schedule-scheduled.ensures.out_after }

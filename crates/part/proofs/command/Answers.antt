@@ -87,5 +87,5 @@ returns-in-1 c = let a = c.args in
 pub returns-in_default : goal.returns-in_default
 returns-in_default c = let a = c.args in
     let (l, above) = low-is a.w c.wide_code-code.ensures (beyond c.in_default.in_default-own.rest) in
-    let p = met-low (settings_of a.s.now) a.d.now a.pace.now a.t a.w l c.low.ensures in
+    let p = met-low (settings_of a.s.now) a.d.now a.pace.now a.t a.w l (c.low.ensures.value, c.low.ensures.d_after) in
     record { value = p.0; d_after = p.1.0; pace_after = p.1.1 }

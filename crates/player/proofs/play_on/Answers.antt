@@ -17,8 +17,7 @@ returns-in_default c = let a = c.args in
     let told = c.in_default.is in
     let ends = unplayed (settings_of a.s.now) (events_in a.bytes.now a.n) a.first a.window.now a.writes.now a.reads.now
     c.window_fits.ensures c.if-not-window_fits.false c.attempt-attempted.result c.attempt-attempted.ensures told in
-    let p = (ap means told ∙ ends.0, ends.1) in
-    record { result_value = p.0; window_after = p.1.0; reads_after = p.1.1 }
+    record { result_value = ap means told ∙ ends.0; window_after = ends.1.0; reads_after = ends.1.1 }
 
 pub returns-then-reads-read : goal.returns-then-reads-read
 returns-then-reads-read c = let a = c.args in
@@ -31,25 +30,15 @@ returns-then-reads-read c = let a = c.args in
 pub run-requires : goal.run-requires
 run-requires c = let a = c.args in
     let fit = c.if-not-window_fits.false in
-    let p = c.requires in let p = (
-      p.playable,
-      (
-        p.clean,
-        (
-          all-playable (settings_of a.s.now) (events_in a.bytes.now a.n) a.first a.window.now a.writes.now a.reads.now
+    let p = c.requires in record { playable = p.playable; clean = p.clean; n_value = all-playable (settings_of a.s.now) (events_in a.bytes.now a.n) a.first a.window.now a.writes.now a.reads.now
               c.window_fits.ensures fit c.attempt-attempted.result c.attempt-attempted.ensures
-              c.in-Words.is,
-          omega (
+              c.in-Words.is; n_in_bounds = omega (
             arith,
             read-so (settings_of a.s.now) (events_in a.bytes.now a.n) a.first a.window.now a.writes.now a.reads.now
                 c.window_fits.ensures fit c.attempt-attempted.result c.attempt-attempted.ensures
                 c.in-Words.is,
             c.if-reads-read.false,
-          ),
-        ),
-      ),
-    ) in
-    record { playable = p.0; clean = p.1.0; n_value = p.1.1.0; n_in_bounds = p.1.1.1 }
+          ) }
 
 pub returns : goal.returns
 returns c = let a = c.args in

@@ -25,7 +25,7 @@ pub requests-smaller : goal.requests-smaller
 requests-smaller c = omega arith
 
 pub requests-preserved : goal.requests-preserved
-requests-preserved c = looks_on c.requests.invariant (omega arith) ?c.before.fits2.ensures c.both-fine.ensures
+requests-preserved c = looks_on c.requests.invariant (omega arith) c.fits.ensures c.both-fine.ensures
 
 pub returns : goal.returns
 returns c = λ e i l. c.requests.invariant.low e i (omega arith)

@@ -37,13 +37,13 @@ pub requests-smaller : goal.requests-smaller
 requests-smaller c = omega arith
 
 pub requests-preserved : goal.requests-preserved
-requests-preserved c = goes_on c.requests.invariant (omega arith) c.requires c.cells-cells.ensures (sym ?c.before.fits2.ensures ∙ c.if-fits.true)
+requests-preserved c = goes_on c.requests.invariant (omega arith) c.requires c.cells-cells.ensures (sym c.fits.ensures ∙ c.if-fits.true)
 
 pub overflow_cast-result : goal.overflow_cast-result
 overflow_cast-result c = omega arith
 
 pub returns-in-requests : goal.returns-in-requests
-returns-in-requests c = stops c.requests.invariant (omega arith) c.requires c.cells-cells.ensures (sym ?c.before.fits2.ensures ∙ c.if-fits.false)
+returns-in-requests c = stops c.requests.invariant (omega arith) c.requires c.cells-cells.ensures (sym c.fits.ensures ∙ c.if-fits.false)
 
 pub returns : goal.returns
 returns c = ends c.requests.invariant (omega arith)

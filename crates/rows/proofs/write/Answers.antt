@@ -10,21 +10,13 @@ write_bank-second-requires c = record { capture_in_bounds = c.requires.capture_i
 
 pub write_bank-third-requires : goal.write_bank-third-requires
 write_bank-third-requires c =
-    let p = (
-      c.requires.capture_in_bounds,
-      third-room c.args.index.now (events_up_to c.args.capture.now c.args.n) c.requires.n_in_bounds
-          c.write_bank-first.ensures c.write_bank-second.ensures,
-    ) in
-    record { capture_in_bounds = p.0; n_in_bounds = p.1 }
+    record { capture_in_bounds = c.requires.capture_in_bounds; n_in_bounds = third-room c.args.index.now (events_up_to c.args.capture.now c.args.n) c.requires.n_in_bounds
+          c.write_bank-first.ensures c.write_bank-second.ensures }
 
 pub write_bank-requires : goal.write_bank-requires
 write_bank-requires c =
-    let p = (
-      c.requires.capture_in_bounds,
-      fourth-room c.args.index.now (events_up_to c.args.capture.now c.args.n) c.requires.n_in_bounds
-          c.write_bank-first.ensures c.write_bank-second.ensures c.write_bank-third.ensures,
-    ) in
-    record { capture_in_bounds = p.0; n_in_bounds = p.1 }
+    record { capture_in_bounds = c.requires.capture_in_bounds; n_in_bounds = fourth-room c.args.index.now (events_up_to c.args.capture.now c.args.n) c.requires.n_in_bounds
+          c.write_bank-first.ensures c.write_bank-second.ensures c.write_bank-third.ensures }
 
 pub returns : goal.returns
 returns c = (all-four c.args.index.now (events_up_to c.args.capture.now c.args.n) c.requires.n_in_bounds

@@ -18,18 +18,8 @@ bounds-requests-i c = omega arith
 
 pub serve-turn-requires : goal.serve-turn-requires
 serve-turn-requires c =
-    let a = c.args in let p = (
-      asked-for a.s.now a.requests.now a.closed a.words.now c.requires c.requests.invariant (omega arith),
-      (
-        room a.s.now a.requests.now a.closed a.words.now c.requires c.requests.invariant (omega arith),
-        (
-          c.pace-pace.ensures,
-          rw c.margin-margin.ensures
-              (sure a.s.now a.requests.now a.closed a.words.now c.requires c.requests.invariant (omega arith)),
-        ),
-      ),
-    ) in
-    record { asked = p.0; room = p.1.0; pace_value = p.1.1.0; sure = p.1.1.1 }
+    let a = c.args in record { asked = asked-for a.s.now a.requests.now a.closed a.words.now c.requires c.requests.invariant (omega arith); room = room a.s.now a.requests.now a.closed a.words.now c.requires c.requests.invariant (omega arith); pace_value = c.pace-pace.ensures; sure = rw c.margin-margin.ensures
+              (sure a.s.now a.requests.now a.closed a.words.now c.requires c.requests.invariant (omega arith)) }
 
 pub overflow_cast-result : goal.overflow_cast-result
 overflow_cast-result c = let a = c.args in

@@ -34,8 +34,7 @@ returns-then-attempt c = let aside = c.set_aside.ensures in
     let turn =
     in-time-now (settings_of a.s.now) a.closed a.q a.margin a.d.now a.k.now a.words.now c.requires.sure
     c.attempt.ensures.words_after c.attempt.ensures.value c.tries.refreshed c.tries.invariant c.if-attempt.true in
-    let p = (turn.0, (turn.1, aside)) in
-    record { result_value = p.0; words_after = p.1.0; earlier_after = p.1.1.0; stood_after = p.1.1.1 }
+    record { result_value = turn.0; words_after = turn.1; earlier_after = aside.earlier_after; stood_after = aside.stood_after }
 
 pub shape_of-words-then-refreshed-eq1 : goal.shape_of-words-then-refreshed-eq1
 shape_of-words-then-refreshed-eq1 c = omega (arith, c.tries.invariant.size)
@@ -46,8 +45,7 @@ returns-then-refreshed-eq1 c = let aside = c.set_aside.ensures in
     let turn =
     late-now (settings_of a.s.now) a.closed a.q a.margin a.d.now a.k.now a.words.now c.requires.sure
     c.attempt.ensures.words_after c.attempt.ensures.value c.tries.invariant c.if-refreshed-eq1.true c.if-attempt.false in
-    let p = (turn.0, (turn.1, aside)) in
-    record { result_value = p.0; words_after = p.1.0; earlier_after = p.1.1.0; stood_after = p.1.1.1 }
+    record { result_value = turn.0; words_after = turn.1; earlier_after = aside.earlier_after; stood_after = aside.stood_after }
 
 pub start_again-requires : goal.start_again-requires
 start_again-requires c = let aside = c.set_aside.ensures in
