@@ -8,8 +8,8 @@ use Rattle.console.specs.declared.Piece.TheVariants.{Bytes, Lost}
 -- of an input that could not be read, none are of use
 abbrev pub size_of : Input → ℕ
 size_of (Whole n) = n
-size_of Failed = 0
+size_of (Failed why) = 0
 
 abbrev pub came_in : Piece → ℕ
 came_in (Bytes n) = n
-came_in Lost = 0
+came_in (Lost why) = 0
