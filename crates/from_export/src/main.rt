@@ -136,7 +136,11 @@ fn run(rt: &HostRuntime, front: &[u8], export: usize)
 }
 
 fn complain_of_settings(rt: &HostRuntime, place: usize) {
-    let shown = if program::standard(rt, place) { 0 } else { place };
+    let shown = if program::standard(rt, place) {
+        0
+    } else {
+        place
+    };
     program::complain_of(
         rt,
         &NAME,
