@@ -116,14 +116,7 @@ fn lost(rt: &HostRuntime, place: usize, why: Failure) {
 }
 
 // Behind as many captures as there may be: the totals, or that there is more.
-fn last(
-    rt: &HostRuntime,
-    out: &mut Out,
-    csv: bool,
-    from: &mut Reader,
-    place: usize,
-    t: Totals,
-)
+fn last(rt: &HostRuntime, out: &mut Out, csv: bool, from: &mut Reader, place: usize, t: Totals)
     requires { Held t }
 {
     let mut byte = [0u8; 1];

@@ -22,13 +22,13 @@ slice_bounds-told-end c = length-take_of_le _ _ (omega (arith, ap size_of c.in-W
 
 pub add-totals-requires : goal.add-totals-requires
 add-totals-requires c = (
-      c.loop-buffer.invariant.0,
-      room c.loop-buffer.totals.captures c.has_room.ensures c.loop-buffer-test.true,
-    )
+  c.loop-buffer.invariant.0,
+  room c.loop-buffer.totals.captures c.has_room.ensures c.loop-buffer-test.true,
+)
 
 pub loop-buffer-smaller : goal.loop-buffer-smaller
 loop-buffer-smaller c = omega (
-      arith,
-      ap (λ (t : Totals). t.captures) c.add-totals.ensures.result_value,
-      room c.loop-buffer.totals.captures c.has_room.ensures c.loop-buffer-test.true,
-    )
+  arith,
+  ap (λ (t : Totals). t.captures) c.add-totals.ensures.result_value,
+  room c.loop-buffer.totals.captures c.has_room.ensures c.loop-buffer-test.true,
+)
