@@ -66,7 +66,6 @@ overflow_add-taken c = let a = c.args in
           c.requires.playable.coded c.if-stores.true,
       c.burst_length.ensures,
       data-length a.writes.now,
-      ?start.well-formed.1.1.1.1.1.0.1,
     )
 
 pub overflow_step-i-then-stores : goal.overflow_step-i-then-stores
@@ -111,7 +110,6 @@ overflow_add-next c = let a = c.args in
           (get_or a.s.now 0 0) c.requires.playable.coded c.if-stores.false,
       as_long a.s.now a.bytes.now a.n a.first
           a.window.now a.writes.now a.reads.now x.invariant,
-      ?start.well-formed.1.1.1.1.1.1.0.1,
     )
 
 pub overflow_step-i-in-events : goal.overflow_step-i-in-events
