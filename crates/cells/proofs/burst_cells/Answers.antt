@@ -23,5 +23,5 @@ list-requires c = listable ((opens ((accepted-so most_events c.args.capture.now 
 
 pub returns : goal.returns
 returns c =
-    let p = listed-so ((opens ((accepted-so most_events c.args.capture.now c.open-checked.ensures c.in_default.is)) c.settings_in-settings.ensures c.event_count-n.ensures c.event_bytes-bytes.ensures)) c.args.out.now c.list.ensures in
+    let p = listed-so ((opens ((accepted-so most_events c.args.capture.now c.open-checked.ensures c.in_default.is)) c.settings_in-settings.ensures c.event_count-n.ensures c.event_bytes-bytes.ensures)) c.args.out.now (c.list.ensures.result_value, c.list.ensures.out_after) in
     record { result_value = p.0; out_after = p.1 }

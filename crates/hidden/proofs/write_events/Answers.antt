@@ -40,7 +40,7 @@ pub overflow_add-at-in-loop-i-2 : goal.overflow_add-at-in-loop-i-2
 overflow_add-at-in-loop-i-2 c = omega (arith, c.requires.room)
 
 pub put_word-requires-in-loop-i : goal.put_word-requires-in-loop-i
-put_word-requires-in-loop-i c = let long : length c.put_word.new.0 ≡ length c.loop-i.out = ap length c.put_word.ensures ∙ simp length-sets in
+put_word-requires-in-loop-i c = let long : length c.put_word.new.out ≡ length c.loop-i.out = ap length c.put_word.ensures ∙ simp length-sets in
     omega (arith, c.requires.room, c.loop-i.invariant.long)
 
 pub overflow_step-i : goal.overflow_step-i

@@ -17,7 +17,7 @@ pub event_bytes-bytes-requires : goal.event_bytes-bytes-requires
 event_bytes-bytes-requires c = long c.args.most c.args.capture.now ((accepted-so c.args.most c.args.capture.now c.open_to-checked.ensures c.in_default.is))
 
 pub walk-requires : goal.walk-requires
-walk-requires c = record { fit = fit ((opens ((accepted-so c.args.most c.args.capture.now c.open_to-checked.ensures c.in_default.is)) c.settings_in-settings.ensures c.event_count-n.ensures c.event_bytes-bytes.ensures)); started = record { deadlines = c.start-deadlines.ensures; c = c.pace-pace.ensures } }
+walk-requires c = record { fit = fit ((opens ((accepted-so c.args.most c.args.capture.now c.open_to-checked.ensures c.in_default.is)) c.settings_in-settings.ensures c.event_count-n.ensures c.event_bytes-bytes.ensures)); started = record { deadlines = c.start-deadlines.ensures; paced = c.pace-pace.ensures } }
 
 pub returns : goal.returns
 returns c = rw c.walk.ensures.value (judged-so ((opens ((accepted-so c.args.most c.args.capture.now c.open_to-checked.ensures c.in_default.is)) c.settings_in-settings.ensures c.event_count-n.ensures c.event_bytes-bytes.ensures)))

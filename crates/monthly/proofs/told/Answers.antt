@@ -2,10 +2,11 @@ use Rattle.reading.specs.Capture.{most_events}
 use Rattle.capture.proofs.Opened.{long, opens}
 use Rattle.cells.proofs.Listing.{listable}
 use Rattle.monthly.proofs.Lines.{accepted, counted, clean, clean-here, last-low, other-so, line-so}
+use borrow.Enum.Refused.{opened}
 use Rattle.monthly.proofs.told.Goals as goal
 
 pub returns-in_default : goal.returns-in_default
-returns-in_default c = other-so c.args.capture.now c.judge-verdict.result c.judge-verdict.ensures c.in_default.in_default-own.keys2
+returns-in_default c = other-so c.args.capture.now c.judge-verdict.result c.judge-verdict.ensures (opened c.in_default.in_default-own.keys2)
 
 pub settings_in-settings-requires : goal.settings_in-settings-requires
 settings_in-settings-requires c = long most_events c.args.capture.now ((accepted c.args.capture.now c.judge-verdict.ensures c.in-Clean.is))

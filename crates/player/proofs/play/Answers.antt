@@ -27,5 +27,5 @@ play_on-requires c = let x = (opens ((clean-so c.args.capture.now c.unclean-chec
 
 pub returns : goal.returns
 returns c = let a = c.args in
-    let p = played-so ((opens ((clean-so c.args.capture.now c.unclean-checked.result (c.unclean-checked.ensures ∙ ap clean_by c.judge.ensures) c.in_default.is)).0 c.settings_in-settings.ensures c.event_count-n.ensures c.event_bytes-bytes.ensures)) ((clean-so c.args.capture.now c.unclean-checked.result (c.unclean-checked.ensures ∙ ap clean_by c.judge.ensures) c.in_default.is)).1 a.first a.window.now a.writes.now a.reads.now c.play_on.ensures in
+    let p = played-so ((opens ((clean-so c.args.capture.now c.unclean-checked.result (c.unclean-checked.ensures ∙ ap clean_by c.judge.ensures) c.in_default.is)).0 c.settings_in-settings.ensures c.event_count-n.ensures c.event_bytes-bytes.ensures)) ((clean-so c.args.capture.now c.unclean-checked.result (c.unclean-checked.ensures ∙ ap clean_by c.judge.ensures) c.in_default.is)).1 a.first a.window.now a.writes.now a.reads.now (c.play_on.ensures.result_value, (c.play_on.ensures.window_after, c.play_on.ensures.reads_after)) in
     record { result_value = p.0; window_after = p.1.0; reads_after = p.1.1 }

@@ -47,12 +47,9 @@ store-requires c = let a = c.args in
     let x = c.events in
     let f = found a.s.now a.bytes.now a.n x.i c.burst_at-event.ensures c.in-Burst.is in
     let taken = c.events-test.true in
-    let z = c.requires.playable.listable in record { in_row = in_row a.s.now a.bytes.now a.n x.i z c.requires.clean taken f; pairs_value = (
-        holds-all a.s.now a.bytes.now a.n a.first a.window.now a.writes.now a.reads.now z c.requires.clean x.invariant taken f,
-        masks-fit a.s.now
+    let z = c.requires.playable.listable in record { in_row = in_row a.s.now a.bytes.now a.n x.i z c.requires.clean taken f; pairs_value = holds-all a.s.now a.bytes.now a.n a.first a.window.now a.writes.now a.reads.now z c.requires.clean x.invariant taken f; pairs_in_bounds = masks-fit a.s.now
             a.bytes.now a.n a.first a.window.now a.writes.now a.reads.now z c.requires.clean x.invariant taken f (get_or a.s.now 0 0)
-            c.requires.playable.coded c.if-stores.true,
-      ); pairs_in_bounds =  }
+            c.requires.playable.coded c.if-stores.true }
 
 pub overflow_cast-taken : goal.overflow_cast-taken
 overflow_cast-taken c = omega arith
@@ -69,7 +66,6 @@ overflow_add-taken c = let a = c.args in
           c.requires.playable.coded c.if-stores.true,
       c.burst_length.ensures,
       data-length a.writes.now,
-      ?start.well-formed.1.1.1.1.1.0.1,
     )
 
 pub overflow_step-i-then-stores : goal.overflow_step-i-then-stores
@@ -92,12 +88,9 @@ fetch-requires c = let a = c.args in
     let x = c.events in
     let f = found a.s.now a.bytes.now a.n x.i c.burst_at-event.ensures c.in-Burst.is in
     let taken = c.events-test.true in
-    let z = c.requires.playable.listable in record { in_row = in_row a.s.now a.bytes.now a.n x.i z c.requires.clean taken f; pairs_value = (
-        holds-all a.s.now a.bytes.now a.n a.first a.window.now a.writes.now a.reads.now z c.requires.clean x.invariant taken f,
-        reads_fit a.s.now
+    let z = c.requires.playable.listable in record { in_row = in_row a.s.now a.bytes.now a.n x.i z c.requires.clean taken f; pairs_value = holds-all a.s.now a.bytes.now a.n a.first a.window.now a.writes.now a.reads.now z c.requires.clean x.invariant taken f; pairs_in_bounds = reads_fit a.s.now
             a.bytes.now a.n a.first a.window.now a.writes.now a.reads.now z c.requires.clean x.invariant taken f (get_or a.s.now 0 0)
-            c.requires.playable.coded c.if-stores.false,
-      ); pairs_in_bounds =  }
+            c.requires.playable.coded c.if-stores.false }
 
 pub overflow_cast-next : goal.overflow_cast-next
 overflow_cast-next c = omega arith
@@ -117,7 +110,6 @@ overflow_add-next c = let a = c.args in
           (get_or a.s.now 0 0) c.requires.playable.coded c.if-stores.false,
       as_long a.s.now a.bytes.now a.n a.first
           a.window.now a.writes.now a.reads.now x.invariant,
-      ?start.well-formed.1.1.1.1.1.1.0.1,
     )
 
 pub overflow_step-i-in-events : goal.overflow_step-i-in-events

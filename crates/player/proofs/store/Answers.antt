@@ -35,13 +35,13 @@ pub overflow_add-pair : goal.overflow_add-pair
 overflow_add-pair c = let a = c.args in
     let in-it = in_window_lem a.first (length a.window.now) (cell_in a.row a.mode a.column) (2 * a.pairs) c.requires.pairs_value c.loop-beat.beat
     c.loop-beat-test.true c.beat_cell-cell.ensures in
-    omega (arith, c.requires.pairs_in_bounds, c.loop-beat-test.true, ?start.well-formed.1.1.1.1.1.1.1.0.1)
+    omega (arith, c.requires.pairs_in_bounds, c.loop-beat-test.true)
 
 pub overflow_mul-pair : goal.overflow_mul-pair
 overflow_mul-pair c = let a = c.args in
     let in-it = in_window_lem a.first (length a.window.now) (cell_in a.row a.mode a.column) (2 * a.pairs) c.requires.pairs_value c.loop-beat.beat
     c.loop-beat-test.true c.beat_cell-cell.ensures in
-    omega (arith, c.requires.pairs_in_bounds, c.loop-beat-test.true, ?start.well-formed.1.1.1.1.1.1.1.0.1)
+    omega (arith, c.requires.pairs_in_bounds, c.loop-beat-test.true)
 
 pub offset_bounds-window-at : goal.offset_bounds-window-at
 offset_bounds-window-at c = let a = c.args in
@@ -59,31 +59,31 @@ pub offset_bounds-writes-pair : goal.offset_bounds-writes-pair
 offset_bounds-writes-pair c = let a = c.args in
     let in-it = in_window_lem a.first (length a.window.now) (cell_in a.row a.mode a.column) (2 * a.pairs) c.requires.pairs_value c.loop-beat.beat
     c.loop-beat-test.true c.beat_cell-cell.ensures in
-    omega (arith, c.requires.pairs_in_bounds, c.loop-beat-test.true, ?start.well-formed.1.1.1.1.1.1.1.0.1)
+    omega (arith, c.requires.pairs_in_bounds, c.loop-beat-test.true)
 
 pub bounds-writes-pair : goal.bounds-writes-pair
 bounds-writes-pair c = let a = c.args in
     let in-it = in_window_lem a.first (length a.window.now) (cell_in a.row a.mode a.column) (2 * a.pairs) c.requires.pairs_value c.loop-beat.beat
     c.loop-beat-test.true c.beat_cell-cell.ensures in
-    omega (arith, c.requires.pairs_in_bounds, c.loop-beat-test.true, ?start.well-formed.1.1.1.1.1.1.1.0.1)
+    omega (arith, c.requires.pairs_in_bounds, c.loop-beat-test.true)
 
 pub overflow_add-pair-in-loop-beat : goal.overflow_add-pair-in-loop-beat
 overflow_add-pair-in-loop-beat c = let a = c.args in
     let in-it = in_window_lem a.first (length a.window.now) (cell_in a.row a.mode a.column) (2 * a.pairs) c.requires.pairs_value c.loop-beat.beat
     c.loop-beat-test.true c.beat_cell-cell.ensures in
-    omega (arith, c.requires.pairs_in_bounds, c.loop-beat-test.true, ?start.well-formed.1.1.1.1.1.1.1.0.1)
+    omega (arith, c.requires.pairs_in_bounds, c.loop-beat-test.true)
 
 pub offset_bounds-writes-pair-in-loop-beat : goal.offset_bounds-writes-pair-in-loop-beat
 offset_bounds-writes-pair-in-loop-beat c = let a = c.args in
     let in-it = in_window_lem a.first (length a.window.now) (cell_in a.row a.mode a.column) (2 * a.pairs) c.requires.pairs_value c.loop-beat.beat
     c.loop-beat-test.true c.beat_cell-cell.ensures in
-    omega (arith, c.requires.pairs_in_bounds, c.loop-beat-test.true, ?start.well-formed.1.1.1.1.1.1.1.0.1)
+    omega (arith, c.requires.pairs_in_bounds, c.loop-beat-test.true)
 
 pub bounds-writes-pair-in-loop-beat : goal.bounds-writes-pair-in-loop-beat
 bounds-writes-pair-in-loop-beat c = let a = c.args in
     let in-it = in_window_lem a.first (length a.window.now) (cell_in a.row a.mode a.column) (2 * a.pairs) c.requires.pairs_value c.loop-beat.beat
     c.loop-beat-test.true c.beat_cell-cell.ensures in
-    omega (arith, c.requires.pairs_in_bounds, c.loop-beat-test.true, ?start.well-formed.1.1.1.1.1.1.1.0.1)
+    omega (arith, c.requires.pairs_in_bounds, c.loop-beat-test.true)
 
 pub offset_bounds-window-at-in-loop-beat : goal.offset_bounds-window-at-in-loop-beat
 offset_bounds-window-at-in-loop-beat c = let a = c.args in

@@ -20,7 +20,7 @@ open_row-requires c = record { b_bound = (low c.bank-bank.ensures c.requires.ask
 pub burst-requires : goal.burst-requires
 burst-requires c = let a = c.args in
     let grows =
-    opening-grows (settings_of a.s.now) c.bank-bank.result c.row.result (draft a.d.now a.k.now a.words.now) in record { b_bound = low c.bank-bank.ensures c.requires.asked; room = (room_after 2 1 c.requires.room grows c.open_row.ensures, c.requires.pace_value); pace_value =  }
+    opening-grows (settings_of a.s.now) c.bank-bank.result c.row.result (draft a.d.now a.k.now a.words.now) in record { b_bound = low c.bank-bank.ensures c.requires.asked; room = room_after 2 1 c.requires.room grows c.open_row.ensures; pace_value = c.requires.pace_value }
 
 pub returns : goal.returns
 returns c = requested (settings_of c.args.s.now) (draft c.args.d.now c.args.k.now c.args.words.now) c.args.q

@@ -74,5 +74,4 @@ shape_of-words c = omega (arith, c.tries.invariant.size)
 
 pub returns : goal.returns
 returns c =
-    let p = absurd (omega (arith, c.tries.invariant.within)) in
-    record { result_value = p.0; words_after = p.1.0; earlier_after = p.1.1.0; stood_after = p.1.1.1 }
+    absurd (omega (arith, c.tries.invariant.within))
