@@ -8,10 +8,11 @@ pub mod number;
 pub mod plain;
 pub mod program;
 
-ghost use Rattle.std.specs.Prelude.{◌≡◌, ◌+◌, ◌≤◌, length, true};
+ghost use Rattle.std.specs.Prelude.{◌≡◌, ◌+◌, ◌≤◌, length, take, drop, true};
+ghost use Rattle.std.specs.Io.KnownBytes.{Appends};
 ghost use Rattle.console.specs.Counts.{IsPrefixLen};
-ghost use Rattle.console.specs.Input.{size_of, came_in};
-ghost use Rattle.console.specs.Output.{Stays};
+ghost use Rattle.console.specs.Input.{size_of, came_in, Gives, Reads};
+ghost use Rattle.console.specs.Output.{Stays, Writes};
 
 use std::io::{Error, ErrorKind, IsTerminal, Read, Stdout, Write};
 
@@ -53,13 +54,13 @@ fn why_failed(error: &Error) -> Failure {
     Failure::Other
 }
 
-// A read into buf from index `done` on.
-fn read_from<R: Read>(from: &mut R, buf: &mut [u8], done: usize) -> Piece
-    requires { done ≤ length buf.old }
-    ensures { done + came_in result ≤ length buf.old }
+// A read into buf, made again where a signal interrupted it.
+fn read_piece<R: Read>(from: &mut R, buf: &mut [u8]) -> Piece
+    ensures in_bounds { IsPrefixLen (came_in result) buf.new }
+    ensures bytes { Gives (R.remaining from.old) (R.remaining from.new) result buf.new }
 {
     for tried in 0..TRIES {
-        match from.read(&mut buf[done..]) {
+        match from.read(buf) {
             Ok(n) => return Piece::Bytes(n),
             Err(error) => {
                 if !interrupted(&error) {
@@ -71,9 +72,20 @@ fn read_from<R: Read>(from: &mut R, buf: &mut [u8], done: usize) -> Piece
     Piece::Lost(Failure::Other)
 }
 
+// A read into buf from index `done` on.
+fn read_from<R: Read>(from: &mut R, buf: &mut [u8], done: usize) -> Piece
+    requires { done ≤ length buf.old }
+    ensures in_bounds { done + came_in result ≤ length buf.old }
+    ensures front { take done buf.new ≡ take done buf.old }
+    ensures bytes { Gives (R.remaining from.old) (R.remaining from.new) result (drop done buf.new) }
+{
+    read_piece(from, &mut buf[done..])
+}
+
 // A read that fails settles it, whatever a later one would say.
 pub fn read_input<R: Read>(from: &mut R, buf: &mut [u8]) -> Input
-    ensures { IsPrefixLen (size_of result) buf.new }
+    ensures in_bounds { IsPrefixLen (size_of result) buf.new }
+    ensures bytes { Reads (R.remaining from.old) (R.remaining from.new) result buf.new }
 {
     let mut done: usize = 0;
     while done < buf.len() {
@@ -114,13 +126,13 @@ impl Out {
     }
 }
 
-// A write of text from index `done` on: how many bytes it took, 0 where it failed.
-fn write_from<W: Write>(to: &mut W, text: &[u8], done: usize) -> usize
-    requires { done ≤ length text.now }
-    ensures { done + result ≤ length text.now }
+// A write of text, made again where a signal interrupted it: how many bytes it took, 0 where it failed.
+fn write_piece<W: Write>(to: &mut W, text: &[u8]) -> usize
+    ensures in_bounds { result ≤ length text.now }
+    ensures bytes { Appends (W.contents to.old) (W.contents to.new) (take result text.now) }
 {
     for tried in 0..TRIES {
-        match to.write(&text[done..]) {
+        match to.write(text) {
             Ok(n) => return n,
             Err(error) => {
                 if !interrupted(&error) {
@@ -132,7 +144,19 @@ fn write_from<W: Write>(to: &mut W, text: &[u8], done: usize) -> usize
     0
 }
 
-fn write_whole<W: Write>(to: &mut W, text: &[u8]) -> bool {
+// A write of text from index `done` on.
+fn write_from<W: Write>(to: &mut W, text: &[u8], done: usize) -> usize
+    requires { done ≤ length text.now }
+    ensures in_bounds { done + result ≤ length text.now }
+    ensures bytes { Appends (W.contents to.old) (W.contents to.new) (take result (drop done text.now)) }
+{
+    write_piece(to, &text[done..])
+}
+
+// The text up to the first byte that cannot be written, and nothing behind it; answers whether that is all of it.
+fn write_whole<W: Write>(to: &mut W, text: &[u8]) -> bool
+    ensures { Writes (W.contents to.old) (W.contents to.new) result text.now }
+{
     let mut done: usize = 0;
     while done < text.len() {
         let n = write_from(to, text, done);
