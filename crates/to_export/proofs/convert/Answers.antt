@@ -8,7 +8,7 @@ slice_bounds-room-end c =
     let written = c.in-Written.ensures in
     write-within c.args.capture.now _ written.result_value written.out_after
 
-pub slice_bounds-write-end : goal.slice_bounds-write-end
-slice_bounds-write-end c =
+pub slice_bounds-write-end-in-Written : goal.slice_bounds-write-end-in-Written
+slice_bounds-write-end-in-Written c =
     let written = c.in-Written.ensures in
     sym (length-take-le _ _ (write-within c.args.capture.now _ written.result_value written.out_after))
