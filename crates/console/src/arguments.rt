@@ -17,7 +17,7 @@ pub enum Asked {
 // ---- one argument
 
 // Argument i at the start of the buffer; answers how long it is, 0 where there is none or it is longer than the buffer.
-pub fn copy(rt: &HostRuntime, i: usize, buf: &mut [u8]) -> usize
+pub(crate) fn copy(rt: &HostRuntime, i: usize, buf: &mut [u8]) -> usize
     ensures { IsPrefixLen result buf.new }
 {
     match rt.arg(i, buf) {

@@ -206,6 +206,7 @@ fn why_unopened(error: &Error) -> Unopened {
     }
 }
 
+// An opening that a signal interrupts is made again by std.
 fn open_path(rt: &HostRuntime, path: &[u8]) -> Result<File, Unopened> {
     let Ok(path) = str::from_utf8(path) else {
         return Err(Unopened::NotText);
