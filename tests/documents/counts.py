@@ -142,7 +142,7 @@ def minutes():
 
 def of_samples():
     """What tools/judge-samples proves: its programs and all that they rest on."""
-    programs = re.search(r"^rt check ([\w ]+) >&2$", read("tools", "judge-samples"), re.M).group(1).split()
+    programs = re.search(r"^tools/build ([\w ]+) >&2$", read("tools", "judge-samples"), re.M).group(1).split()
     return set().union(*map(names.rests_on, programs))
 
 

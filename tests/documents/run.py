@@ -42,7 +42,7 @@ NOT_NAMES = {"CRATE-PATH-settles", "ruleN", "rule-N"}
 
 def documents():
     """Every page by its name."""
-    pages = PAGES + [os.path.relpath(path, ROOT) for path in glob.glob(os.path.join(ROOT, "docs", "*.md"))]
+    pages = PAGES + [os.path.relpath(path, ROOT) for path in glob.glob(os.path.join(ROOT, "docs", "*.md")) if names.is_landed(path)]
     return {page: read(page) for page in sorted(pages)}
 
 
