@@ -10,14 +10,13 @@ use lib.Seq.{sets}
 use Rattle.reading.specs.Search.{count}
 use Rattle.reading.specs.Capture.{Event, most_events, capture_size, count_in, event_count, event_bytes, event_at, events_of}
 use Rattle.reading.specs.Verdict.{clean}
-use Rattle.reading.specs.Answers.{Answer, refused, answered, accepted, settings_in, verdict_in}
-use Rattle.reading.specs.Openings.{Opening, Record, openings_of, opening_words, index_of, records_from, records_of, row_after}
-use Rattle.reading.specs.OpenRow.{index_in, records_in, row_in, over}
+use Rattle.reading.specs.Answers.{Answer, answered, accepted, settings_in, verdict_in}
+use Rattle.reading.specs.Openings.{openings_of, opening_words, index_of, records_from, records_of, row_after}
+use Rattle.reading.specs.OpenRow.{index_in, records_in, row_in}
 use Rattle.words.proofs.Runs.{front}
 use Rattle.capture.proofs.Accepted.{Sized, accepted-sound}
 use Rattle.banks.specs.declared.Asked.{Asked}
 use Rattle.banks.specs.declared.Bank.{Bank}
-use Rattle.banks.specs.declared.Told.{Told}
 use Rattle.banks.specs.Banks.{bank_at, bank_of, row_asked, told_of}
 use Rattle.rows.specs.declared.Tally.{Tally}
 use Rattle.rows.specs.declared.Standing.{Standing}

@@ -1,6 +1,6 @@
 -- The refusals of a question, in their order.
-use Prim.Native.Nat.{ℕ, ◌+◌, ◌≤◌, ◌<◌}
-use mathlib.Core.Bool.{Bool, true, false, cond, not, ◌&&◌, and-eq-true_iff}
+use Prim.Native.Nat.{ℕ, ◌≤◌, ◌<◌}
+use mathlib.Core.Bool.{Bool, true, false, not, ◌&&◌, and-eq-true_iff}
 use mathlib.Core.List.{List}
 use mathlib.Core.Option.{Option, none, some}
 use mathlib.Core.Path.{◌≡◌, refl, sym, ap, ◌∙◌}
@@ -112,13 +112,13 @@ module _ (capture : List ℕ) (bank event records words : ℕ) where
       ∙ (go (accepted capture (answered tt)) (not_clean (verdict_in capture)) (given 0 (not (question_fits capture bank event))) (given 4 (ltb records 4)) rest
       ∙ ap (λ (a : Answer (Unit {0})). follow a (follow asked rest)) (sym (followed most_events capture _)))
     where
-      go : (a : Answer (Unit {0})) (x y z : Option ℕ) (rest : Answer (Option ℕ)) → follow a (unless 8 x (unless 13 y (unless 7 z rest))) ≡
-          follow (follow a (unless 8 x (answered tt))) (follow (unless 13 y (unless 7 z (answered tt))) rest)
-      go (refused number place) x y z rest = refl
-      go (answered u) (some p) y z rest = refl
-      go (answered u) none (some p) z rest = refl
-      go (answered u) none none (some p) rest = refl
-      go (answered u) none none none rest = refl
+      go : (a : Answer (Unit {0})) (x y z : Option ℕ) (last : Answer (Option ℕ)) → follow a (unless 8 x (unless 13 y (unless 7 z last))) ≡
+          follow (follow a (unless 8 x (answered tt))) (follow (unless 13 y (unless 7 z (answered tt))) last)
+      go (refused number place) x y z last = refl
+      go (answered u) (some p) y z last = refl
+      go (answered u) none (some p) z last = refl
+      go (answered u) none none (some p) last = refl
+      go (answered u) none none none last = refl
 
   pub unclean : {number place : ℕ} → clean_said capture ≡ refused number place → open_row_answer capture bank event records words ≡ refused number place
   unclean e = in_parts ∙ ap (λ (a : Answer (Unit {0})). follow a (follow asked rest)) e

@@ -9,7 +9,6 @@ use mathlib.Core.Path.{◌≡◌, refl, sym, ap, ◌∙◌, subst}
 use native.Mathlib.Nat.{mod-eq_of_lt}
 use native.Mathlib.Omega.{arith}
 use lib.Dec.{leb, ltb, eqb, leb-zero}
-use lib.ListN.{set}
 use borrow.Author.Tests.{le-leb, lt-leb, lt-ltb, le-ltb, eqb-false, ne_eqb, not-true}
 use Rattle.reading.specs.Search.{ever, find, lesser, later, or_zero}
 use Rattle.reading.specs.Mode.{h, CL}

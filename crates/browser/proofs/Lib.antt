@@ -1,3 +1,2 @@
--- What stands at a position of a capture; what captures and readers own.
+-- What stands at a position of a capture.
 pub mod Seeing
-pub mod Owning

@@ -11,8 +11,8 @@ use native.Mathlib.Omega.{arith}
 use lib.Dec.{leb, eqb, eqb-suc-zero}
 use lib.ListN.{length, get_or, drop, take, length-append, length-map, length-take, get_or-append}
 use lib.Seq.{get_or-append-add, get_or-take}
-use borrow.Author.Tests.{not-false, eqb-true, leb-true, le-leb, lt-ltb, eq-eqb}
-use Rattle.reading.specs.Search.{given, count}
+use borrow.Author.Tests.{eqb-true, leb-true, le-leb, lt-ltb, eq-eqb}
+use Rattle.reading.specs.Search.{count}
 use Rattle.reading.specs.Words.{word_at, bytes_of}
 use Rattle.reading.specs.Settings.{Limits, settings_count, sleeping_count, limits, settings_of, in_edition, bad_setting}
 use Rattle.reading.specs.Capture.{Event, settings_start, events_start, capture_size, most_events, newest_edition, header_word, count_in, event_count, edition_in, setting_words, event_bytes, event_at, events_of}

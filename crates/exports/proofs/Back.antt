@@ -1,10 +1,10 @@
 -- Events no further apart than stamps can tell: no NOP comes between them, and written as an export they are read back.
-use Rattle.std.proofs.Common.{◌≡◌, ℕ, zero, suc, ◌+◌, ◌-◌, ◌*◌, ◌/◌, ◌%◌, ◌^◌, ◌<◌, ◌≤◌, true, false, not, ◌&&◌, eqb, ltb, List, [], ◌∷◌, ◌++◌, map, length, drop, sym, refl, ap, ◌∙◌, subst, add-zero, add-suc, suc-add, arith, drop-cons, le-ltb, lt-ltb, ne_eqb}
+use Rattle.std.proofs.Common.{◌≡◌, ℕ, zero, suc, ◌+◌, ◌-◌, ◌*◌, ◌%◌, ◌^◌, ◌<◌, ◌≤◌, false, not, List, [], ◌∷◌, ◌++◌, map, length, drop, sym, refl, ap, ◌∙◌, subst, add-zero, add-suc, suc-add, arith, drop-cons, le-ltb, lt-ltb, ne_eqb}
 use mathlib.Core.Option.{none}
 use lib.Dec.{eqb-suc-zero}
 use Rattle.reading.specs.Search.{count}
 use Rattle.reading.specs.Words.{word_at, word_bytes, half_at, half_bytes}
-use Rattle.reading.specs.Capture.{Event, last_cycle}
+use Rattle.reading.specs.Capture.{Event}
 use Rattle.reading.specs.Export.{most_records, record_count, stamp_at, record_pins, around, apart, cycle_of, record_of, records_of, stands, bad_export, bad_pins, reach, between, nop, nops, bridged_from, bridged, record_bytes, export_of, first_cycle}
 use Rattle.reading.proofs.Meaning.{event_of}
 use Rattle.words.proofs.Counting.{counted}

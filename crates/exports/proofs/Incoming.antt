@@ -1,8 +1,7 @@
 -- What reading an export answers, and what it leaves in the buffer, at each place where it ends.
-use Rattle.std.proofs.Common.{◌≡◌, ℕ, ◌+◌, ◌*◌, ◌/◌, ◌%◌, ◌<◌, ◌≤◌, Bool, true, false, cond, not, ◌||◌, eqb, ltb, List, [], ◌++◌, map, length, sym, refl, ap, ◌∙◌, arith, ltb-false, le-ltb, lt-ltb, eqb-true}
+use Rattle.std.proofs.Common.{◌≡◌, ℕ, ◌*◌, ◌%◌, ◌<◌, ◌≤◌, Bool, true, false, cond, not, ◌||◌, eqb, ltb, List, ◌++◌, length, sym, refl, ap, ◌∙◌, arith, ltb-false, le-ltb, lt-ltb, eqb-true}
 use mathlib.Core.Bool.{or-true, or-false}
-use mathlib.Core.Option.{Option, none, some}
-use borrow.Author.Tests.{not-false}
+use mathlib.Core.Option.{Option, none}
 use lib.ListN.{length-map}
 use lib.Seq.{sets}
 use Rattle.reading.specs.Search.{given, or_else, count, lowest}
@@ -10,7 +9,7 @@ use Rattle.reading.specs.Words.{bytes_of}
 use Rattle.reading.specs.Settings.{settings_count, bad_setting}
 use Rattle.reading.specs.Capture.{newest_edition, capture_size}
 use Rattle.reading.specs.Schedule.{event_words, header_of, capture_in}
-use Rattle.reading.specs.Answers.{Answer, refused, answered, unless, Outcome, leaves, fitting}
+use Rattle.reading.specs.Answers.{Answer, answered, unless, Outcome, leaves, fitting}
 use Rattle.reading.specs.Export.{most_records, record_count, record_of, records_of, stands, bad_export, bad_pins, read_outcome}
 use Rattle.words.proofs.Runs.{front}
 use Rattle.words.proofs.Words.{bytes_of-append}

@@ -4,7 +4,7 @@ use lib.Seq.{sets}
 use Rattle.reading.specs.Search.{given}
 use Rattle.reading.specs.Settings.{settings_count, sleeping_count}
 use Rattle.reading.specs.Capture.{Event, most_events, header_word, count_in, events_start, event_count, event_bytes, events_of}
-use Rattle.reading.specs.Answers.{Answer, refused, answered, unless, accepted, Outcome, leaves, fitting}
+use Rattle.reading.specs.Answers.{Answer, answered, unless, Outcome, leaves, fitting}
 use Rattle.reading.specs.Export.{most_records, reach, bridged, export_of, first_cycle, unwritable, write_outcome}
 use Rattle.words.proofs.Runs.{front}
 use Rattle.settings.specs.Meaning as settings
@@ -16,7 +16,7 @@ use Rattle.capture.proofs.Accepted.{Sound, accepted-sound, accepted-rest, cycle-
 use Rattle.capture.proofs.Opened as opening
 use Rattle.exports.specs.declared.Converted.{Converted}
 use Rattle.exports.specs.declared.Converted.TheVariants.{Refused, Written}
-use Rattle.exports.specs.Meaning.{means, Given, Writable, events_in, too_far, stored, storing}
+use Rattle.exports.specs.Meaning.{means, Given, events_in, too_far, stored, storing}
 use Rattle.exports.proofs.Bridges.{export-length}
 use Rattle.exports.proofs.Incoming.{Ends}
 

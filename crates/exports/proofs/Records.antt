@@ -1,12 +1,12 @@
 -- An export read: its records may stand in a capture, and written again they are the export.
-use Rattle.std.proofs.Common.{◌≡◌, ℕ, zero, suc, ◌+◌, ◌-◌, ◌*◌, ◌%◌, ◌^◌, ◌<◌, ◌≤◌, Bool, false, not, ◌&&◌, eqb, ltb, List, [], ◌∷◌, ◌++◌, map, length, get_or, take, drop, sym, refl, ap, ◌∙◌, zero-add, arith, take_all, drop-cons, drop-drop, take-add, ltb-true}
+use Rattle.std.proofs.Common.{◌≡◌, ℕ, zero, suc, ◌+◌, ◌-◌, ◌*◌, ◌%◌, ◌^◌, ◌<◌, ◌≤◌, false, ltb, List, [], ◌∷◌, ◌++◌, map, length, get_or, take, drop, sym, refl, ap, ◌∙◌, zero-add, arith, take_all, drop-cons, drop-drop, take-add, ltb-true}
 use mathlib.Core.Option.{none}
 use borrow.Author.Tests.{eqb-false, not-false}
 use lib.Dec.{eqb-suc-zero}
 use Rattle.reading.specs.Search.{count}
-use Rattle.reading.specs.Words.{word_at, word_bytes, half_at, half_bytes}
+use Rattle.reading.specs.Words.{word_bytes, half_bytes}
 use Rattle.reading.specs.Settings.{settings_count, bad_setting}
-use Rattle.reading.specs.Capture.{Event, newest_edition, last_cycle}
+use Rattle.reading.specs.Capture.{newest_edition}
 use Rattle.reading.specs.Export.{record_count, stamp_at, record_pins, around, apart, cycle_of, record_of, records_of, stands, bad_pins, reach, record_bytes, export_of}
 use Rattle.reading.proofs.Meaning.{event_of}
 use Rattle.words.proofs.Bytes.{Bytes}

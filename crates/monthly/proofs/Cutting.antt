@@ -1,24 +1,21 @@
 -- A stream is cut where the reading cuts it, although no more of it is read than a capture can have.
-use Prim.Native.Nat.{ℕ, zero, suc, ◌+◌, ◌*◌, ◌≤◌, ◌<◌}
-use mathlib.Core.Bool.{Bool, true, false, cond, not, ◌&&◌, and-false}
+use Prim.Native.Nat.{ℕ, suc, ◌≤◌, ◌<◌}
+use mathlib.Core.Bool.{Bool, true, false, cond, and-false}
 use mathlib.Core.List.{List, [], ◌∷◌}
 use mathlib.Core.Path.{◌≡◌, refl, sym, ap, ◌∙◌}
 use native.Mathlib.Decide.{dec_lt}
 use native.Mathlib.Nat.{min-le_left, min-le_right}
 use native.Mathlib.Omega.{arith}
 use borrow.Author.Tests.{lt-ltb, le-ltb, lt-leb, ne_eqb}
-use lib.Dec.{ltb, leb, eqb}
-use lib.ListN.{length, get_or, take, drop, length-take}
+use lib.Dec.{eqb}
+use lib.ListN.{length, take, drop, length-take}
 use lib.Seq.{get_or-take}
-use Rattle.reading.specs.Search.{given}
 use Rattle.reading.specs.Words.{word_at}
-use Rattle.reading.specs.Settings.{bad_setting}
 use Rattle.reading.specs.Capture.{header_word, count_in, capture_size, most_events, length_fits_to}
-use Rattle.reading.specs.Answers.{Answer, refused, unless, accepted_to, judge_answer, judge_answer_to}
-use Rattle.reading.specs.Month as month
-use Rattle.reading.specs.Month.{Line, Month, unused, line_for, line_of, ends_stream, behind, month_from}
+use Rattle.reading.specs.Answers.{refused, accepted_to, judge_answer_to}
+use Rattle.reading.specs.Month.{Line, Month, unused, line_of, ends_stream, behind, month_from}
 use Rattle.capture.proofs.Accepted.{count-range}
-use Rattle.monthly.specs.Meaning.{wanted_of, read_of, left_of}
+use Rattle.monthly.specs.Meaning.{read_of, left_of}
 
 -- ---- bytes of a length that no capture has
 

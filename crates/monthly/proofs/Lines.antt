@@ -3,7 +3,6 @@ use Prim.Native.Nat.{ℕ, zero, suc, ◌+◌, ◌-◌, ◌*◌, ◌≤◌, ◌<�
 use mathlib.Core.Bool.{true, false}
 use mathlib.Core.List.{List, [], ◌∷◌, map}
 use mathlib.Core.Logic.{inl, inr}
-use mathlib.Core.Option.{none}
 use mathlib.Core.Path.{◌≡◌, refl, sym, ap, ◌∙◌}
 use native.Mathlib.Nat.{add-zero, zero-add, add-suc, suc-add}
 use native.Mathlib.Omega.{arith}
@@ -12,7 +11,7 @@ use denote.Enum.Declared.{tag_of}
 use Rattle.reading.specs.Search.{count}
 use Rattle.reading.specs.Settings.{settings_of}
 use Rattle.reading.specs.Capture.{Event, most_events, event_count, event_at, events_of, last_cycle, cycle_fits}
-use Rattle.reading.specs.Bursts.{Burst, reads}
+use Rattle.reading.specs.Bursts.{reads}
 use Rattle.reading.specs.Cells.{bursts_of, beats_by}
 use Rattle.reading.specs.Schedule.{last_from}
 use Rattle.reading.specs.Verdict as is

@@ -1,17 +1,17 @@
 -- The beats of a line are the cells of its burst list.
 use Prim.Native.Nat.{ℕ, ◌+◌}
 use mathlib.Core.List.{List}
-use mathlib.Core.Option.{Option, none, some}
+use mathlib.Core.Option.{none}
 use mathlib.Core.Path.{◌≡◌, refl, sym, ap, ◌∙◌}
 use native.Mathlib.Omega.{arith}
 use lib.ListN.{length}
-use Rattle.reading.specs.Capture.{most_events, events_of, event_count}
-use Rattle.reading.specs.Cells.{bursts_of, beats_of}
+use Rattle.reading.specs.Capture.{most_events, event_count}
+use Rattle.reading.specs.Cells.{beats_of}
 use Rattle.reading.specs.Verdict as is
-use Rattle.reading.specs.Answers.{Answer, answered, unless, Report, settings_in, verdict_in, judge_answer, judge_answer_to, not_clean, accepted, fitting, cells_in, cells_outcome}
+use Rattle.reading.specs.Answers.{answered, unless, Report, settings_in, verdict_in, judge_answer_to, not_clean, accepted, fitting, cells_in, cells_outcome}
 use Rattle.reading.specs.Month.{Line, bursts_in, line_by, line_for, line_of}
 use Rattle.capture.specs.Calls.{Accepted}
-use Rattle.capture.proofs.Outcome.{passed, fits, wrote, not-refused}
+use Rattle.capture.proofs.Outcome.{passed, fits, wrote}
 use Rattle.capture.proofs.Accepted.{answered-in, accepted-rest}
 use Rattle.beats.proofs.Sums.{beats-together, cells-length}
 

@@ -3,7 +3,7 @@ use Prim.Native.Nat.{ℕ, ◌+◌}
 use mathlib.Core.List.{List, [], ◌∷◌, ◌++◌, append-nil, append_assoc}
 use mathlib.Core.Path.{◌≡◌, refl, sym, ap, ◌∙◌}
 use native.Mathlib.Omega.{arith}
-use lib.ListN.{length, length-append}
+use lib.ListN.{length-append}
 use Rattle.reading.specs.Month.{Line, events_told, judged_told, clean_told, broken_told, refused_told, sum_of, Totals, totals_of}
 use Rattle.judge.specs.Meaning.{means}
 use Rattle.monthly.specs.declared.Line as line

@@ -23,7 +23,7 @@ use Rattle.reading.specs.Cells.{bursts_of, cells_of}
 use Rattle.reading.specs.Schedule.{Schedule, planned, late, policy_fits, closes_rows, request_fits, bad_request, schedule_from, schedule_by, schedule_of, served, when_served, capture_of}
 use Rattle.reading.specs.Answers.{Answer, Report, refused, answered, unless, accepted_to, settings_in, verdict_in, judge_answer_to, leaves, fitting, not_clean, cells_in, cells_outcome, when_planned, schedule_outcome}
 use Rattle.reading.specs.Blank.{blanked, blank_outcome}
-use Rattle.reading.specs.Openings.{Opening, opens, last_open, openings_from, openings_of, index_of, row_of, row_after}
+use Rattle.reading.specs.Openings.{Opening, opens, last_open, openings_from, openings_of, index_of, row_after}
 use Rattle.reading.specs.OpenRow.{index_in, row_in, question_fits, open_row_answer}
 use Rattle.reading.proofs.Meaning.{BrokenAt, verdict-broken}
 use Rattle.reading.proofs.Cuts.{All, nil, cons, Whole, bursts-whole}

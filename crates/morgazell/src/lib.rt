@@ -1,4 +1,4 @@
-// The calls for C and Rust programs. Each answers one number, whose bits `specs/Packing` and include/morgazell.h describe.
+// The calls for C and Rust programs, which `morgazell_c` exports. Each answers one number, whose bits `specs/Packing` and include/morgazell.h describe.
 #![tactic(auto)]
 
 ghost use Rattle.std.specs.Prelude.{◌≡◌, ◌<◌, map};
@@ -43,24 +43,21 @@ fn judge_to(capture: &[u8], most: u32) -> u64
 }
 
 // What document 01 says of these bytes as a capture.
-#[unsafe(no_mangle)]
-pub extern "C" fn morgazell_judge(capture: &[u8]) -> u64
+pub fn morgazell_judge(capture: &[u8]) -> u64
     ensures { result ≡ packed (judge_told (judge_answer capture.now)) }
 {
     judge_to(capture, capture::MOST_EVENTS)
 }
 
 // The same of a recording: as many events as the header's words can state.
-#[unsafe(no_mangle)]
-pub extern "C" fn morgazell_recording(recording: &[u8]) -> u64
+pub fn morgazell_recording(recording: &[u8]) -> u64
     ensures { result ≡ packed (judge_told (recording_answer recording.now)) }
 {
     judge_to(recording, capture::MOST_RECORDED)
 }
 
 // The cells of the bursts in these bytes as a capture; what lies behind them in the buffer stays.
-#[unsafe(no_mangle)]
-pub extern "C" fn morgazell_cells(capture: &[u8], out: &mut [u32]) -> u64
+pub fn morgazell_cells(capture: &[u8], out: &mut [u32]) -> u64
     ensures value { result ≡ packed (count_told (cells_outcome capture.now out.old).answer) }
     ensures out_after { out.new ≡ (cells_outcome capture.now out.old).buffer }
 {
@@ -72,8 +69,7 @@ pub extern "C" fn morgazell_cells(capture: &[u8], out: &mut [u32]) -> u64
 }
 
 // The schedule of the requests by a row policy, 0 open and 1 closed, as a whole capture; bytes behind it in the buffer stay.
-#[unsafe(no_mangle)]
-pub extern "C" fn morgazell_schedule(
+pub fn morgazell_schedule(
     settings: &[u32],
     requests: &[u32],
     policy: u32,
@@ -90,8 +86,7 @@ pub extern "C" fn morgazell_schedule(
 }
 
 // These bytes as a capture, its addresses blanked; bytes behind it in the buffer stay.
-#[unsafe(no_mangle)]
-pub extern "C" fn morgazell_blank(capture: &[u8], out: &mut [u8]) -> u64
+pub fn morgazell_blank(capture: &[u8], out: &mut [u8]) -> u64
     ensures value { result ≡ packed (count_told (blank_outcome capture.now out.old).answer) }
     ensures out_after { out.new ≡ (blank_outcome capture.now out.old).buffer }
 {
@@ -103,8 +98,7 @@ pub extern "C" fn morgazell_blank(capture: &[u8], out: &mut [u8]) -> u64
 }
 
 // These records of a handheld analyser as a capture of these settings and this edition; bytes behind it in the buffer stay.
-#[unsafe(no_mangle)]
-pub extern "C" fn morgazell_read_export(
+pub fn morgazell_read_export(
     records: &[u8],
     settings: &[u32],
     edition: u32,
@@ -121,8 +115,7 @@ pub extern "C" fn morgazell_read_export(
 }
 
 // These bytes as a capture, as records of a handheld analyser; bytes behind them in the buffer stay.
-#[unsafe(no_mangle)]
-pub extern "C" fn morgazell_write_export(capture: &[u8], out: &mut [u8]) -> u64
+pub fn morgazell_write_export(capture: &[u8], out: &mut [u8]) -> u64
     ensures value { result ≡ packed (count_told (write_outcome capture.now out.old).answer) }
     ensures out_after { out.new ≡ (write_outcome capture.now out.old).buffer }
 {
@@ -148,8 +141,7 @@ fn packed_row(t: Told) -> u64
 
 // Which row of the bank was open after the event, in these bytes as a capture. The four records and the index are filled; what
 // lies behind them stays.
-#[unsafe(no_mangle)]
-pub extern "C" fn morgazell_open_row(
+pub fn morgazell_open_row(
     capture: &[u8],
     bank: u32,
     event: u32,
@@ -167,8 +159,7 @@ pub extern "C" fn morgazell_open_row(
 
 // These bytes as a capture, played on the window of cells from `first` on, with the words and masks of `writes`; what lies behind
 // the words read stays.
-#[unsafe(no_mangle)]
-pub extern "C" fn morgazell_play(
+pub fn morgazell_play(
     capture: &[u8],
     first: u32,
     window: &mut [u32],
@@ -187,8 +178,7 @@ pub extern "C" fn morgazell_play(
 }
 
 // 10203 for version 1.2.3.
-#[unsafe(no_mangle)]
-pub extern "C" fn morgazell_version() -> u32
+pub fn morgazell_version() -> u32
     ensures { result ≡ version }
 {
     version::number()

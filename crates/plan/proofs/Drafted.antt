@@ -17,7 +17,7 @@ use Rattle.reading.specs.Schedule.{asks_write, first_cell, cell_bank, cell_row, 
 use Rattle.reading.specs.Schedule.{free_from, placed, send, send_all, send_request, send_refresh, refresh_in_time, served, event_words}
 use Rattle.words.proofs.Events.{words-length, words_append}
 use Rattle.deadlines.specs.Deadlines.{OPENED, OVERDUE, at, pace_of, all_idle, active_after, close_after, close_all_after, refresh_after}
-use Rattle.bridge.specs.Summary.{laid, summary}
+use Rattle.bridge.specs.Summary.{summary}
 use Rattle.bridge.proofs.Laid as laid
 use Rattle.bridge.proofs.Tests.{open_is}
 use Rattle.memory.proofs.Pins.{bank-small}

@@ -8,15 +8,14 @@ use mathlib.Core.Path.{◌≡◌, refl, sym, ap, ◌∙◌, subst}
 use native.Mathlib.Nat.{zero-add}
 use native.Mathlib.Omega.{arith}
 use borrow.Author.Tests.{lt-ltb, le-ltb}
-use lib.Dec.{ltb, eqb}
+use lib.Dec.{ltb}
 use lib.ListN.{length, take, drop, get_or, length-append}
 use lib.Seq.{sets}
 use Rattle.reading.specs.Search.{count, given}
 use Rattle.reading.specs.Settings.{Settings, settings_of, setting_fits}
-use Rattle.reading.specs.Capture.{Event, most_events, setting_words, count_in, events_of}
+use Rattle.reading.specs.Capture.{Event, most_events, setting_words, events_of}
 use Rattle.reading.specs.Bursts.{Burst, beat_cell}
 use Rattle.reading.specs.Cells.{bursts_of}
-use Rattle.reading.specs.Verdict.{Verdict}
 use Rattle.reading.specs.Mode.{BL}
 use Rattle.reading.specs.Memory.{Run, load, store_beats, play, replay_bursts, replay}
 use Rattle.reading.specs.Answers.{Answer, refused, answered, unless, accepted, Report, settings_in, verdict_in, judge_answer, judge_answer_to, not_clean}
@@ -30,9 +29,8 @@ use Rattle.capture.specs.Calls.{opened, Accepted}
 use Rattle.capture.proofs.Outcome.{follow, not-answered, not-refused}
 use Rattle.capture.proofs.Accepted.{followed, accepted-rest, accepted-sound, count-range}
 use Rattle.capture.proofs.Opened.{Opened}
-use Rattle.judge.specs.Meaning as judge
 use Rattle.judge.specs.Meaning.{events_in}
-use Rattle.cells.specs.Meaning.{Clean, bursts_on}
+use Rattle.cells.specs.Meaning.{Clean}
 use Rattle.cells.proofs.Listing.{listable}
 use Rattle.player.specs.declared.Played.{Played}
 use Rattle.player.specs.declared.Played.TheVariants.{Refused, Words}

@@ -1,11 +1,8 @@
 -- Lanes of a word, one after another.
 use Prim.Native.Nat.{ℕ, ◌*◌, ◌%◌, ◌^◌, ◌<◌}
-use mathlib.Core.Bool.{true, false}
-use mathlib.Core.Path.{◌≡◌, refl, sym, ap, ◌∙◌}
+use mathlib.Core.Path.{◌≡◌, sym, ap, ◌∙◌}
 use native.Mathlib.Nat.{mod-eq_of_lt}
-use native.Mathlib.Omega.{arith}
 use borrow.Author.Tests.{eq-eqb, ne_eqb}
-use lib.Dec.{eqb}
 use Rattle.reading.specs.Words.{bit}
 use Rattle.reading.specs.Memory.{lane_of, with_lane, merged}
 use Rattle.player.specs.Playing.{datum, laned, lanes_by}

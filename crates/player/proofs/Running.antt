@@ -1,8 +1,8 @@
 -- The second walk: the run of the part up to event i, and that the rest of it ends the whole.
 use Prim.Native.Nat.{ℕ, ◌+◌, ◌-◌, ◌*◌, ◌≤◌, ◌<◌}
-use mathlib.Core.Bool.{Bool, true, false, cond, not, ◌&&◌}
+use mathlib.Core.Bool.{Bool, true, false, cond, not}
 use mathlib.Core.List.{List, [], ◌∷◌, ◌++◌, map}
-use mathlib.Core.Option.{Option, none, some}
+use mathlib.Core.Option.{none, some}
 use mathlib.Core.Path.{◌≡◌, refl, sym, ap, ◌∙◌}
 use native.Mathlib.Nat.{zero-add, sub-zero}
 use native.Mathlib.Omega.{arith}
@@ -13,9 +13,8 @@ use lib.Seq.{sets, length-sets, take-take, drop-drop}
 use Rattle.reading.specs.Search.{count, every}
 use Rattle.reading.specs.Mode.{BL}
 use Rattle.reading.specs.Settings.{Settings, settings_of}
-use Rattle.reading.specs.Capture.{Event}
 use Rattle.reading.specs.Bursts.{Burst, beat_cell, burst_cells}
-use Rattle.reading.specs.Memory.{Contents, Datum, Run, lanes, load, store_beats, play, replay_bursts, replay}
+use Rattle.reading.specs.Memory.{Datum, Run, lanes, load, store_beats, play, replay_bursts, replay}
 use Rattle.reading.specs.Player.{in_window, windowed, datum_at, data_of, takes, playable, unplayable, played_on}
 use Rattle.reading.proofs.Laws.{both}
 use Rattle.words.proofs.Runs.{sets-append}
@@ -25,7 +24,7 @@ use Rattle.beats.proofs.Columns.{length-pos}
 use Rattle.cells.specs.Meaning.{burst_at, bursts_on, At, Listable, Clean}
 use Rattle.cells.proofs.Walked.{rest, rest-begins, rest-ends}
 use Rattle.player.specs.Playing.{cell_in, lanes_by, stored_from, shown_at, words_read}
-use Rattle.player.proofs.Given.{Found, next-none, there, next-some, in_row, cells_are, kept-are, mode-is, next-at}
+use Rattle.player.proofs.Given.{Found, next-none, there, next-some, cells_are, kept-are, mode-is, next-at}
 use Rattle.player.proofs.Window.{shows, length-counted, stored-shows, window-shows, data-length, some-data, shown-loads}
 
 -- the first burst can be played, and so can the others

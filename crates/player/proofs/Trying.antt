@@ -1,7 +1,7 @@
 -- The first walk: what was tried before event i, and the bursts of the events from i on decide.
 use Prim.Native.Nat.{ℕ, ◌+◌, ◌-◌, ◌*◌, ◌≤◌, ◌<◌}
 use mathlib.Core.Bool.{Bool, true, false, cond, not, ◌&&◌}
-use mathlib.Core.List.{List, [], ◌∷◌, ◌++◌, map}
+use mathlib.Core.List.{List, ◌∷◌, map}
 use mathlib.Core.Option
 use mathlib.Core.Option.{Option, none, some}
 use mathlib.Core.Path.{◌≡◌, refl, sym, ap, ◌∙◌}
@@ -13,7 +13,7 @@ use Rattle.reading.specs.Search.{count, every}
 use Rattle.reading.specs.Mode.{BL}
 use Rattle.reading.specs.Settings.{Settings, settings_of}
 use Rattle.reading.specs.Capture.{Event}
-use Rattle.reading.specs.Bursts.{Burst, reads, burst_cells}
+use Rattle.reading.specs.Bursts.{Burst, burst_cells}
 use Rattle.reading.specs.Answers.{Answer, refused, answered, unless}
 use Rattle.reading.specs.Player.{in_window, takes, playable, unplayable, event_of_burst}
 use Rattle.judge.specs.Meaning.{events_in}
@@ -21,7 +21,7 @@ use Rattle.beats.specs.Rows.{first_cells}
 use Rattle.cells.specs.Meaning.{burst_at, bursts_on, At, Listable, Clean}
 use Rattle.cells.proofs.Walked.{rest, rest-begins, rest-ends}
 use Rattle.player.specs.Playing.{cell_in, words_read, tried}
-use Rattle.player.proofs.Given.{Found, next-none, there, next-some, event-is, in_row, kept-are, mode-is, next-at}
+use Rattle.player.proofs.Given.{Found, next-none, next-some, event-is, in_row, kept-are, mode-is, next-at}
 
 -- ---- one burst
 

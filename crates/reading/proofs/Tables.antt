@@ -7,11 +7,10 @@ use mathlib.Core.Path.{◌≡◌, refl, sym, ap, ◌∙◌}
 use native.Mathlib.Nat.{mod-lt, mod-add-mod, mod-eq_of_lt, mod-eq-sub-mod}
 use native.Mathlib.Omega.{arith}
 use lib.Bits.{bit_xor, xor_step, differ}
-use lib.ListN.{get_or}
 use lib.Pow.{pow_pos}
 use Rattle.reading.specs.Search.{count}
 use Rattle.reading.specs.Mode.{BL, interleaved}
-use Rattle.reading.specs.Bursts.{place, beat_column}
+use Rattle.reading.specs.Bursts.{place}
 
 -- ---- the tables
 

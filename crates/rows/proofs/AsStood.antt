@@ -2,13 +2,13 @@
 use Prim.Native.Nat.{ℕ, suc}
 use mathlib.Core.Bool.{Bool, true, false, cond, ◌&&◌, ◌||◌}
 use mathlib.Core.List.{List, [], ◌∷◌}
-use mathlib.Core.Option.{Option, none, some}
+use mathlib.Core.Option.{some}
 use mathlib.Core.Path.{◌≡◌, refl, ap, ◌∙◌, sym, subst}
 use lib.Dec.{eqb}
 use Rattle.reading.specs.Settings.{Settings}
 use Rattle.reading.specs.Capture.{Event}
-use Rattle.reading.specs.Commands.{Command, ACTIVE, READ, WRITE, PRECHARGE, is, among, names, command_of}
-use Rattle.reading.specs.Part.{Part, Bank, open_on, idle_from, auto_precharge, bank_after, start, step, run}
+use Rattle.reading.specs.Commands.{Command, command_of}
+use Rattle.reading.specs.Part.{Part, Bank, open_on, idle_from, auto_precharge, start, step, run}
 use Rattle.reading.specs.Openings.{row_of, opens}
 use Rattle.pins.specs.Pins.{code_of, bank_of, address_of, ten_of, gives}
 use Rattle.pins.proofs.Commands.{active-is, precharge-is}
@@ -16,7 +16,7 @@ use Rattle.beats.specs.Kept.{names_bank}
 use Rattle.pins.proofs.Commands.{gives-is}
 use Rattle.rows.specs.declared.Standing.{Standing}
 use Rattle.rows.specs.declared.Standing.TheVariants.{Idle, Open}
-use Rattle.rows.specs.Walks.{opens_bank, closes_bank, stood_of, stand_of, stand_after, row_stood}
+use Rattle.rows.specs.Walks.{opens_bank, stood_of, stand_of, stand_after, row_stood}
 
 -- a bank of the reading that stands so
 abbrev pub As : Standing → Bank → Type 0

@@ -1,6 +1,5 @@
 -- The invariant: what the events from j on leave of the whole burst is what is kept in the end (Looking).
 use native.Mathlib.Omega.{arith}
-use Prim.Native.Nat.{◌-◌}
 use mathlib.Core.Path.{sym, ◌∙◌}
 use Rattle.capture.proofs.Accepted.{cycle-fits, cycles-rise}
 use Rattle.beats.proofs.Columns.{half_le}

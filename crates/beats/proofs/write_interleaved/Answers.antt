@@ -1,5 +1,5 @@
 -- The invariant: the list as it was, with the first cells stored from `at` on (Storing).
-use Prim.Native.Nat.{ℕ, ◌+◌, ◌*◌, ◌-◌}
+use Prim.Native.Nat.{ℕ, ◌+◌, ◌*◌}
 use mathlib.Core.Bool.{true}
 use mathlib.Core.Path.{refl}
 use native.Mathlib.Omega.{arith}
@@ -16,11 +16,11 @@ loop-beat-init c = begins (λ (j : ℕ). c.args.block + place_in true c.args.siz
 
 pub overflow_add-out : goal.overflow_add-out
 overflow_add-out c = omega (
-      arith,
-      c.requires.in_block.cell,
-      place-lt true c.args.size c.args.column c.loop-beat.beat c.requires.in_block.some c.requires.in_block.most
-          (omega (arith, c.requires.in_block.short)),
-    )
+  arith,
+  c.requires.in_block.cell,
+  place-lt true c.args.size c.args.column c.loop-beat.beat c.requires.in_block.some c.requires.in_block.most
+      (omega (arith, c.requires.in_block.short)),
+)
 
 pub offset_bounds-out-next : goal.offset_bounds-out-next
 offset_bounds-out-next c = omega arith

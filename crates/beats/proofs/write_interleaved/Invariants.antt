@@ -1,5 +1,5 @@
 -- The invariant: the list as it was, with the first cells stored from `at` on (Storing).
-use Prim.Native.Nat.{ℕ, ◌+◌, ◌*◌, ◌-◌}
+use Prim.Native.Nat.{ℕ, ◌+◌, ◌*◌}
 use mathlib.Core.Bool.{true}
 use Rattle.beats.specs.Rows.{place_in}
 use Rattle.beats.proofs.Storing.{Stored}

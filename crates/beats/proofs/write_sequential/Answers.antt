@@ -1,7 +1,7 @@
 -- The invariant: the list as it was, with the cells of the pairs before stored from `at` on (Storing).
 use Prim.Native.Nat.{◌%◌}
 use lib.ListN.{length-set}
-use Prim.Native.Nat.{ℕ, ◌+◌, ◌*◌, ◌-◌}
+use Prim.Native.Nat.{ℕ, ◌+◌, ◌*◌}
 use mathlib.Core.Bool.{false}
 use mathlib.Core.Path.{ap}
 use native.Mathlib.Nat.{mod-lt}
@@ -11,8 +11,7 @@ use Rattle.beats.proofs.Storing.{begins, pair-on, ends}
 use Rattle.beats.proofs.write_sequential.Goals as goal
 
 pub loop-pair-init : goal.loop-pair-init
-loop-pair-init c =
-    (
+loop-pair-init c = (
   begins (λ (j : ℕ). c.args.block + place_in false c.args.size c.args.column j) c.args.out.now c.args.at (2 * c.args.pairs),
   omega arith,
 )
@@ -40,12 +39,12 @@ offset_bounds-out-next-in-loop-pair c = omega arith
 
 pub bounds-out-next-in-loop-pair : goal.bounds-out-next-in-loop-pair
 bounds-out-next-in-loop-pair c = omega (
-      arith,
-      length-set c.loop-pair.out c.loop-pair.next (c.args.block + c.loop-pair.from % c.args.size),
-      c.loop-pair.invariant.0.place,
-      c.loop-pair.invariant.0.size,
-      c.requires.pairs_in_bounds,
-    )
+  arith,
+  length-set c.loop-pair.out c.loop-pair.next (c.args.block + c.loop-pair.from % c.args.size),
+  c.loop-pair.invariant.0.place,
+  c.loop-pair.invariant.0.size,
+  c.requires.pairs_in_bounds,
+)
 
 pub overflow_add-from : goal.overflow_add-from
 overflow_add-from c = omega (arith, c.loop-pair.invariant.1, c.requires.in_block.low, c.requires.in_block.short)
@@ -61,11 +60,11 @@ loop-pair-smaller c = omega arith
 
 pub loop-pair-preserved : goal.loop-pair-preserved
 loop-pair-preserved c = let a = c.args in (
-      pair-on (λ (j : ℕ). a.block + place_in false a.size a.column j) a.out.now a.at (2 * a.pairs) c.loop-pair.pair
-          c.loop-pair.invariant.0 (omega arith) (rw c.loop-pair.invariant.1)
-          (ap (λ (k : ℕ). a.block + k % a.size) (omega (arith, c.loop-pair.invariant.1))),
-      omega (arith, c.loop-pair.invariant.1),
-    )
+  pair-on (λ (j : ℕ). a.block + place_in false a.size a.column j) a.out.now a.at (2 * a.pairs) c.loop-pair.pair
+      c.loop-pair.invariant.0 (omega arith) (rw c.loop-pair.invariant.1)
+      (ap (λ (k : ℕ). a.block + k % a.size) (omega (arith, c.loop-pair.invariant.1))),
+  omega (arith, c.loop-pair.invariant.1),
+)
 
 pub shape_of-out : goal.shape_of-out
 shape_of-out c = c.loop-pair.invariant.0.size

@@ -1,5 +1,5 @@
 -- The invariant: the list as it was, with the cells of the pairs before stored from `at` on (Storing).
-use Prim.Native.Nat.{ℕ, ◌+◌, ◌*◌, ◌-◌}
+use Prim.Native.Nat.{ℕ, ◌+◌, ◌*◌}
 use mathlib.Core.Bool.{false}
 use mathlib.Core.Path.{◌≡◌}
 use Rattle.beats.specs.Rows.{place_in}

@@ -1,4 +1,3 @@
-use Prim.Native.Nat.{◌-◌}
 use native.Mathlib.Omega.{arith}
 use Rattle.capture.proofs.Fitting.{begins, goes_on, ends, no-events}
 use Rattle.capture.proofs.all_fit.Goals as goal

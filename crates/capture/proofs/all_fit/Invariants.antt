@@ -1,4 +1,3 @@
-use Prim.Native.Nat.{◌-◌}
 use Rattle.capture.proofs.Fitting.{Looked}
 use Rattle.capture.proofs.all_fit.Given as goal
 

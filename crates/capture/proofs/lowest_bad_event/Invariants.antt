@@ -1,5 +1,4 @@
 -- The invariant: `next` is the first cycle above that of the event before i, and what is found from i on is what is found at all.
-use Prim.Native.Nat.{◌-◌}
 use Rattle.capture.proofs.Walks.{Sought}
 use Rattle.capture.proofs.lowest_bad_event.Given as goal
 

@@ -1,9 +1,6 @@
 use mathlib.Core.Path.{sym, ap, ◌∙◌}
-use mathlib.Core.Bool.{true, false}
 use native.Mathlib.Omega.{arith}
 use borrow.Author.Tests.{not-true, not-false}
-use lib.ListN.{length}
-use Rattle.reading.specs.Capture.{setting_words}
 use Rattle.reading.specs.Answers.{Answer, answered, unless}
 use Rattle.words.specs.Found.{place_of}
 use Rattle.words.specs.declared.Found.{Found}

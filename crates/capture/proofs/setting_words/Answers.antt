@@ -1,5 +1,4 @@
 -- The invariant: with the words from i on stored too, all are there.
-use Prim.Native.Nat.{◌-◌}
 use native.Mathlib.Omega.{arith}
 use Rattle.capture.proofs.Walks.{none-loaded, one_more, all-loaded}
 use Rattle.capture.proofs.setting_words.Goals as goal

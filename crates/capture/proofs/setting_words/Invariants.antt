@@ -1,5 +1,4 @@
 -- The invariant: with the words from i on stored too, all are there.
-use Prim.Native.Nat.{◌-◌}
 use Rattle.capture.proofs.Walks.{Loading}
 use Rattle.capture.proofs.setting_words.Given as goal
 

@@ -1,6 +1,5 @@
 use native.Mathlib.Omega.{arith}
 use mathlib.Core.Path.{refl, ◌∙◌}
-use borrow.Author.Tests.{not-true, not-false}
 use Rattle.reading.specs.Settings.{settings_of}
 use Rattle.cells.proofs.Pairs.{pair-kept}
 use Rattle.cells.proofs.Walked.{given_is}

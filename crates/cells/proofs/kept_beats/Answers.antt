@@ -1,5 +1,5 @@
 -- The invariant: the beats are those counted, and those of the events from i on (Counting).
-use Prim.Native.Nat.{◌+◌, ◌-◌}
+use Prim.Native.Nat.{◌+◌}
 use mathlib.Core.Path.{refl}
 use native.Mathlib.Omega.{arith}
 use Rattle.reading.specs.Settings.{settings_of}

@@ -11,8 +11,11 @@ returns-in-At c = let a = c.args in
 
 pub lacking-short-requires : goal.lacking-short-requires
 lacking-short-requires c =
-    let a = c.args in record { listable = c.requires; clean = none-broken (settings_of a.s.now) a.bytes.now a.n a.out.now c.first_broken-broken.result c.first_broken-broken.ensures
-          c.in_default.is }
+    let a = c.args in record {
+      listable = c.requires;
+      clean = none-broken (settings_of a.s.now) a.bytes.now a.n a.out.now c.first_broken-broken.result c.first_broken-broken.ensures
+          c.in_default.is;
+    }
 
 pub returns-in-At-short : goal.returns-in-At-short
 returns-in-At-short c = let a = c.args in

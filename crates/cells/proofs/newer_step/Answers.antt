@@ -1,7 +1,6 @@
 use Prim.Native.Nat.{◌+◌}
 use native.Mathlib.Omega.{arith}
 use mathlib.Core.Path.{refl}
-use borrow.Author.Tests.{not-true, not-false}
 use Rattle.reading.specs.Settings.{settings_of}
 use Rattle.reading.specs.Capture.{event_at}
 use Rattle.beats.specs.Kept.{events_from}
@@ -23,8 +22,11 @@ column-column-requires c = c.requires.listable.0.sized
 
 pub interrupted-left-requires : goal.interrupted-left-requires
 interrupted-left-requires c = let a = c.args in
-    let later = events_from a.bytes.now a.n (a.i + 1) in record { fit = (fitting a.s.now a.bytes.now a.n c.requires.listable.0, c.requires.listable.1); bound = early-keeps (settings_of a.s.now) a.mode (event_at a.bytes.now a.i) later c.pins_at-w.ensures c.interruptible.ensures
-          c.if-interruptible.true c.requires.keeps_pair }
+    let later = events_from a.bytes.now a.n (a.i + 1) in record {
+      fit = (fitting a.s.now a.bytes.now a.n c.requires.listable.0, c.requires.listable.1);
+      bound = early-keeps (settings_of a.s.now) a.mode (event_at a.bytes.now a.i) later c.pins_at-w.ensures c.interruptible.ensures
+          c.if-interruptible.true c.requires.keeps_pair;
+    }
 
 pub returns-then-interruptible : goal.returns-then-interruptible
 returns-then-interruptible c = let a = c.args in

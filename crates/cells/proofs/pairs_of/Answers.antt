@@ -12,8 +12,11 @@ pins_at-w-requires c = omega (arith, c.requires.listable.0.fit.long)
 
 pub interrupted-requires : goal.interrupted-requires
 interrupted-requires c = let a = c.args in
-    let later = events_from a.bytes.now a.n (a.i + 1) in record { fit = (fitting a.s.now a.bytes.now a.n c.requires.listable.0, c.requires.listable.1); bound = early-keeps (settings_of a.s.now) a.mode (event_at a.bytes.now a.i) later c.pins_at-w.ensures c.interruptible.ensures
-          c.if-interruptible.true c.requires.keeps_pair }
+    let later = events_from a.bytes.now a.n (a.i + 1) in record {
+      fit = (fitting a.s.now a.bytes.now a.n c.requires.listable.0, c.requires.listable.1);
+      bound = early-keeps (settings_of a.s.now) a.mode (event_at a.bytes.now a.i) later c.pins_at-w.ensures c.interruptible.ensures
+          c.if-interruptible.true c.requires.keeps_pair;
+    }
 
 pub returns-then-interruptible : goal.returns-then-interruptible
 returns-then-interruptible c = let a = c.args in

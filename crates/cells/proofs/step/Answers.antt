@@ -1,7 +1,6 @@
 use Prim.Native.Nat.{◌+◌}
 use native.Mathlib.Omega.{arith}
 use mathlib.Core.Path.{refl}
-use borrow.Author.Tests.{not-true, not-false}
 use Rattle.reading.specs.Settings.{settings_of}
 use Rattle.reading.specs.Capture.{event_at}
 use Rattle.beats.specs.Kept.{events_from}

@@ -1,5 +1,4 @@
 -- The invariant: the buffer as it was, with the cells of the events before i stored from its front on (Writing).
-use Prim.Native.Nat.{◌-◌}
 use mathlib.Core.Path.{refl}
 use native.Mathlib.Omega.{arith}
 use Rattle.reading.specs.Settings.{settings_of}

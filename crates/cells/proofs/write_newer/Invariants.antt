@@ -1,5 +1,4 @@
 -- The invariant: the buffer as it was, with the cells of the events before i stored from its front on (Writing).
-use Prim.Native.Nat.{◌-◌}
 use Rattle.cells.proofs.Writing.{Written}
 use Rattle.cells.proofs.write_newer.Given as goal
 

@@ -1,4 +1,4 @@
-use Rattle.std.proofs.Common.{◌-◌, arith}
+use Rattle.std.proofs.Common.{arith}
 use Rattle.exports.specs.Meaning.{too_high}
 use Rattle.exports.proofs.Stamps.{low, high}
 use Rattle.exports.proofs.Searching.{begins, goes_on, stops, ends}

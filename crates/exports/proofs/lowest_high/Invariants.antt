@@ -1,6 +1,4 @@
-use Rattle.std.proofs.Common.{◌-◌}
 use Rattle.exports.specs.Meaning.{too_high}
-use Rattle.exports.proofs.Stamps.{high}
 use Rattle.exports.proofs.Searching.{Sought}
 use Rattle.exports.proofs.lowest_high.Given as goal
 

@@ -1,4 +1,3 @@
-use Rattle.std.proofs.Common.{◌-◌}
 use Rattle.reading.specs.Export.{stands}
 use Rattle.exports.proofs.Searching.{Sought}
 use Rattle.exports.proofs.lowest_standing.Given as goal

@@ -1,4 +1,4 @@
-use Rattle.std.proofs.Common.{◌-◌, arith}
+use Rattle.std.proofs.Common.{arith}
 use Rattle.exports.proofs.Filling.{reads_none, reads_on, all_read}
 use Rattle.exports.proofs.put_events.Goals as goal
 

@@ -1,4 +1,3 @@
-use Rattle.std.proofs.Common.{◌-◌}
 use Rattle.exports.proofs.Filling.{Reading}
 use Rattle.exports.proofs.put_events.Given as goal
 

@@ -1,4 +1,4 @@
-use Rattle.std.proofs.Common.{◌≡◌, ◌-◌, length, refl, ap, ◌∙◌, arith}
+use Rattle.std.proofs.Common.{◌≡◌, length, refl, ap, ◌∙◌, arith}
 use lib.Seq.{length-sets}
 use Rattle.exports.proofs.Bridges.{stores-none, bridging, place-fits, stores-on, all-stored}
 use Rattle.exports.proofs.put_export.Goals as goal

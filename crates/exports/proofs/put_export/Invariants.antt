@@ -1,4 +1,3 @@
-use Rattle.std.proofs.Common.{◌-◌}
 use Rattle.exports.proofs.Bridges.{Exporting}
 use Rattle.exports.proofs.put_export.Given as goal
 

@@ -1,4 +1,4 @@
-use Rattle.std.proofs.Common.{◌-◌, refl, arith}
+use Rattle.std.proofs.Common.{refl, arith}
 use Rattle.exports.proofs.Bridges.{nops-none, nops-on, nops-stored}
 use Rattle.exports.proofs.put_nops.Goals as goal
 

@@ -1,4 +1,3 @@
-use Rattle.std.proofs.Common.{◌-◌}
 use Rattle.exports.proofs.Bridges.{Nopping}
 use Rattle.exports.proofs.put_nops.Given as goal
 

@@ -1,4 +1,4 @@
-use Rattle.std.proofs.Common.{◌-◌, refl, arith}
+use Rattle.std.proofs.Common.{refl, arith}
 use Rattle.exports.proofs.Bridges.{counts-none, counts-on, all-counted}
 use Rattle.exports.proofs.records_needed.Goals as goal
 

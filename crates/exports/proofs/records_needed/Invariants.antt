@@ -1,4 +1,3 @@
-use Rattle.std.proofs.Common.{◌-◌}
 use Rattle.exports.proofs.Bridges.{Counting}
 use Rattle.exports.proofs.records_needed.Given as goal
 

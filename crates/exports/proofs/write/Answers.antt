@@ -1,5 +1,4 @@
 use Rattle.std.proofs.Common.{arith}
-use Rattle.reading.specs.Capture.{events_start}
 use Rattle.exports.proofs.Outgoing.{refused-so, long, sleeps, counted, too_far_lem, few, ends}
 use Rattle.exports.proofs.write.Goals as goal
 
@@ -10,8 +9,11 @@ returns-in-Refused c = let a = c.args in
 
 pub events_start-requires : goal.events_start-requires
 events_start-requires c =
-    omega (arith, (let a = c.args in
-    long a.capture.now a.out.now c.open-checked.ensures c.in_default.is))
+    omega (
+      arith,
+      (let a = c.args in
+          long a.capture.now a.out.now c.open-checked.ensures c.in_default.is),
+    )
 
 pub returns-then-events_start-gt-EVENTS : goal.returns-then-events_start-gt-EVENTS
 returns-then-events_start-gt-EVENTS c = let a = c.args in
@@ -20,8 +22,11 @@ returns-then-events_start-gt-EVENTS c = let a = c.args in
 
 pub event_count-n-requires : goal.event_count-n-requires
 event_count-n-requires c =
-    omega (arith, (let a = c.args in
-    long a.capture.now a.out.now c.open-checked.ensures c.in_default.is))
+    omega (
+      arith,
+      (let a = c.args in
+          long a.capture.now a.out.now c.open-checked.ensures c.in_default.is),
+    )
 
 pub event_bytes-bytes-requires : goal.event_bytes-bytes-requires
 event_bytes-bytes-requires c =
@@ -35,8 +40,11 @@ records_needed-records-requires c = let a = c.args in
 
 pub too_far-requires : goal.too_far-requires
 too_far-requires c =
-    let a = c.args in record { given = counted a.capture.now a.out.now c.open-checked.ensures c.in_default.is c.events_start.ensures.value
-          c.if-events_start-gt-EVENTS.false c.event_count-n.ensures c.event_bytes-bytes.ensures; records_value = c.records_needed-records.ensures }
+    let a = c.args in record {
+      given = counted a.capture.now a.out.now c.open-checked.ensures c.in_default.is c.events_start.ensures.value
+          c.if-events_start-gt-EVENTS.false c.event_count-n.ensures c.event_bytes-bytes.ensures;
+      records_value = c.records_needed-records.ensures;
+    }
 
 pub returns-then-too_far : goal.returns-then-too_far
 returns-then-too_far c = let a = c.args in
@@ -46,10 +54,14 @@ returns-then-too_far c = let a = c.args in
 
 pub store-requires : goal.store-requires
 store-requires c =
-    let a = c.args in record { given = counted a.capture.now a.out.now c.open-checked.ensures c.in_default.is c.events_start.ensures.value
-          c.if-events_start-gt-EVENTS.false c.event_count-n.ensures c.event_bytes-bytes.ensures; records_value = c.records_needed-records.ensures; records_le_most_records = few a.capture.now a.out.now c.open-checked.ensures c.in_default.is c.events_start.ensures.value
-            c.if-events_start-gt-EVENTS.false c.event_count-n.ensures c.event_bytes-bytes.ensures c.too_far.ensures c.if-too_far.false
-            c.records_needed-records.ensures }
+    let a = c.args in record {
+      given = counted a.capture.now a.out.now c.open-checked.ensures c.in_default.is c.events_start.ensures.value
+          c.if-events_start-gt-EVENTS.false c.event_count-n.ensures c.event_bytes-bytes.ensures;
+      records_value = c.records_needed-records.ensures;
+      records_le_most_records = few a.capture.now a.out.now c.open-checked.ensures c.in_default.is c.events_start.ensures.value
+          c.if-events_start-gt-EVENTS.false c.event_count-n.ensures c.event_bytes-bytes.ensures c.too_far.ensures c.if-too_far.false
+          c.records_needed-records.ensures;
+    }
 
 pub returns : goal.returns
 returns c = let a = c.args in

@@ -1,4 +1,3 @@
-use Prim.Native.Nat.{◌-◌}
 use native.Mathlib.Omega.{arith}
 use Rattle.hidden.proofs.Filling.{copies-none, copies-on, copied}
 use Rattle.hidden.proofs.copy.Goals as goal

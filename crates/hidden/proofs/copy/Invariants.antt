@@ -1,4 +1,3 @@
-use Prim.Native.Nat.{◌-◌}
 use Rattle.hidden.proofs.Filling.{Copying}
 use Rattle.hidden.proofs.copy.Given as goal
 

@@ -1,4 +1,3 @@
-use Prim.Native.Nat.{◌-◌}
 use Rattle.reading.specs.Settings.{settings_of}
 use Rattle.hidden.proofs.Filling.{Writing}
 use Rattle.hidden.proofs.write_events.Given as goal

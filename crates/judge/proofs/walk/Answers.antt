@@ -1,4 +1,3 @@
-use Prim.Native.Nat.{◌-◌}
 use native.Mathlib.Omega.{arith}
 use Rattle.judge.proofs.Walking.{begins, kept_on, broke-at, ends}
 use Rattle.judge.proofs.walk.Goals as goal

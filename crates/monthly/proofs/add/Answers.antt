@@ -16,7 +16,9 @@ overflow_add-result-9 c = omega (arith, c.struct_known-17-1.given, c.requires.0.
 
 pub returns : goal.returns
 returns c =
-    let held = c.requires.0 in record { result_value = added-so c.args.t c.args.x c.tally-c.ensures; held = record {
+    let held = c.requires.0 in record {
+      result_value = added-so c.args.t c.args.x c.tally-c.ensures;
+      held = record {
         captures = omega (arith, c.requires.1);
         clean = omega (arith, held.clean, c.struct_known-3-1.given, c.struct_known-2-1.given);
         broken = omega (arith, held.broken, c.struct_known-5-1.given, c.struct_known-4-1.given);
@@ -26,4 +28,5 @@ returns c =
         read = omega (arith, held.read, c.struct_known-13-1.given, c.struct_known-12-1.given);
         written = omega (arith, held.written, c.struct_known-15-1.given, c.struct_known-14-1.given);
         cycles = omega (arith, held.cycles, c.struct_known-17-1.given, c.struct_known-16-1.given);
-      } }
+      };
+    }

@@ -7,10 +7,10 @@ use Rattle.morgazell.proofs.morgazell_blank.Goals as goal
 
 pub pack-requires : goal.pack-requires
 pack-requires c = (
-      (count_fits means c.blank-blanked.ensures.result_value c.in-Refused.is
-          (blank-fits c.args.capture.now c.args.out.now)).0.1,
-      omega arith,
-    )
+  (count_fits means c.blank-blanked.ensures.result_value c.in-Refused.is
+      (blank-fits c.args.capture.now c.args.out.now)).0.1,
+  omega arith,
+)
 
 pub returns-in-Refused : goal.returns-in-Refused
 returns-in-Refused c = record { value = c.pack.ensures ∙ count-packed means c.blank-blanked.ensures.result_value c.in-Refused.is; out_after = c.blank-blanked.ensures.out_after }

@@ -7,10 +7,10 @@ use Rattle.morgazell.proofs.morgazell_cells.Goals as goal
 
 pub pack-requires : goal.pack-requires
 pack-requires c = (
-      (count_fits means c.burst_cells-listed.ensures.result_value c.in-Refused.is
-          (cells-fits c.args.capture.now c.args.out.now)).0.1,
-      omega arith,
-    )
+  (count_fits means c.burst_cells-listed.ensures.result_value c.in-Refused.is
+      (cells-fits c.args.capture.now c.args.out.now)).0.1,
+  omega arith,
+)
 
 pub returns-in-Refused : goal.returns-in-Refused
 returns-in-Refused c = record { value = c.pack.ensures ∙ count-packed means c.burst_cells-listed.ensures.result_value c.in-Refused.is; out_after = c.burst_cells-listed.ensures.out_after }

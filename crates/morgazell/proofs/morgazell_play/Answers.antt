@@ -7,10 +7,10 @@ use Rattle.morgazell.proofs.morgazell_play.Goals as goal
 
 pub pack-requires : goal.pack-requires
 pack-requires c = let a = c.args in (
-      (count_fits means c.play-played.ensures.result_value c.in-Refused.is
-          (play-fits a.capture.now a.first a.window.now a.writes.now a.reads.now)).0.1,
-      omega arith,
-    )
+  (count_fits means c.play-played.ensures.result_value c.in-Refused.is
+      (play-fits a.capture.now a.first a.window.now a.writes.now a.reads.now)).0.1,
+  omega arith,
+)
 
 pub returns-in-Refused : goal.returns-in-Refused
 returns-in-Refused c =

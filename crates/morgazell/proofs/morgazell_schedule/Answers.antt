@@ -7,10 +7,10 @@ use Rattle.morgazell.proofs.morgazell_schedule.Goals as goal
 
 pub pack-requires : goal.pack-requires
 pack-requires c = let a = c.args in (
-      (count_fits means c.schedule-scheduled.ensures.result_value c.in-Refused.is
-          (schedule-fits a.settings.now a.requests.now a.policy a.out.now)).0.1,
-      omega arith,
-    )
+  (count_fits means c.schedule-scheduled.ensures.result_value c.in-Refused.is
+      (schedule-fits a.settings.now a.requests.now a.policy a.out.now)).0.1,
+  omega arith,
+)
 
 pub returns-in-Refused : goal.returns-in-Refused
 returns-in-Refused c = record { value = c.pack.ensures ∙ count-packed means c.schedule-scheduled.ensures.result_value c.in-Refused.is; out_after = c.schedule-scheduled.ensures.out_after }

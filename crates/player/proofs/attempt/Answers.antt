@@ -1,8 +1,6 @@
 -- The invariant: the bursts of the events from i on, with the words left, decide (Trying).
-use Prim.Native.Nat.{◌-◌}
 use mathlib.Core.Path.{refl}
 use native.Mathlib.Omega.{arith}
-use borrow.Author.Tests.{not-true, not-false}
 use Rattle.player.proofs.Given.{found, found_none, in_row}
 use Rattle.player.proofs.Trying.{begins, passes, outside, reads_on, lacks, takes-on, ends}
 use Rattle.player.proofs.attempt.Goals as goal

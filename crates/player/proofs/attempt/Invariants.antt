@@ -1,5 +1,4 @@
 -- The invariant: the bursts of the events from i on, with the words left, decide (Trying).
-use Prim.Native.Nat.{◌-◌}
 use Rattle.player.proofs.Trying.{Trying}
 use Rattle.player.proofs.attempt.Given as goal
 

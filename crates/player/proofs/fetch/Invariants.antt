@@ -1,5 +1,5 @@
 -- The invariant: the words of the beats before this one stand in the list (Storing of beats).
-use Prim.Native.Nat.{ℕ, ◌-◌, ◌*◌}
+use Prim.Native.Nat.{ℕ, ◌*◌}
 use Rattle.beats.proofs.Storing.{Stored}
 use Rattle.player.specs.Playing.{cell_in, shown_at}
 use Rattle.player.proofs.fetch.Given as goal

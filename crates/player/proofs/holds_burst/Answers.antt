@@ -1,5 +1,5 @@
 -- The invariant: the cells of the beats from here on decide (Loops).
-use Prim.Native.Nat.{◌-◌, ◌*◌}
+use Prim.Native.Nat.{◌*◌}
 use mathlib.Core.Path.{sym, ap, ◌∙◌}
 use native.Mathlib.Omega.{arith}
 use Rattle.reading.specs.Player.{in_window}

@@ -1,5 +1,5 @@
 -- The invariant: the cells of the beats from here on decide (Loops).
-use Prim.Native.Nat.{◌-◌, ◌*◌}
+use Prim.Native.Nat.{◌*◌}
 use Rattle.reading.specs.Player.{in_window}
 use Rattle.player.specs.Playing.{cell_in}
 use Rattle.player.proofs.Loops.{Held}

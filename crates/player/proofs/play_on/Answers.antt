@@ -1,6 +1,5 @@
 use mathlib.Core.Path.{ap, ◌∙◌}
 use native.Mathlib.Omega.{arith}
-use borrow.Author.Tests.{not-true, not-false}
 use Rattle.reading.specs.Settings.{settings_of}
 use Rattle.judge.specs.Meaning.{events_in}
 use Rattle.player.specs.Playing.{means}
@@ -30,15 +29,20 @@ returns-then-reads-read c = let a = c.args in
 pub run-requires : goal.run-requires
 run-requires c = let a = c.args in
     let fit = c.if-not-window_fits.false in
-    let p = c.requires in record { playable = p.playable; clean = p.clean; n_value = all-playable (settings_of a.s.now) (events_in a.bytes.now a.n) a.first a.window.now a.writes.now a.reads.now
-              c.window_fits.ensures fit c.attempt-attempted.result c.attempt-attempted.ensures
-              c.in-Words.is; n_in_bounds = omega (
-            arith,
-            read-so (settings_of a.s.now) (events_in a.bytes.now a.n) a.first a.window.now a.writes.now a.reads.now
-                c.window_fits.ensures fit c.attempt-attempted.result c.attempt-attempted.ensures
-                c.in-Words.is,
-            c.if-reads-read.false,
-          ) }
+    let p = c.requires in record {
+      playable = p.playable;
+      clean = p.clean;
+      n_value = all-playable (settings_of a.s.now) (events_in a.bytes.now a.n) a.first a.window.now a.writes.now a.reads.now
+          c.window_fits.ensures fit c.attempt-attempted.result c.attempt-attempted.ensures
+          c.in-Words.is;
+      n_in_bounds = omega (
+        arith,
+        read-so (settings_of a.s.now) (events_in a.bytes.now a.n) a.first a.window.now a.writes.now a.reads.now
+            c.window_fits.ensures fit c.attempt-attempted.result c.attempt-attempted.ensures
+            c.in-Words.is,
+        c.if-reads-read.false,
+      );
+    }
 
 pub returns : goal.returns
 returns c = let a = c.args in

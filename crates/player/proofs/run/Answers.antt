@@ -1,5 +1,4 @@
 -- The invariant: the window shows what the cells hold, and the rest of the replay ends the whole (Running).
-use Prim.Native.Nat.{◌-◌}
 use native.Mathlib.Omega.{arith}
 use lib.ListN.{get_or}
 use Rattle.player.proofs.Given.{found, found_none, in_row}
@@ -47,9 +46,13 @@ store-requires c = let a = c.args in
     let x = c.events in
     let f = found a.s.now a.bytes.now a.n x.i c.burst_at-event.ensures c.in-Burst.is in
     let taken = c.events-test.true in
-    let z = c.requires.playable.listable in record { in_row = in_row a.s.now a.bytes.now a.n x.i z c.requires.clean taken f; pairs_value = holds-all a.s.now a.bytes.now a.n a.first a.window.now a.writes.now a.reads.now z c.requires.clean x.invariant taken f; pairs_in_bounds = masks-fit a.s.now
-            a.bytes.now a.n a.first a.window.now a.writes.now a.reads.now z c.requires.clean x.invariant taken f (get_or a.s.now 0 0)
-            c.requires.playable.coded c.if-stores.true }
+    let z = c.requires.playable.listable in record {
+      in_row = in_row a.s.now a.bytes.now a.n x.i z c.requires.clean taken f;
+      pairs_value = holds-all a.s.now a.bytes.now a.n a.first a.window.now a.writes.now a.reads.now z c.requires.clean x.invariant taken f;
+      pairs_in_bounds = masks-fit a.s.now
+          a.bytes.now a.n a.first a.window.now a.writes.now a.reads.now z c.requires.clean x.invariant taken f (get_or a.s.now 0 0)
+          c.requires.playable.coded c.if-stores.true;
+    }
 
 pub overflow_cast-taken : goal.overflow_cast-taken
 overflow_cast-taken c = omega arith
@@ -88,9 +91,13 @@ fetch-requires c = let a = c.args in
     let x = c.events in
     let f = found a.s.now a.bytes.now a.n x.i c.burst_at-event.ensures c.in-Burst.is in
     let taken = c.events-test.true in
-    let z = c.requires.playable.listable in record { in_row = in_row a.s.now a.bytes.now a.n x.i z c.requires.clean taken f; pairs_value = holds-all a.s.now a.bytes.now a.n a.first a.window.now a.writes.now a.reads.now z c.requires.clean x.invariant taken f; pairs_in_bounds = reads_fit a.s.now
-            a.bytes.now a.n a.first a.window.now a.writes.now a.reads.now z c.requires.clean x.invariant taken f (get_or a.s.now 0 0)
-            c.requires.playable.coded c.if-stores.false }
+    let z = c.requires.playable.listable in record {
+      in_row = in_row a.s.now a.bytes.now a.n x.i z c.requires.clean taken f;
+      pairs_value = holds-all a.s.now a.bytes.now a.n a.first a.window.now a.writes.now a.reads.now z c.requires.clean x.invariant taken f;
+      pairs_in_bounds = reads_fit a.s.now
+          a.bytes.now a.n a.first a.window.now a.writes.now a.reads.now z c.requires.clean x.invariant taken f (get_or a.s.now 0 0)
+          c.requires.playable.coded c.if-stores.false;
+    }
 
 pub overflow_cast-next : goal.overflow_cast-next
 overflow_cast-next c = omega arith

@@ -1,5 +1,4 @@
 -- The invariant: the window shows what the cells hold, and the rest of the replay ends the whole (Running).
-use Prim.Native.Nat.{◌-◌}
 use Rattle.player.proofs.Running.{Ran}
 use Rattle.player.proofs.run.Given as goal
 

@@ -1,8 +1,8 @@
 -- Exports of the handheld analyser: read, written, and what the NOPs between far events change of a verdict.
-use Prim.Native.Nat.{ℕ, ◌+◌, ◌*◌, ◌/◌, ◌%◌}
-use mathlib.Core.Bool.{Bool, true, false}
+use Prim.Native.Nat.{ℕ, ◌+◌, ◌/◌, ◌%◌}
+use mathlib.Core.Bool.{true, false}
 use mathlib.Core.List.{List, [], ◌∷◌, ◌++◌, map}
-use mathlib.Core.Option.{Option, none, some}
+use mathlib.Core.Option.{none, some}
 use mathlib.Core.Path.{◌≡◌, refl}
 use lib.ListN.{length, set, take, replicate}
 use Rattle.reading.specs.Search.{lowest}
@@ -10,7 +10,7 @@ use Rattle.reading.specs.Words.{half_at, half_bytes}
 use Rattle.reading.specs.Settings.{Settings, settings_of}
 use Rattle.reading.specs.RefreshClock.{clock_at_start}
 use Rattle.reading.specs.Capture.{Event}
-use Rattle.reading.specs.Verdict.{Verdict, clean, broken}
+use Rattle.reading.specs.Verdict.{clean, broken}
 use Rattle.reading.specs.Schedule.{capture_in, capture_of}
 use Rattle.reading.specs.Answers.{Outcome, refused, answered}
 use Rattle.reading.specs.Export.{records_of, cycle_of, stands, bad_export, bad_pins, read_outcome, nops, bridged_from, bridged, export_of, unwritable, write_outcome, added_before, last_before, late_nop, late_or}

@@ -1,18 +1,18 @@
 -- The month in numbers: worked lines and their sums, and where a stream ends.
 use Prim.Native.Nat.{ℕ, ◌+◌}
-use mathlib.Core.Bool.{Bool, true, false}
+use mathlib.Core.Bool.{true, false}
 use mathlib.Core.List.{List, [], ◌∷◌, ◌++◌, map}
 use mathlib.Core.Path.{◌≡◌, refl}
-use lib.ListN.{length, set, take, replicate}
+use lib.ListN.{set, take}
 use Rattle.reading.specs.Words.{word_at, word_bytes, bytes_of}
 use Rattle.reading.specs.Settings.{setting_fits, bad_setting}
-use Rattle.reading.specs.Capture.{Event, setting_words, events_of, length_fits_to, header_fits_to, event_fits, bad_event}
+use Rattle.reading.specs.Capture.{setting_words, events_of, length_fits_to, header_fits_to, event_fits, bad_event}
 use Rattle.reading.specs.Verdict as is
 use Rattle.reading.specs.Verdict.{judge_by, verdict_by}
 use Rattle.reading.specs.Cells.{bursts_of}
 use Rattle.reading.specs.Schedule.{capture_in, capture_of, event_words, last_from}
 use Rattle.reading.specs.Answers.{Answer, refused, answered, Report, accepted_to, judge_answer_to, verdict_in}
-use Rattle.reading.specs.Month.{Line, unused, line_of, sum_of, Totals, Month, month_from, month_of, totals_told}
+use Rattle.reading.specs.Month.{Line, unused, line_of, sum_of, Month, month_from, month_of, totals_told}
 use Rattle.reading.proofs.Cases.{ACTIVE, READ, WRITE, NOP, LOW, A10, at, usual, sleeping}
 
 -- to unfold this is to unfold all that a month is made of

@@ -3,14 +3,14 @@ use Prim.Native.Nat.{ℕ, ◌+◌}
 use mathlib.Core.List.{List, [], ◌∷◌, map}
 use mathlib.Core.Option.{Option, none, some}
 use mathlib.Core.Path.{◌≡◌, refl}
-use lib.ListN.{length, get_or, replicate}
+use lib.ListN.{get_or, replicate}
 use Rattle.reading.specs.Search.{count}
 use Rattle.reading.specs.Words.{word_at, word_bytes, bytes_of}
 use Rattle.reading.specs.Settings.{setting_fits, bad_setting}
-use Rattle.reading.specs.Capture.{Event, setting_words, events_of, length_fits_to, header_fits_to, event_fits, bad_event}
+use Rattle.reading.specs.Capture.{setting_words, events_of, length_fits_to, header_fits_to, event_fits, bad_event}
 use Rattle.reading.specs.Verdict.{judge_by, verdict_by}
 use Rattle.reading.specs.Schedule.{capture_in, capture_of, event_words}
-use Rattle.reading.specs.Answers.{Answer, refused, answered, accepted_to, verdict_in}
+use Rattle.reading.specs.Answers.{refused, answered, accepted_to, verdict_in}
 use Rattle.reading.specs.Openings.{Record, row_after, openings_of, index_of, records_of}
 use Rattle.reading.specs.OpenRow.{RowOutcome, index_in, records_in, row_in, open_row_answer, open_row_outcome, looked_up}
 use Rattle.reading.proofs.Cases.{ACTIVE, READ, WRITE, PRECHARGE, NOP, A10, LOW, bank, at, usual, sleeping}

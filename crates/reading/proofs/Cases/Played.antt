@@ -2,11 +2,11 @@
 use Prim.Native.Nat.{ℕ, ◌+◌}
 use mathlib.Core.List.{List, [], ◌∷◌, ◌++◌, map}
 use mathlib.Core.Path.{◌≡◌, refl}
-use lib.ListN.{length, take, set, replicate}
+use lib.ListN.{take, set, replicate}
 use Rattle.reading.specs.Search.{count}
 use Rattle.reading.specs.Words.{word_at, word_bytes, bytes_of}
 use Rattle.reading.specs.Settings.{setting_fits, bad_setting}
-use Rattle.reading.specs.Capture.{Event, setting_words, events_of, length_fits_to, header_fits_to, event_fits, bad_event}
+use Rattle.reading.specs.Capture.{setting_words, events_of, length_fits_to, header_fits_to, event_fits, bad_event}
 use Rattle.reading.specs.Bursts.{burst_cells, beat_cell, beat_column, place}
 use Rattle.reading.specs.Cells.{bursts_of}
 use Rattle.reading.specs.Verdict.{judge_by, verdict_by}

@@ -1,5 +1,4 @@
 use native.Mathlib.Omega.{arith}
-use Prim.Native.Nat.{◌-◌}
 use Rattle.requests.proofs.Asking.{looks, looks_on}
 use Rattle.requests.proofs.all_fit.Goals as goal
 

@@ -1,4 +1,3 @@
-use Prim.Native.Nat.{◌-◌}
 use Rattle.requests.proofs.Asking.{Looked}
 use Rattle.requests.proofs.all_fit.Given as goal
 

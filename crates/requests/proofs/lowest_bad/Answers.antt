@@ -2,7 +2,6 @@ use mathlib.Core.Path.{sym, ◌∙◌}
 use Rattle.requests.proofs.Asking.{too_many, begins, goes_on, stops, ends, all_asked}
 use native.Mathlib.Omega.{arith}
 use Rattle.reading.specs.Settings.{settings_of}
-use Prim.Native.Nat.{◌-◌}
 use Rattle.requests.proofs.lowest_bad.Goals as goal
 
 pub returns-then-n-gt2000 : goal.returns-then-n-gt2000

@@ -1,6 +1,5 @@
 use Rattle.requests.proofs.Asking.{Sought}
 use Rattle.reading.specs.Settings.{settings_of}
-use Prim.Native.Nat.{◌-◌}
 use Rattle.requests.proofs.lowest_bad.Given as goal
 
 abbrev pub invariant-requests : goal.invariant-requests

@@ -1,4 +1,4 @@
-use borrow.Author.Tests.{eq-eqb, ne_eqb, not-true, not-false}
+use borrow.Author.Tests.{eq-eqb, ne_eqb}
 use Rattle.rows.proofs.closes.Goals as goal
 
 pub returns-then-shuts_bank : goal.returns-then-shuts_bank
@@ -9,21 +9,21 @@ returns-then-not-gives_burst c = rw (← c.shuts_bank.ensures, c.if-shuts_bank.f
 
 pub returns-then-bank : goal.returns-then-bank
 returns-then-bank c = rw (
-      ← c.shuts_bank.ensures,
-      c.if-shuts_bank.false,
-      ← c.gives_burst.ensures,
-      c.if-not-gives_burst.false,
-      ← c.bank.ensures.0,
-      ne_eqb _ _ c.if-bank.true,
-    )
+  ← c.shuts_bank.ensures,
+  c.if-shuts_bank.false,
+  ← c.gives_burst.ensures,
+  c.if-not-gives_burst.false,
+  ← c.bank.ensures.0,
+  ne_eqb _ _ c.if-bank.true,
+)
 
 pub returns : goal.returns
 returns c = rw (
-      ← c.shuts_bank.ensures,
-      c.if-shuts_bank.false,
-      ← c.gives_burst.ensures,
-      c.if-not-gives_burst.false,
-      ← c.bank.ensures.0,
-      eq-eqb _ _ c.if-bank.false,
-      ← c.ten.ensures,
-    )
+  ← c.shuts_bank.ensures,
+  c.if-shuts_bank.false,
+  ← c.gives_burst.ensures,
+  c.if-not-gives_burst.false,
+  ← c.bank.ensures.0,
+  eq-eqb _ _ c.if-bank.false,
+  ← c.ten.ensures,
+)

@@ -1,4 +1,3 @@
-use Prim.Native.Nat.{◌-◌}
 use native.Mathlib.Omega.{arith}
 use Rattle.rows.proofs.Writing.{stood-first, stood_on, stood-last}
 use Rattle.rows.proofs.stands.Goals as goal

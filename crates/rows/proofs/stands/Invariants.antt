@@ -1,4 +1,3 @@
-use Prim.Native.Nat.{◌-◌}
 use Rattle.rows.proofs.Writing.{Stood}
 use Rattle.rows.proofs.stands.Given as goal
 

@@ -1,5 +1,4 @@
 use Rattle.rows.specs.Walks.{events_up_to, opened_by}
-use Prim.Native.Nat.{◌-◌}
 use native.Mathlib.Omega.{arith}
 use Rattle.rows.proofs.Writing.{written-first, appends-size, room, written_on, last-begun, last-room, written_last}
 use Rattle.rows.proofs.write_bank.Goals as goal
@@ -31,7 +30,7 @@ pub loop-i-preserved : goal.loop-i-preserved
 loop-i-preserved c = let x = c.loop-i in
     let a = c.args in
     written_on a.capture.now a.n a.bank a.index.now a.from x.invariant c.loop-i-test.true c.pins_of-w.ensures
-    c.write_closed-next.ensures c.stood-x.ensures
+    (c.write_closed-next.ensures.value, c.write_closed-next.ensures.index_after) c.stood-x.ensures
 
 pub write_ended-requires : goal.write_ended-requires
 write_ended-requires c = let x = c.loop-i in
@@ -44,10 +43,10 @@ pub shape_of-index : goal.shape_of-index
 shape_of-index c = let x = c.loop-i in
     let a = c.args in
     appends-size a.index.now a.from (opened_by a.bank (events_up_to a.capture.now a.n))
-    (written_last a.capture.now a.n a.bank a.index.now a.from x.invariant (omega arith) c.write_ended.ensures)
+    (written_last a.capture.now a.n a.bank a.index.now a.from x.invariant (omega arith) (c.write_ended.ensures.value, c.write_ended.ensures.index_after))
 
 pub returns : goal.returns
 returns c = let x = c.loop-i in
     let a = c.args in
-    let p = written_last a.capture.now a.n a.bank a.index.now a.from x.invariant (omega arith) c.write_ended.ensures in
+    let p = written_last a.capture.now a.n a.bank a.index.now a.from x.invariant (omega arith) (c.write_ended.ensures.value, c.write_ended.ensures.index_after) in
     record { value = p.0; index_after = p.1 }

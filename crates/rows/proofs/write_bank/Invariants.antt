@@ -1,4 +1,3 @@
-use Prim.Native.Nat.{◌-◌}
 use Rattle.rows.proofs.Writing.{Written}
 use Rattle.rows.proofs.write_bank.Given as goal
 

@@ -19,21 +19,21 @@ returns-then-d-b-ne0 c = rw (← c.rows.ensures, lt-ltb _ _ c.if-rows-row.false,
 pub returns-then-t-d : goal.returns-then-t-d
 unfolding active_breaks unmet
 returns-then-t-d c = rw (
-      ← c.rows.ensures,
-      lt-ltb _ _ c.if-rows-row.false,
-      eq-eqb _ _ c.if-d-b-ne0.false,
-      lt-leb _ _ c.if-t-d.true,
-    )
+  ← c.rows.ensures,
+  lt-ltb _ _ c.if-rows-row.false,
+  eq-eqb _ _ c.if-d-b-ne0.false,
+  lt-leb _ _ c.if-t-d.true,
+)
 
 pub returns-then-t-d-2 : goal.returns-then-t-d-2
 unfolding active_breaks unmet
 returns-then-t-d-2 c = rw (
-      ← c.rows.ensures,
-      lt-ltb _ _ c.if-rows-row.false,
-      eq-eqb _ _ c.if-d-b-ne0.false,
-      le-leb _ _ c.if-t-d.false,
-      lt-leb _ _ c.if-t-d-2.true,
-    )
+  ← c.rows.ensures,
+  lt-ltb _ _ c.if-rows-row.false,
+  eq-eqb _ _ c.if-d-b-ne0.false,
+  le-leb _ _ c.if-t-d.false,
+  lt-leb _ _ c.if-t-d-2.true,
+)
 
 pub returns-then-apart-ne0 : goal.returns-then-apart-ne0
 unfolding active_breaks unmet

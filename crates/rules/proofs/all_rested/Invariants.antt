@@ -1,4 +1,4 @@
-use Prim.Native.Nat.{◌+◌, ◌-◌}
+use Prim.Native.Nat.{◌+◌}
 use lib.Dec.{leb}
 use Rattle.deadlines.specs.Deadlines.{REST, at}
 use Rattle.reading.proofs.Laws.{Passed}

@@ -1,4 +1,3 @@
-use borrow.Author.Tests.{not-true, not-false}
 use Rattle.deadlines.specs.Deadlines.{mode_breaks}
 use mathlib.Core.Path.{sym, ◌∙◌}
 use Rattle.rules.proofs.mode_breaks.Goals as goal

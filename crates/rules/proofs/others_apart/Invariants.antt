@@ -1,4 +1,3 @@
-use Prim.Native.Nat.{◌-◌}
 use lib.Dec.{leb}
 use Rattle.deadlines.specs.Deadlines.{other_bank}
 use Rattle.reading.proofs.Laws.{Passed}

@@ -2,7 +2,7 @@ use Prim.Native.Nat.{ℕ, ◌+◌}
 use mathlib.Core.List.{List, [], ◌∷◌}
 use mathlib.Core.Path.{sym, ◌∙◌}
 use lib.Dec.{leb}
-use borrow.Author.Tests.{le-leb, lt-leb, not-true, not-false}
+use borrow.Author.Tests.{le-leb, lt-leb}
 use Rattle.reading.specs.Rules.{every_bank}
 use Rattle.deadlines.specs.Deadlines.{REST, BUS, at, Wait, asks, unmet, last_breaks, refresh_breaks}
 use Rattle.deadlines.proofs.Waits.{each_over, each-waits}

@@ -1,5 +1,5 @@
 use mathlib.Core.Path.{sym, ◌∙◌}
-use borrow.Author.Tests.{le-leb, lt-leb, not-true, not-false}
+use borrow.Author.Tests.{le-leb, lt-leb}
 use Rattle.deadlines.specs.Deadlines.{terminate_breaks}
 use Rattle.rules.proofs.terminate_breaks.Goals as goal
 
@@ -14,16 +14,16 @@ returns-then-t-d-2 c = rw (le-leb _ _ c.if-t-d.false, lt-leb _ _ c.if-t-d-2.true
 pub returns-then-not-taken : goal.returns-then-not-taken
 unfolding terminate_breaks
 returns-then-not-taken c = rw (
-      le-leb _ _ c.if-t-d.false,
-      le-leb _ _ c.if-t-d-2.false,
-      sym c.taken.ensures ∙ c.if-not-taken.true,
-    )
+  le-leb _ _ c.if-t-d.false,
+  le-leb _ _ c.if-t-d-2.false,
+  sym c.taken.ensures ∙ c.if-not-taken.true,
+)
 
 pub returns : goal.returns
 unfolding terminate_breaks
 returns c = rw (
-      le-leb _ _ c.if-t-d.false,
-      le-leb _ _ c.if-t-d-2.false,
-      sym c.taken.ensures ∙ c.if-not-taken.false,
-      c.last_breaks.ensures,
-    )
+  le-leb _ _ c.if-t-d.false,
+  le-leb _ _ c.if-t-d-2.false,
+  sym c.taken.ensures ∙ c.if-not-taken.false,
+  c.last_breaks.ensures,
+)

@@ -1,5 +1,4 @@
 use native.Mathlib.Omega.{arith}
-use Prim.Native.Nat.{◌-◌}
 use Rattle.schedule.proofs.Filling.{begins, goes_on, ends}
 use Rattle.schedule.proofs.fourteen.Goals as goal
 

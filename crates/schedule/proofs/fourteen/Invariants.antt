@@ -1,4 +1,3 @@
-use Prim.Native.Nat.{◌-◌}
 use Rattle.schedule.proofs.Filling.{Loading}
 use Rattle.schedule.proofs.fourteen.Given as goal
 

@@ -1,4 +1,3 @@
-use Prim.Native.Nat.{◌-◌}
 use native.Mathlib.Omega.{arith}
 use Rattle.schedule.proofs.Walking.{walk_begins, most, few-events, walk_ends, asked-for, room, sure, walk-stops, walk-on}
 use Rattle.schedule.proofs.plan.Goals as goal
@@ -18,8 +17,13 @@ bounds-requests-i c = omega arith
 
 pub serve-turn-requires : goal.serve-turn-requires
 serve-turn-requires c =
-    let a = c.args in record { asked = asked-for a.s.now a.requests.now a.closed a.words.now c.requires c.requests.invariant (omega arith); room = room a.s.now a.requests.now a.closed a.words.now c.requires c.requests.invariant (omega arith); pace_value = c.pace-pace.ensures; sure = rw c.margin-margin.ensures
-              (sure a.s.now a.requests.now a.closed a.words.now c.requires c.requests.invariant (omega arith)) }
+    let a = c.args in record {
+      asked = asked-for a.s.now a.requests.now a.closed a.words.now c.requires c.requests.invariant (omega arith);
+      room = room a.s.now a.requests.now a.closed a.words.now c.requires c.requests.invariant (omega arith);
+      pace_value = c.pace-pace.ensures;
+      sure = rw c.margin-margin.ensures
+          (sure a.s.now a.requests.now a.closed a.words.now c.requires c.requests.invariant (omega arith));
+    }
 
 pub overflow_cast-result : goal.overflow_cast-result
 overflow_cast-result c = let a = c.args in

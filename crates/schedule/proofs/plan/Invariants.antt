@@ -1,4 +1,3 @@
-use Prim.Native.Nat.{◌-◌}
 use Rattle.schedule.proofs.Walking.{Walked}
 use Rattle.schedule.proofs.plan.Given as goal
 

@@ -1,5 +1,4 @@
 -- The invariant: what was sent before the next try, and that there is room for it (Tries).
-use Prim.Native.Nat.{◌-◌}
 use mathlib.Core.Path.{refl}
 use native.Mathlib.Omega.{arith}
 use Rattle.reading.specs.Settings.{settings_of}

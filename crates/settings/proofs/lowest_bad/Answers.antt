@@ -1,5 +1,4 @@
 -- The invariant: what is found from setting i on is what is found at all.
-use Prim.Native.Nat.{◌-◌}
 use mathlib.Core.Path.{sym, ◌∙◌}
 use native.Mathlib.Omega.{arith}
 use Rattle.settings.proofs.Rows.{begins, goes_on, stops, row-most, contradicts, agrees}

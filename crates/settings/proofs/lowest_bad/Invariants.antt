@@ -1,5 +1,4 @@
 -- The invariant: what is found from setting i on is what is found at all.
-use Prim.Native.Nat.{◌-◌}
 use Rattle.settings.proofs.Rows.{Sought}
 use Rattle.settings.proofs.lowest_bad.Given as goal
 

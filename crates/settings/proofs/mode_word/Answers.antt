@@ -16,8 +16,8 @@ returns-then-latency-gt3 c = rw (le-leb _ _ c.if-length-lt1.false, le-leb _ _ c.
 
 pub returns : goal.returns
 returns c = rw (
-      le-leb _ _ c.if-length-lt1.false,
-      le-leb _ _ c.if-length-gt4.false,
-      ← c.latency-latency.ensures,
-      latency-fits _ c.if-latency-lt2.false c.if-latency-gt3.false,
-    )
+  le-leb _ _ c.if-length-lt1.false,
+  le-leb _ _ c.if-length-gt4.false,
+  ← c.latency-latency.ensures,
+  latency-fits _ c.if-latency-lt2.false c.if-latency-gt3.false,
+)

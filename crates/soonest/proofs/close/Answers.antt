@@ -1,13 +1,12 @@
 use Rattle.deadlines.specs.Deadlines.{soonest}
 use Rattle.plan.specs.Soonest.{close_soonest}
-use borrow.Author.Rules.{rules}
 use Rattle.soonest.proofs.close.Goals as goal
 
 pub returns : goal.returns
 unfolding close_soonest soonest
 returns c = rw (
-      c.latest-2.ensures,
-      c.pick.ensures,
-      c.latest-rules.ensures,
-      c.latest.ensures,
-    )
+  c.latest-2.ensures,
+  c.pick.ensures,
+  c.latest-rules.ensures,
+  c.latest.ensures,
+)

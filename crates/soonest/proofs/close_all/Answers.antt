@@ -4,7 +4,7 @@ use Rattle.soonest.proofs.close_all.Goals as goal
 pub returns : goal.returns
 unfolding close_all_soonest
 returns c = rw (
-      c.latest.ensures,
-      c.all_till.ensures,
-      c.all_till-written.ensures,
-    )
+  c.latest.ensures,
+  c.all_till.ensures,
+  c.all_till-written.ensures,
+)

@@ -1,13 +1,12 @@
 use Rattle.deadlines.specs.Deadlines.{soonest}
 use Rattle.plan.specs.Soonest.{read_soonest}
-use borrow.Author.Rules.{rules}
 use Rattle.soonest.proofs.read.Goals as goal
 
 pub returns : goal.returns
 unfolding read_soonest soonest
 returns c = rw (
-      c.latest-3.ensures,
-      c.latest-rules.ensures,
-      c.latest-2.ensures,
-      c.latest.ensures,
-    )
+  c.latest-3.ensures,
+  c.latest-rules.ensures,
+  c.latest-2.ensures,
+  c.latest.ensures,
+)

@@ -5,9 +5,9 @@ use Rattle.soonest.proofs.refresh.Goals as goal
 pub returns : goal.returns
 unfolding refresh_soonest soonest
 returns c = rw (
-      c.latest-4.ensures,
-      c.latest-3.ensures,
-      c.latest-2.ensures,
-      c.latest-last.ensures,
-      c.latest.ensures,
-    )
+  c.latest-4.ensures,
+  c.latest-3.ensures,
+  c.latest-2.ensures,
+  c.latest-last.ensures,
+  c.latest.ensures,
+)

@@ -1,4 +1,3 @@
-use Prim.Native.Nat.{◌-◌}
 use native.Mathlib.Omega.{arith}
 use Rattle.trials.proofs.Storing.{stores-none, stores-on, stored-all}
 use Rattle.trials.proofs.store_settings.Goals as goal

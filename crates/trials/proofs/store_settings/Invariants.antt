@@ -1,4 +1,3 @@
-use Prim.Native.Nat.{◌-◌}
 use Rattle.trials.proofs.Storing.{Storing}
 use Rattle.trials.proofs.store_settings.Given as goal
 

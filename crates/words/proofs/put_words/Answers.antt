@@ -1,5 +1,4 @@
 use native.Mathlib.Omega.{arith}
-use Prim.Native.Nat.{◌-◌}
 use Rattle.words.proofs.Storing.{stores-none, stores-on, stored-length, stores-all}
 use Rattle.words.proofs.put_words.Goals as goal
 

@@ -1,4 +1,3 @@
-use Prim.Native.Nat.{◌-◌}
 use Rattle.words.proofs.Storing.{Storing}
 use Rattle.words.proofs.put_words.Given as goal
 

@@ -1,4 +1,4 @@
-use Prim.Native.Nat.{◌+◌, ◌-◌}
+use Prim.Native.Nat.{◌+◌}
 use lib.Dec.{eqb}
 use Rattle.deadlines.specs.Deadlines.{OPENED, at}
 use Rattle.reading.proofs.Laws.{Passed}
