@@ -2,26 +2,26 @@
 import re
 
 LAW = "pub words-word-at-settles : "
-GIVEN = "(κs : _) (a : _) (z z′ : _) (e e′ : _) → words-word-at.Post κs a z e → words-word-at.Post κs a z′ e′ → "
-ALIAS = "use Rattle·words.proofs.%s.Reads as words-word-at\n"
-BUFFER = " × (now (e .1 .0) ≡ now (e′ .1 .0))"
+GIVEN = "(κs : _) (a : _) (z z' : _) (e e' : _) → words-word-at.Post κs a z e → words-word-at.Post κs a z' e' → "
+ALIAS = "use Rattle.words.proofs.%s.Reads as words-word-at\n"
+BUFFER = " × (e.1.0.now ≡ e'.1.0.now)"
 
 # Public functions that nothing is proved of, and the alias that their laws would have.
 UNPROVED = [
     ("in an impl", "impl Found {\n    pub fn place(self) -> u32 { 0 }\n}\n", "words.proofs.Found.place.Reads as words-Found-place"),
     ("in an impl with a lifetime", "impl<'a> Found<'a> { pub fn place(&self) -> u32 { 0 } }\n", "words.proofs.Found.place.Reads as words-Found-place"),
-    ("for C, on one line", '#[no_mangle] pub extern "C" fn word(x: u32) -> u32 { x }\n', "words.proofs.word.Reads as words-word"),
+    ("for C, on one line", '#[unsafe(no_mangle)] pub extern "C" fn word(x: u32) -> u32 { x }\n', "words.proofs.word.Reads as words-word"),
     ("in a nested module", "pub mod a { pub mod b { pub fn word(x: u32) -> u32 { x } } }\n", "words.proofs.a.b.word.Reads as words-a-b-word"),
     ("behind a brace in text", "fn open() -> u8 { b'{' } // {\npub fn word(x: u32) -> u32 { x }\n", "words.proofs.word.Reads as words-word"),
 ]
 
 # Public functions that lend, and what their laws would say.
 LENDING = [
-    ("over several lines", "pub fn lend(\n    n: [u32; 4],\n    out: &mut [u32; 4],\n) { }\n", "→ now (e .1 .0) ≡ now (e′ .1 .0)"),
-    ("with a lifetime", "pub fn lend<'a>(n: &'a [u8], out: &'a mut [u8]) { }\n", "→ now (e .1 .0) ≡ now (e′ .1 .0)"),
+    ("over several lines", "pub fn lend(\n    n: [u32; 4],\n    out: &mut [u32; 4],\n) { }\n", "→ e.1.0.now ≡ e'.1.0.now"),
+    ("with a lifetime", "pub fn lend<'a>(n: &'a [u8], out: &'a mut [u8]) { }\n", "→ e.1.0.now ≡ e'.1.0.now"),
     ("twice, and answering", "pub fn lend(a: &mut u32, b: &mut [u8]) -> u8 { 0 }\n",
-     "→ (z ≡ z′) × ((now (e .0) ≡ now (e′ .0)) × (now (e .1 .0) ≡ now (e′ .1 .0)))"),
-    ("itself", "impl Found { pub fn lend(&mut self, n: u32) { } }\n", "→ now (e .0) ≡ now (e′ .0)"),
+     "→ (z ≡ z') × ((e.0.now ≡ e'.0.now) × (e.1.0.now ≡ e'.1.0.now))"),
+    ("itself", "impl Found { pub fn lend(&mut self, n: u32) { } }\n", "→ e.0.now ≡ e'.0.now"),
     ("inside a struct", "pub fn lend(to: Writer<'_>) -> u8 { 0 }\n", "inside to: Writer<'_>"),
 ]
 
@@ -36,9 +36,9 @@ def replaced(text, old, new):
 
 def in_laws(laws):
     """(what is wrong, what is to be said of it, laws)"""
-    whole = LAW + GIVEN + "z ≡ z′\n"
-    yield "a law whose premise is its claim", "missing: " + whole.strip(), replaced(laws, whole, LAW + GIVEN + "z ≡ z′ → z ≡ z′\n")
-    yield "a law of nothing", "missing: " + whole.strip(), replaced(laws, whole, LAW + "(z z′ : _) → z ≡ z′ → z ≡ z′\n")
+    whole = LAW + GIVEN + "z ≡ z'\n"
+    yield "a law whose premise is its claim", "missing: " + whole.strip(), replaced(laws, whole, LAW + GIVEN + "z ≡ z' → z ≡ z'\n")
+    yield "a law of nothing", "missing: " + whole.strip(), replaced(laws, whole, LAW + "(z z' : _) → z ≡ z' → z ≡ z'\n")
     law = re.search(r"^pub cells-burst-cells-settles : .*\n", laws, re.M).group()
     yield "a law without a buffer", "missing: " + law.strip(), replaced(laws, law, replaced(law, BUFFER, ""))
     other = replaced(laws, ALIAS % "word_at", ALIAS % "put_word")

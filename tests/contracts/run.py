@@ -1,8 +1,12 @@
 #!/usr/bin/env python3
 """Every public function of every library crate has its law in crates/demands/proofs/Settled.antt: its contract settles its
 result and the contents of every buffer lent to it. The law's lines are made here from the function, and that file is these
-lines, to the letter, and its proofs. The exceptions are those that docs/PROMISES.md names. A function whose proof is a walk by
-hand has its law in crates/demands/proofs/Held.antt instead: what its contract ensures, word for word as one fact.
+lines, to the letter, and its proofs. The exceptions are those that docs/PROMISES.md names. A few functions, which hold a
+reference to a struct or a struct with one, may have their law in crates/demands/proofs/Held.antt instead: what the contract
+ensures, word for word as one fact.
+
+No crate can name a static library, so what is exported for C has no law: each export is a function of the library that it is
+made of, with the same parameters, the same answer and the same clauses, word for word, and each such function is exported.
 
 The test is then given laws and sources made wrong on purpose (faults.py), and has to tell of each."""
 import collections
@@ -16,6 +20,12 @@ ROOT = os.path.join(os.path.dirname(os.path.abspath(__file__)), "..", "..")
 LAWS = os.path.join("crates", "demands", "proofs", "Settled.antt")
 HELD = os.path.join("crates", "demands", "proofs", "Held.antt")
 
+# The functions that may have their law in Held.
+BY_HAND = {"browser-start", "browser-next", "browser-onward", "browser-look", "rows-count", "banks-fill", "morgazell-morgazell-open-row"}
+
+# The static library, and the library whose functions it exports.
+EXPORTING, EXPORTED = "morgazell_c", "morgazell"
+
 # They read and print for the programs: all of `console`, and of `wording` what is lent the mark of an output or a line of text.
 READING = "console"
 PRINTING = "wording"
@@ -23,20 +33,19 @@ MARK = re.compile(r"&mut Out\b|\bline: &mut \[u8\]")
 
 # What the laws and their proofs are written with.
 BROUGHT = """\
-use mathlib.Core.Path.{_≡_, sym, _∙_}
-use denote.Ref.{now}
-use Rattle·settings.proofs.Unique as settings
-use Rattle·part.proofs.Unique as part
-use Rattle·cells.proofs.Unique as cells
-use Rattle·player.proofs.Unique as player
-use Rattle·drafts.proofs.Unique as drafts
-use Rattle·serving.proofs.Unique as serving
-use Rattle·schedule.proofs.Unique as schedule
-use Rattle·hidden.proofs.Unique as hidden
-use Rattle·exports.proofs.Unique as exports
-use Rattle·monthly.proofs.Unique as monthly
-use Rattle·demands·proofs.proofs.Finding as finding
-use Rattle·demands·proofs.proofs.Judging as judging
+use mathlib.Core.Path.{◌≡◌, sym, ◌∙◌}
+use Rattle.settings.proofs.Unique as settings
+use Rattle.part.proofs.Unique as part
+use Rattle.cells.proofs.Unique as cells
+use Rattle.player.proofs.Unique as player
+use Rattle.drafts.proofs.Unique as drafts
+use Rattle.serving.proofs.Unique as serving
+use Rattle.schedule.proofs.Unique as schedule
+use Rattle.hidden.proofs.Unique as hidden
+use Rattle.exports.proofs.Unique as exports
+use Rattle.monthly.proofs.Unique as monthly
+use Rattle.demands.proofs.Finding as finding
+use Rattle.demands.proofs.Judging as judging
 """.splitlines()
 
 # Text in which a brace or `pub fn` means nothing.
@@ -61,17 +70,17 @@ def read(*path):
 
 def libraries():
     for line in read("crates.txt").splitlines():
-        crate = line.split("#")[0].split(":")[0].strip()
-        if crate != READING and os.path.exists(os.path.join(ROOT, "crates", crate, "src", "lib.rt")):
+        crate, *kind = line.split("#")[0].split(":")[0].split() or [""]
+        if crate != READING and not kind and os.path.exists(os.path.join(ROOT, "crates", crate, "src", "lib.rt")):
             yield crate
 
 
-def sources():
-    """(crate, module, text) of every source of every library."""
-    for crate in libraries():
+def sources(crates=None):
+    """(crate, module, text) of every source of every library, or of these crates."""
+    for crate in crates or libraries():
         top = os.path.join(ROOT, "crates", crate, "src")
         for folder, _, files in sorted(os.walk(top)):
-            for file in sorted(files):
+            for file in sorted(file for file in files if file.endswith(".rt")):
                 place = os.path.relpath(os.path.join(folder, file), top)[: -len(".rt")]
                 module = [name for name in place.split(os.sep) if name not in ("lib", "mod")]
                 yield crate, module, read("crates", crate, "src", place + ".rt")
@@ -93,14 +102,14 @@ def functions(crate, module, text):
 
 
 def claims(function):
-    """What the law says of two results z, z′ and of two contents e, e′ of what is lent."""
+    """What the law says of two results z, z' and of two contents e, e' of what is lent."""
     said = []
     if function.answer:
-        said.append("now z ≡ now z′" if function.answer.endswith("&") else "z ≡ z′")
+        said.append("z.now ≡ z'.now" if function.answer.endswith("&") else "z ≡ z'")
     for place, parameter in enumerate(function.parameters):
         if re.search(r"&\s*('\w+ )?mut\b", parameter):
-            at = " .1" * place + " .0"
-            said.append("now (e%s) ≡ now (e′%s)" % (at, at))
+            at = ".1" * place + ".0.now"
+            said.append("e%s ≡ e'%s" % (at, at))
     return said
 
 
@@ -113,53 +122,89 @@ def lines_of(function):
     said = claims(function)
     if not said:
         return []
-    law = "-".join([function.crate] + function.path).replace("_", "-")
-    given = "(κs : _) (a : _) (z z′ : _) (e e′ : _) → %s.Post κs a z e → %s.Post κs a z′ e′" % (law, law)
+    law = name_of(function)
+    given = "(κs : _) (a : _) (z z' : _) (e e' : _) → %s.Post κs a z e → %s.Post κs a z' e'" % (law, law)
     return [
-        "use Rattle·%s.proofs.%s.Reads as %s" % (function.crate, ".".join(function.path), law),
+        "use Rattle.%s.proofs.%s.Reads as %s" % (function.crate, ".".join(function.path), law),
         "pub %s-settles : %s → %s" % (law, given, joined(said)),
-        "%s-settles κs a z z′ e e′ p q =" % law,
+        "%s-settles κs a z z' e e' p q =" % law,
     ]
 
 
-def by_hand(function):
-    """Its proof is a walk by hand, so the check makes no reading of its contract to state a law about."""
-    proof = os.path.join("crates", function.crate, "proofs", *function.path, "Proof.antt")
-    return os.path.exists(os.path.join(ROOT, proof)) and "walk-meets" in read(proof)
+def name_of(function):
+    return "-".join([function.crate] + function.path).replace("_", "-")
+
+
+def held_laws(held):
+    """The functions that have their law in Held: what `ensures` says is one fact there, and the proof that it is so is `refl`."""
+    laws = re.findall(r"^  pub (\S+)-says : (.*)\n  \1-says κs a g z e = refl$", at_once(held), re.M)
+    return [name for name, law in laws if re.fullmatch(re.escape(GIVEN % name) + r" fact 𝓤 \(.*\)", law)]
+
+
+GIVEN = "(κs : _) (a : _) (g : _) (z : _) (e : _) → (%s.clauses 𝓛 mem run κs a).ensures g z e ≡"
 
 
 def unheld(texts, held):
-    """The functions proved by hand and the laws about them that do not belong to each other."""
-    wanted = {"-".join([f.crate] + f.path).replace("_", "-") for text in texts for f in functions(*text) if by_hand(f)}
-    there = set(re.findall(r"^  pub (\S+)-says : ", held, re.M))
-    return ["no law in %s: %s" % (HELD, name) for name in sorted(wanted ^ there)]
+    """The functions in Held that are not among those that may be, or none at all, and laws of another form."""
+    public = {name_of(f) for text in texts for f in functions(*text)}
+    there, named = held_laws(held), re.findall(r"^  pub (\S+) : ", at_once(held), re.M)
+    yield from ("no law that may stand in %s: %s" % (HELD, name) for name in there if name not in BY_HAND & public or there.count(name) > 1)
+    yield from ("no law of that form in %s: %s" % (HELD, name) for name in named if name not in [law + "-says" for law in there])
 
 
-def wrong(texts, laws):
+def at_once(text, margin=4):
+    """Each declaration on one line, however it is laid out: what is set in so far goes on with the line above."""
+    return re.sub(r"\n {%d,}" % margin, " ", text)
+
+
+# ---- what is exported
+
+def heads(crate):
+    """Each public function of a crate's code: its head, from its name to its body, and its body."""
+    text = QUIET.sub("", "\n".join(source for of, _, source in sources([crate])))
+    found = re.findall(r"^pub (?:extern \"C\" )?fn (\w+)(.*?)\n?\{\n(.*?)^\}$", text, re.M | re.S)
+    return {name: (" ".join(head.replace(",\n)", ")").split()), " ".join(body.split())) for name, head, body in found}
+
+
+def unexported():
+    """What is not the same in the static library and in the library that it is made of."""
+    ours, theirs = heads(EXPORTED), heads(EXPORTING)
+    ours = {name: head for name, head in ours.items() if name.startswith(EXPORTED + "_")}
+    yield from ("%s exports no %s" % (EXPORTING, name) for name in sorted(set(ours) - set(theirs)))
+    for name, (head, body) in sorted(theirs.items()):
+        if name not in ours or head.replace("( ", "(") != ours[name][0].replace("( ", "("):
+            yield "%s::%s has not the head of a function of %s" % (EXPORTING, name, EXPORTED)
+        if not re.fullmatch(r"%s::%s\([\w, ]*\)" % (EXPORTED, name), body):
+            yield "%s::%s does more than to call %s::%s" % (EXPORTING, name, EXPORTED, name)
+
+
+# ---- all of it
+
+def wrong(texts, laws, held):
     """What is missing in the laws, and what stands there beside them."""
-    public = [function for text in texts for function in functions(*text) if not by_hand(function)]
+    elsewhere = held_laws(held)
+    public = [function for text in texts for function in functions(*text) if name_of(function) not in elsewhere]
     wanted = collections.Counter(BROUGHT)
     for function in public:
         wanted.update(lines_of(function))
     there = collections.Counter()
     for line in laws.splitlines():
         if line and not line.startswith("-- "):
-            there[re.sub(r"^(\S+-settles κs a z z′ e e′ p q =) .*$", r"\1", line)] += 1
+            there[re.sub(r"^(\S+-settles κs a z z' e e' p q =) .*$", r"\1", line)] += 1
     held = ["no law can say what is lent inside %s of %s::%s" % (p, f.crate, "::".join(f.path))
             for f in public for p in f.parameters if "<" in p]
     return held + ["missing: " + line for line in wanted - there] + ["of no public function: " + line for line in there - wanted]
 
 
 def main():
-    # A law stands on one line, or on two where it is long.
-    texts, laws = list(sources()), read(LAWS).replace(" →\n    ", " → ")
-    found = wrong(texts, laws) + unheld(texts, read(HELD))
+    texts, laws, held = list(sources()), at_once(read(LAWS), 2), read(HELD)
+    found = wrong(texts, laws, held) + list(unheld(texts, held)) + list(unexported())
     if "mod Held" not in read("crates", "demands", "proofs", "Lib.antt").splitlines():
         found.append("the laws of functions proved by hand are not declared, so nothing checks them")
     if "mod Settled" not in read("crates", "demands", "proofs", "Lib.antt").splitlines():
         found.append("the laws are not declared, so nothing checks them")
     made = [] if found else list(faults.made(texts, laws))
-    unnoticed = [name for name, said, *fault in made if not any(said in line for line in wrong(*fault))]
+    unnoticed = [name for name, said, *fault in made if not any(said in line for line in wrong(*fault, held))]
     for line in found + ["not noticed: " + name for name in unnoticed]:
         print(line)
     count = sum(1 for text in texts for _ in functions(*text))

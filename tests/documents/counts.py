@@ -52,8 +52,12 @@ def functions():
 
 
 def asking():
-    """Those with a `requires` before their body."""
-    return sum("requires {" in re.split(r"\n\s*\{\s*\n|\{\n", text, maxsplit=1)[0] for _, text in public_functions())
+    """Those with a `requires` before their body; a clause may have a name, and be on several lines."""
+    heads = (re.split(r"\n\s*\{\s*\n|\{\n", CLAUSE.sub(r"\1 {", text), maxsplit=1)[0] for _, text in public_functions())
+    return sum("requires {" in head for head in heads)
+
+
+CLAUSE = re.compile(r"\b(requires|ensures)(?: \w+)? \{\n?")
 
 
 def changes():
@@ -142,7 +146,7 @@ def minutes():
 
 def of_samples():
     """What tools/judge-samples proves: its programs and all that they rest on."""
-    programs = re.search(r"^rt check ([\w ]+) >&2$", read("tools", "judge-samples"), re.M).group(1).split()
+    programs = re.search(r"^tools/build ([\w ]+) >&2$", read("tools", "judge-samples"), re.M).group(1).split()
     return set().union(*map(names.rests_on, programs))
 
 
@@ -154,7 +158,7 @@ COUNTS = [
     ("README.md", r"of the (?P<n>\d+) captures in `samples/`", samples),
     ("README.md", r"\| (?P<n>\d+) crates, then \d+ samples \|", lambda: len(of_samples())),
     ("README.md", r"crates, then (?P<n>\d+) samples \|", samples),
-    ("README.md", r"`rt check listing` \| (?P<n>\d+) crates? more", lambda: len(names.rests_on("listing") - of_samples())),
+    ("README.md", r"`tools/build listing` \| (?P<n>\d+) crates? more", lambda: len(names.rests_on("listing") - of_samples())),
     ("README.md", r"the (?P<n>\d+) libraries of the archive", rests("morgazell")),
     ("README.md", r"\| (?P<n>\d+) minutes on two cores \(docs/STATUS.md\)", minutes),
     ("CONTRIBUTING.md", r"It proves (?P<n>\d+) crates, builds the report", lambda: len(of_samples())),

@@ -7,7 +7,7 @@ import shell
 from names import read
 
 # What every Debian has.
-SYSTEM = set("apt-get awk basename cat chmod dirname find grep ln mkdir mktemp mv readlink rm sed sh sha256sum sort tail tar uname".split())
+SYSTEM = set("apt-get awk basename cat chmod cp dirname find grep ln mkdir mktemp mv readlink rm sed sh sha256sum sort tail tar uname".split())
 
 # The package that brings a command.
 BRINGS = {"gcc": "gcc", "cc": "gcc", "ar": "gcc", "objdump": "gcc", "size": "gcc", "g++": "g++", "c++": "g++", "git": "git", "groff": "groff-base",

@@ -11,6 +11,11 @@ FOLDERS = [".ci", "crates", "docs", "examples", "include", "package", "samples",
 # Crates of the kit; what they have is not ours to look for.
 KIT = {"io", "libc", "os", "std"}
 
+# Work that has not landed lies in the tree and is no part of the gate: no page has to name it, and what it names need not be
+# there. In crates/ it has the ending .txt.
+NOT_LANDED = ("docs/USING.md", "people/", "tests/people/", "tools/install", "tools/morgazell", "tools/people",
+              "tests/second/src/bin/answers.rs", "tests/second/src/bin/reasons.rs")
+
 # tests/run has its tests in these groups.
 GROUPS = {"sources", "programs", "archive"}
 
@@ -23,17 +28,28 @@ def read(*path):
         return file.read()
 
 
+def is_landed(path):
+    path = os.path.relpath(path, ROOT)
+    return not path.startswith(NOT_LANDED) and not (path.startswith("crates/") and path.endswith(".txt"))
+
+
+def is_built(path):
+    """What rt leaves in each crate's out/, and Python beside its sources."""
+    return re.match(r"crates/\w+/out/", os.path.relpath(path, ROOT)) or "/__pycache__/" in path
+
+
 def files(folder, *endings):
-    """The texts of a folder, without what is built."""
+    """The texts of a folder, without what is built and what has not landed."""
     found = glob.glob(os.path.join(ROOT, folder, "**"), recursive=True)
-    return sorted(path for path in found if os.path.isfile(path) and (not endings or path.endswith(endings)))
+    return sorted(path for path in found if os.path.isfile(path) and (not endings or path.endswith(endings))
+                  and is_landed(path) and not is_built(path))
 
 
 @functools.cache
 def crates():
     """Each crate with what it directly rests on."""
     lines = [line.split("#")[0].strip() for line in read("crates.txt").splitlines()]
-    return {line.split(":")[0].strip(): line.split(":")[1].split() for line in lines if line}
+    return {line.split(":")[0].split()[0]: line.split(":")[1].split() for line in lines if line}
 
 
 def rests_on(crate):

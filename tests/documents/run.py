@@ -35,6 +35,9 @@ THEOREM = re.compile(r"^\| .* \| (`[\w-]+`(?:, `[\w-]+`)*) \| (`?[\w/]+`?) \|$",
 
 IMPOSTOR = re.compile(r"\|(?: `(?P<crate>\w+)` \| .* \(`(?P<label>\w+)`\)| .* \| `(?P<edit>\w+/\w+)`) \| .* \|")
 
+# The fact at which an edit fails, which the check names and no file has to: tests/impostors holds it to what is said.
+FACT = re.compile(r"^(\|.* \| `[^`|]+`), `[^`|]+` \|$", re.M)
+
 # A language, not a decision; a law whose name stands for many.
 NOT_DECISIONS = {"C99"}
 NOT_NAMES = {"CRATE-PATH-settles", "ruleN", "rule-N"}
@@ -42,7 +45,7 @@ NOT_NAMES = {"CRATE-PATH-settles", "ruleN", "rule-N"}
 
 def documents():
     """Every page by its name."""
-    pages = PAGES + [os.path.relpath(path, ROOT) for path in glob.glob(os.path.join(ROOT, "docs", "*.md"))]
+    pages = PAGES + [os.path.relpath(path, ROOT) for path in glob.glob(os.path.join(ROOT, "docs", "*.md")) if names.is_landed(path)]
     return {page: read(page) for page in sorted(pages)}
 
 
@@ -73,8 +76,12 @@ def wrong_commands(text):
     for said in commands(text):
         for test in re.findall(r"\btests/run((?: [a-z]+)+)", said):
             yield from ("tests/run has no %s" % name for name in test.split() if name not in names.tests() | names.GROUPS)
-        for verb, crates in re.findall(r"\brt (check|dev|must-fail|try)((?: [a-z_]+)+)", said):
-            yield from ("rt %s of %s, which is no crate" % (verb, name) for name in crates.split() if name not in names.crates())
+        for verb, crates in re.findall(r"\b(rt ci|rt must-fail|tools/build)((?: [a-z_]+)+)", said):
+            yield from ("%s of %s, which is no crate" % (verb, name) for name in crates.split() if name not in names.crates())
+        for verb in re.findall(r"\brt (check|fmt|lib|tidy|try) [a-z_]", said):
+            yield "rt %s takes no name, and works in a crate's folder" % verb
+        for verb in re.findall(r"\brt (dev|staticlib)\b", said):
+            yield "rt has no " + verb
 
 
 def wrong_word(word):
@@ -96,8 +103,8 @@ def wrong_word(word):
     return None
 
 
-def wrong_words(text):
-    for said in QUOTED.findall(text):
+def wrong_words(page, text):
+    for said in QUOTED.findall(FACT.sub(r"\1 |", text) if page == "docs/IMPOSTORS.md" else text):
         wrong = wrong_word(said)
         if wrong:
             yield wrong
@@ -238,7 +245,7 @@ def save(page, text):
 def wrong(pages, requests):
     """(page, what is wrong with it)"""
     for page, text in pages.items():
-        for told in (wrong_paths(page, text), wrong_commands(text), wrong_words(text), wrong_sections(pages, text), wrong_decisions(pages, text), prose.wrong(page, text)):
+        for told in (wrong_paths(page, text), wrong_commands(text), wrong_words(page, text), wrong_sections(pages, text), wrong_decisions(pages, text), prose.wrong(page, text)):
             yield from ((page, line) for line in told)
     for page, text in requests.items():
         yield from ((page, line) for line in wrong_decisions(pages, text))

@@ -1,14 +1,17 @@
 #!/usr/bin/env python3
 """The tables of docs/IMPOSTORS.md are held to what the check said of each wrong program: every edit of
-crates/*/must-fail has one row, and the row's last column is where the first error in its log stands. A log that shows
-that the stored proof has other parts than the edited code (docs/DECISIONS.md, C14), or that the edited code is none, says
-nothing about a contract and is wrong too. The logs are those that `rt ci` or `rt must-fail` left.
+crates/*/must-fail has one row, and the row's last column is where the first error stands that rt prints of it. An edit that
+is no code, or is refused only because a proof file names what it took away (docs/DECISIONS.md, C14), says nothing about a
+contract and is wrong too. What rt said is read in target/ci, which .ci/run leaves, where that is of these very files; else
+`rt must-fail` is asked, which tries again only what has changed.
 
-    python3 tests/impostors/run.py [CRATE...]     all crates, or these"""
+    python3 tests/impostors/run.py [CRATE...]             all crates, or these
+    python3 tests/impostors/run.py --write [CRATE...]     puts into the rows what was said, then says what is wrong"""
 import collections
 import glob
 import os
 import re
+import subprocess
 import sys
 
 ROOT = os.path.join(os.path.dirname(os.path.abspath(__file__)), "..", "..")
@@ -17,16 +20,14 @@ ROOT = os.path.join(os.path.dirname(os.path.abspath(__file__)), "..", "..")
 ROW = re.compile(r"\|(?: `(?P<crate>\w+)` \| .* \(`(?P<label>\w+)`\)| .* \| `(?P<edit>\w+/\w+)`) \| (?P<first>.*) \|")
 NO_ROW = re.compile(r"[^|]|\|-|.* first error \||$")
 
-# What does not follow: in a proof file, and where there is none.
-ERROR = re.compile(r"(?P<file>/\S+):\d+:\d+: error: `(?P<fact>[^`]+)`: ")
-UNPROVED = re.compile(r"note: (?P<file>/\S+):(?P<line>\d+):\d+: it is not proved that .* \(`(?P<fact>[^`]+)`\)$")
-OTHER = re.compile(r"\S+: error\b")
+# What rt says of an edit that the check refuses; behind it stand the place of the first error and the fact that does not follow.
+SAID = re.compile(r"^rt: must-fail (\w+/[\w.-]+)\.edit: (.*)$", re.M)
+REFUSED = re.compile(r"refused, as it must be(?: \((?P<only>[^)]*(?:\([^)]*\))?[^)]*)\))?(?:: (?P<first>.*))?")
+PLACE = re.compile(r"(?:note: )?(?:\./)?(?P<file>(?:src|proofs)/[\w./+-]+):(?P<line>\d+):\d+: "
+                   r"(?:error: `(?P<fact>[^`]+)`: |it is not proved that .*? \(`(?P<goal>[^`]+)`\))")
 
-# Said of what rests on a fact that does not follow.
-RESTS = "was not admitted"
-
-# Said of a proof that names a part which the code does not have, or is put together from other parts.
-UNFIT = re.compile(r"can be named from here|has no field|: error: `[^`]+-spec`: ")
+# Said of a proof that names a part which the code does not have.
+UNFIT = "only because a proof file names what the edit took away"
 
 
 def read(path):
@@ -55,87 +56,77 @@ def rows(crates):
     return table
 
 
-def changes(path):
-    """The texts that an edit replaces and by what, by file."""
-    replaced, file, old = collections.defaultdict(list), "", ""
-    for line in read(path).splitlines():
-        key, _, text = line.partition(":")
-        text = text.removeprefix(" ")
-        if key == "file":
-            file = text
-        elif key == "old":
-            old = text
-        elif key == "new":
-            replaced[file].append((old, text))
-    return replaced
-
-
-def is_present(edit, folder):
-    """Whether what the log speaks of is the crate as it stands, with the edit."""
-    crate, label = edit.split("/")
-    home = os.path.join(ROOT, "crates", crate)
-    replaced = changes(os.path.join(home, "must-fail", label + ".edit"))
-    for path in [path for part in ("src", "specs", "proofs") for path in glob.glob(os.path.join(home, part, "**", "*.*"), recursive=True)]:
-        name, text = os.path.relpath(path, home), read(path)
-        for old, new in replaced[name]:
-            text = text.replace(old, new)
-        if not os.path.exists(os.path.join(folder, name)) or read(os.path.join(folder, name)) != text:
-            return False
-    return True
+def said(crates):
+    """What rt says of each edit."""
+    kept, edited = os.path.join(ROOT, "target", "ci"), glob.glob(os.path.join(ROOT, "crates", "*", "must-fail", "*.edit"))
+    is_kept = os.path.exists(kept) and all(os.path.getmtime(path) < os.path.getmtime(kept) for path in edited)
+    if is_kept and subprocess.run([os.path.join(ROOT, "tools", "build"), "--is-proved"]).returncode == 0:
+        return dict(SAID.findall(read(kept)))
+    told = subprocess.run(["rt", "must-fail", *crates], cwd=ROOT, stdin=subprocess.DEVNULL, stdout=subprocess.PIPE, text=True)
+    return dict(SAID.findall(told.stdout))
 
 
 def function_at(path, line):
     """The function whose text begins at this line of a source, or else the one that the line stands in."""
     lines = read(path).split("\n")
-    if re.match(r"#\[|(pub )?(extern \"C\" )?fn\b", lines[line - 1]):
+    if re.match(r"\s*(?:#\[|(pub )?(extern \"C\" )?fn\b)", lines[line - 1]):
         return re.search(r"\bfn (\w+)", "\n".join(lines[line - 1:])).group(1)
     return re.findall(r"\bfn (\w+)", "\n".join(lines[:line]))[-1]
 
 
-def place(folder, path):
-    """The function that a proof file proves, or the file of a law."""
-    name = os.path.relpath(path, os.path.join(folder, "proofs"))
-    return name.split(os.sep)[-2] if name.endswith("/Proof.antt") else name[: -len(".antt")]
+def place(crate, file, line):
+    """The function that is proved in a file, or whose code stands there, or the file of a law."""
+    if file.startswith("src/"):
+        return function_at(os.path.join(ROOT, "crates", crate, file), line)
+    name = file[len("proofs/"):]
+    return name.split("/")[-2] if re.search(r"/(?:Proof|Answers|Invariants)\.antt$", name) else name[: -len(".antt")]
 
 
-def first_error(folder):
-    """(function or file, fact) of the first error in a log, and what is wrong with the log."""
-    first, wrong = None, None
-    for line in read(os.path.join(folder, ".log")).splitlines():
-        error, unproved = ERROR.match(line), UNPROVED.match(line)
-        if RESTS in line or not (error or unproved or OTHER.match(line)):
-            continue
-        if not unproved and not (error and error["file"].startswith(os.path.join(folder, "proofs", ""))):
-            wrong = wrong or "what was edited is no code or no definition: " + line
-        elif UNFIT.search(line):
-            wrong = wrong or "the stored proof has other parts than the code: " + line
-        elif error:
-            first = first or (place(folder, error["file"]), error["fact"])
-        else:
-            first = first or (function_at(unproved["file"], int(unproved["line"])), unproved["fact"])
-    return first, wrong or (None if first else "no error in the log")
+def first_error(edit, text):
+    """`function or file`, `fact` of the first error, and what is wrong with what rt says."""
+    refused = REFUSED.fullmatch(text)
+    if not refused:
+        return None, "it is not refused: " + text
+    if UNFIT in text:
+        return None, "the stored proof has other parts than the code: " + text
+    found = PLACE.match(refused["first"] or "")
+    if not found:
+        return None, "no error in what rt says: " + text
+    return "`%s`, `%s`" % (place(edit.split("/")[0], found["file"], int(found["line"])), found["fact"] or found["goal"]), None
 
 
-def wrong_with(edit, told):
-    """What is wrong with an edit, its row or its log, if anything."""
-    folder = os.path.realpath(os.path.join(ROOT, "target", "must-fail", *edit.split("/")))
+def wrong_with(edit, told, text):
+    """What is wrong with an edit, its row or what rt says, if anything."""
     if len(told) != 1:
         return "%d rows in docs/IMPOSTORS.md" % len(told)
-    if not os.path.exists(os.path.join(folder, ".log")):
-        return "no log"
-    if not is_present(edit, folder):
-        return "the log is of an earlier state of the crate or of the edit"
-    first, wrong = first_error(folder)
+    if text is None:
+        return "rt says nothing of it"
+    found, wrong = first_error(edit, text)
     if wrong:
         return wrong[:400]
-    found = "`%s`, `%s`" % first
-    return None if told[0] == found else "its row says %s, its log %s" % (told[0], found)
+    return None if told[0] == found else "its row says %s, rt %s" % (told[0], found)
+
+
+def write(crates, texts):
+    """Each row's last column as it is said."""
+    path = os.path.join(ROOT, "docs", "IMPOSTORS.md")
+    lines = []
+    for line in read(path).split("\n"):
+        row = ROW.fullmatch(line)
+        edit = row and (row["edit"] or row["crate"] + "/" + row["label"])
+        found = first_error(edit, texts[edit])[0] if row and edit in texts else None
+        lines.append(line[:row.start("first")] + found + " |" if found else line)
+    with open(path, "w", encoding="utf-8") as file:
+        file.write("\n".join(lines))
 
 
 def main():
-    crates = sys.argv[1:]
+    crates = [word for word in sys.argv[1:] if word != "--write"]
+    texts = said(crates)
+    if "--write" in sys.argv[1:]:
+        write(crates, texts)
     known, table = list(edits(crates)), rows(crates)
-    faults = [(edit, wrong_with(edit, table[edit])) for edit in known]
+    faults = [(edit, wrong_with(edit, table[edit], texts.get(edit))) for edit in known]
     faults += [(edit, "a row of no edit") for edit in table if edit not in known]
     for edit, wrong in faults:
         if wrong:

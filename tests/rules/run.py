@@ -26,7 +26,7 @@ EVENT = re.compile(r"([A-Z]+(?: [A-Z]+)*)(?: register ([01]{2}))?(?: bank (\d))?
 
 # At the margin, or in a module, where a line without one of the two words is a field of a record.
 DEFINED = re.compile(r"^(?:(?:abbrev |unfoldable )?pub (?:data |record )?| +(?:abbrev |unfoldable )pub )([^\s:]+) ", re.M)
-CASES = re.compile(r"^\| [^|]* \| (\w+) \| (`[a-z-]+`.*) \|$", re.M)
+CASES = re.compile(r"^\| [^|]* \| (\w+) \| (`[a-z_-]+`.*) \|$", re.M)
 
 
 def read(*path):

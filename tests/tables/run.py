@@ -9,6 +9,7 @@
    limits of the settings.
 4. That 3 would notice: the same search over object files that store rows (stored.c, in every spelling), and over the archive
    with stored-rows.txt added to its source."""
+import glob
 import os
 import re
 import shutil
@@ -121,8 +122,9 @@ def accounted(section):
 def array_constants():
     """The array constants of the crates that the archive is made of."""
     with open(os.path.join(ROOT, "crates.txt"), encoding="utf-8") as file:
-        needs = dict(line.split(":", 1) for line in file if ":" in line)
-    todo, crates = ["morgazell"], set()
+        lines = [line.split("#")[0].split(":") for line in file if ":" in line.split("#")[0]]
+    needs = {line[0].split()[0]: line[1] for line in lines}
+    todo, crates = ["morgazell_c"], set()
     while todo:
         crate = todo.pop()
         if crate in needs and crate not in crates:
@@ -157,22 +159,25 @@ def hold_noticing():
 
 
 def hold_noticing_in_the_archive():
-    """The library with a table in its source, built in a copy of the repository as tools/archive builds it."""
-    copy = os.path.join(ROOT, "target", "tables")
-    shutil.rmtree(copy, ignore_errors=True)
-    os.makedirs(copy)
-    shutil.copy(os.path.join(ROOT, "crates.txt"), copy)
-    for folder in ("crates", os.path.join("target", "rlib"), os.path.join("target", "stamp")):
-        shutil.copytree(os.path.join(ROOT, folder), os.path.join(copy, folder), ignore=shutil.ignore_patterns("must-fail"))
-    with open(os.path.join(HERE, "stored-rows.txt"), encoding="utf-8") as rows:
-        with open(os.path.join(copy, "crates", "morgazell", "src", "lib.rt"), "a", encoding="utf-8") as library:
-            library.write("\n" + rows.read())
-    built = subprocess.run(["rt", "staticlib", "morgazell"], cwd=copy, capture_output=True, text=True)
-    if built.returncode != 0:
-        tell("the library with a table in it is not built: " + (built.stdout + built.stderr)[-600:])
-    elif not any(" has a row: " in line for line in stored(elf.members(os.path.join(copy, "target", "staticlib", "libmorgazell.a")))):
-        tell("a table in the library's source is not noticed in the archive")
-    shutil.rmtree(copy)
+    """The library with a table in its source, built in a copy of the repository as tools/archive builds it, over the libraries
+    that are there: the copy is outside, since `rt ci` reads all that is in the repository."""
+    with tempfile.TemporaryDirectory() as copy:
+        for name in ("crates.txt", os.path.join("tools", "build")):
+            os.makedirs(os.path.dirname(os.path.join(copy, name)), exist_ok=True)
+            shutil.copy(os.path.join(ROOT, name), os.path.join(copy, name))
+        for kept in sorted(glob.glob(os.path.join(ROOT, "crates", "*", "out", "rlib"))):
+            shutil.copytree(kept, os.path.join(copy, os.path.relpath(kept, ROOT)))
+        crate = os.path.join(copy, "crates", "morgazell_c")
+        shutil.copytree(os.path.join(ROOT, "crates", "morgazell_c"), crate, ignore=shutil.ignore_patterns("must-fail", "out"))
+        with open(os.path.join(HERE, "stored-rows.txt"), encoding="utf-8") as rows:
+            with open(os.path.join(crate, "src", "lib.rt"), "a", encoding="utf-8") as library:
+                library.write("\n" + rows.read())
+        archive = os.path.join(crate, "out", "libmorgazell_c.a")
+        built = subprocess.run([os.path.join(copy, "tools", "build"), "--over", archive, "morgazell_c"], capture_output=True, text=True)
+        if built.returncode != 0:
+            tell("the library with a table in it is not built: " + (built.stdout + built.stderr)[-600:])
+        elif not any(" has a row: " in line for line in stored(elf.members(archive))):
+            tell("a table in the library's source is not noticed in the archive")
 
 
 def main():

@@ -1,6 +1,6 @@
 #!/usr/bin/env python3
-"""tools/archive and tools/run, in a copy beside a folder of their own, with an `rt` and a `uname` that only say what they were
-asked. tools/archive refuses every name that could reach another folder, before anything is built or removed. tools/run
+"""tools/archive, tools/build and tools/run, in a copy beside a folder of their own, with an `rt` and a `uname` that only say what
+they were asked. tools/archive refuses every name that could reach another folder, before anything is built or removed. tools/run
 passes the arguments on as they are, runs the program itself on x86-64, and says what is missing."""
 import os
 import shutil
@@ -31,17 +31,20 @@ def write(path, text):
 
 
 def place(folder):
-    """A copy of the two tools, what they could remove or run, and commands without an rt."""
-    for copied in ("tools/archive", "tools/run", "crates/version/specs/Version.antt"):
+    """A copy of the three tools, what they could remove or run, and commands without an rt."""
+    for copied in ("tools/archive", "tools/build", "tools/run", "crates/version/specs/Version.antt"):
         os.makedirs(os.path.dirname(os.path.join(folder, copied)), exist_ok=True)
         shutil.copy(os.path.join(ROOT, copied), os.path.join(folder, copied))
     for kept in ("samples/kept", "target/bin/kept"):
         write(os.path.join(folder, kept), "")
-    write(os.path.join(folder, "target/bin/program"), "#!/bin/sh\nprintf '%s\\n' \"$@\"\n")
+    write(os.path.join(folder, "crates/program/out/program"), "#!/bin/sh\nprintf '%s\\n' \"$@\"\n")
+    write(os.path.join(folder, "crates/morgazell_c/src/lib.rt"), "")
+    write(os.path.join(folder, "crates.txt"), "morgazell_c staticlib:\n")
     for command in ("sh", "env", "dirname", "readlink", "sed"):
         os.makedirs(os.path.join(folder, "commands"), exist_ok=True)
         os.symlink(shutil.which(command), os.path.join(folder, "commands", command))
-    write(os.path.join(folder, "kit/bin/rt"), "#!/bin/sh\necho asked: \"$@\"\nexit 3\n")
+    write(os.path.join(folder, "commands/python3"), f"#!/bin/sh\nexec {sys.executable} \"$@\"\n")
+    write(os.path.join(folder, "kit/bin/rt"), "#!/bin/sh\necho asked: \"$@\" in \"${PWD##*/}\"\nexit 3\n")
 
 
 def run(folder, tool, arguments, processor="x86_64", kit=True, **environment):
@@ -58,11 +61,11 @@ def archives(folder):
         for kept in ("samples/kept", "target/bin/kept"):
             hold(f"archive {name!r}: {kept}", os.path.exists(os.path.join(folder, kept)), True)
     for name in ([], ["morgazell-2"]):
-        hold(f"archive {name}", run(folder, "archive", name), (3, "asked: staticlib morgazell\n", ""))
+        hold(f"archive {name}", run(folder, "archive", name), (3, "asked: lib in morgazell_c\n", ""))
 
 
 def runs(folder):
-    program = os.path.join(folder, "target", "bin", "program")
+    program = os.path.join(folder, "crates", "program", "out", "program")
     given = "".join(word + "\n" for word in ARGUMENTS)
     for kit in (True, False):
         hold("run on x86-64", run(folder, "run", ["program", *ARGUMENTS], kit=kit), (0, given, ""))
@@ -75,7 +78,7 @@ def runs(folder):
     status, out, err = run(folder, "run", ["program"], "aarch64", kit=False)
     hold("run on Arm without rt", (status, out, "rt is not in the path" in err), (2, "", True))
     status, out, err = run(folder, "run", ["none"])
-    hold("run of no program", (status, out, "rt check none" in err), (2, "", True))
+    hold("run of no program", (status, out, "tools/build none" in err), (2, "", True))
     status, out, err = run(folder, "run", [])
     hold("run of nothing", (status, out, err.startswith("usage: ")), (2, "", True))
 
