@@ -1,22 +1,26 @@
--- Filling the records one after the other: one more, and none left; and what is left of the records, as the reading says.
+-- Filling the records one after the other: one more, and none left; and what an answer that is no refusal leaves.
 use Prim.Native.Nat.{ℕ, zero, suc, ◌+◌, ◌-◌, ◌≤◌, ◌<◌}
 use mathlib.Core.Path.{◌≡◌, refl, sym, ap, ◌∙◌}
 use mathlib.Core.List.{List, [], ◌∷◌, ◌++◌, map}
+use mathlib.Core.Logic.{inl, inr}
 use mathlib.Core.Option.{Option, none, some}
 use native.Mathlib.Omega.{arith}
 use borrow.Author.Tests.{lt-leb}
 use lib.ListN.{length, length-map, set, drop}
 use lib.Seq.{set-get_or}
+use types.Run.{OneOf}
+use denote.Enum.Declared.{tag_of}
 use Rattle.reading.specs.Search.{lesser}
 use Rattle.reading.specs.Answers.{Answer, refused, answered}
 use Rattle.reading.specs.Openings.{Record}
 use Rattle.reading.specs.OpenRow.{over}
 use Rattle.words.proofs.Search.{one_less, none_left}
 use Rattle.banks.specs.declared.Asked.{Asked}
-use Rattle.banks.specs.declared.Asked.TheVariants.{Refused}
+use Rattle.banks.specs.declared.Asked.TheVariants.{Refused, Open, Idle}
 use Rattle.banks.specs.declared.Bank.{Bank}
 use Rattle.banks.specs.declared.Told.{Told}
 use Rattle.banks.specs.Banks.{no_opening, bank_at, by_answer, filled_of, filled_from, bank_of, record_of, row_asked, told_of}
+use Rattle.banks.specs.contracts.Asked.{the_type}
 
 module _ (t : Told) (records : List Bank) (i n : ℕ) where
   pub fills-on : i < n → filled_from t records i (n - i) ≡ filled_from t (set records i (filled_of t (bank_at records i) i)) (i + 1) (n - (i + 1))
@@ -26,6 +30,16 @@ module _ (t : Told) (records : List Bank) (i n : ℕ) where
   pub fills-none : n ≤ i → filled_from t records i (n - i) ≡ records
   unfolding filled_from
   fills-none over = ap (filled_from t records i) (none_left n i over)
+
+-- the first variant is none of the other two
+not_first : OneOf (1 ∷ 2 ∷ []) 0 → ⊥
+not_first (inl e) = omega arith
+not_first (inr e) = omega arith
+
+pub answered-new : {A : Type 0} (answer : Asked) (old new : A) → OneOf (1 ∷ 2 ∷ []) (tag_of the_type answer) → new ≡ by_answer answer old new
+answered-new (Refused number place) old new o = absurd (not_first o)
+answered-new (Open row) old new o = refl
+answered-new Idle old new o = refl
 
 -- ---- filled as the reading says
 

@@ -12,30 +12,32 @@ const UNDONE: [u8; 19] = *b"nothing was written";
 // One byte more than the longest capture, so that a longer input is seen to be too long and nothing is blanked in part.
 const ROOM: usize = capture::MOST + 1;
 
-fn write(blanked: &[u8]) {
-    let mut out: Out = true;
+fn write(rt: &HostRuntime, blanked: &[u8]) {
+    let mut out = Out::new(rt.stdout());
     say(&mut out, blanked);
-    program::end(&NAME, out, b"written");
+    program::end(rt, &NAME, out, b"written");
 }
 
-fn blank(capture: &[u8]) {
+fn blank(rt: &HostRuntime, capture: &[u8]) {
     let mut room = [0u8; capture::MOST];
     let blanked = hidden::blank(capture, &mut room);
     match blanked {
         Blanked::Refused { number, place } => program::refuse(
+            rt,
             &NAME,
             b": refused ",
             number,
             place,
             &UNDONE,
         ),
-        Blanked::Written { bytes } => write(&room[..bytes as usize]),
+        Blanked::Written { bytes } => write(rt, &room[..bytes as usize]),
     }
 }
 
-fn main() {
+fn main(rt: HostRuntime) {
     let mut buffer = [0u8; ROOM];
     let given = program::input(
+        &rt,
         &NAME,
         b"usage: blank [FILE]
 
@@ -50,5 +52,5 @@ output, and standard error says `refused NUMBER place PLACE`.
         return;
     }
     let n = given.size;
-    blank(&buffer[..n]);
+    blank(&rt, &buffer[..n]);
 }

@@ -52,7 +52,7 @@ fn store_capture(capture: &mut [u8], total: u32, n: u32, mode: u32, cycle: u32, 
 // ---- lines
 
 // The first n elements of a list, or all that it has, with a space between any two.
-fn print_list(list: &[u32], n: u32) {
+fn print_list(rt: &HostRuntime, list: &[u32], n: u32) {
     let mut i: u32 = 0;
     while i < n {
         let at = i as usize;
@@ -60,85 +60,85 @@ fn print_list(list: &[u32], n: u32) {
             return;
         }
         if 0 < i {
-            say(b" ");
+            say(rt, b" ");
         }
-        print(list[at]);
+        print(rt, list[at]);
         i += 1;
     }
 }
 
-fn print_listed(answer: Listed, out: &[u32]) {
+fn print_listed(rt: &HostRuntime, answer: Listed, out: &[u32]) {
     match answer {
         Listed::Refused { number, place } => {
-            say(b"refused ");
-            print(number);
-            say(b" place ");
-            print(place);
+            say(rt, b"refused ");
+            print(rt, number);
+            say(rt, b" place ");
+            print(rt, place);
         }
-        Listed::Written { cells } => print_list(out, cells),
+        Listed::Written { cells } => print_list(rt, out, cells),
     }
-    say(b"\n");
+    say(rt, b"\n");
 }
 
 // The cells of ACTIVE 0 and one READ.
-fn print_read(mode: u32, cycle: u32, column: u32) {
+fn print_read(rt: &HostRuntime, mode: u32, cycle: u32, column: u32) {
     let mut capture = [0u8; 96];
     let mut out = [0u32; 16];
     store_capture(&mut capture, 96, 2, mode, cycle, column);
     let answer = cells::burst_cells(&capture, &mut out);
-    print_listed(answer, &out);
+    print_listed(rt, answer, &out);
 }
 
 // "READ 3 column 5: cells 5, 6, 7, 4; interleaved 5, 4, 7, 6; with READ 4 column 8 the first gives 5, 6."
-fn print_case_k() {
-    say(b"READ 3 column 5: ");
-    print_read(SEQUENTIAL | 2, 3, 5);
-    say(b"interleaved: ");
-    print_read(INTERLEAVED | 2, 3, 5);
-    say(b"with READ 4 column 8: ");
+fn print_case_k(rt: &HostRuntime) {
+    say(rt, b"READ 3 column 5: ");
+    print_read(rt, SEQUENTIAL | 2, 3, 5);
+    say(rt, b"interleaved: ");
+    print_read(rt, INTERLEAVED | 2, 3, 5);
+    say(rt, b"with READ 4 column 8: ");
     let mut capture = [0u8; 104];
     let mut out = [0u32; 16];
     store_capture(&mut capture, 104, 3, SEQUENTIAL | 2, 3, 5);
     store_event(&mut capture, 96, 4, READ | 8);
     let answer = cells::burst_cells(&capture, &mut out);
-    print_listed(answer, &out);
+    print_listed(rt, answer, &out);
 }
 
 // A list that is too short stays as it was.
-fn print_short() {
+fn print_short(rt: &HostRuntime) {
     let mut capture = [0u8; 96];
     let mut out = [9u32; 3];
     store_capture(&mut capture, 96, 2, SEQUENTIAL | 2, 3, 5);
     let answer = cells::burst_cells(&capture, &mut out);
-    print_listed(answer, &out);
-    print_list(&out, 3);
-    say(b"\n");
+    print_listed(rt, answer, &out);
+    print_list(rt, &out, 3);
+    say(rt, b"\n");
 }
 
 // The rows of a length, for its code in the mode word.
-fn print_rows(length: u32, code: u32) {
+fn print_rows(rt: &HostRuntime, length: u32, code: u32) {
     for start in 0..length {
-        print(length);
-        say(b",");
-        print(start);
-        say(b",sequential,");
-        print_read(SEQUENTIAL | code, 3, start);
-        print(length);
-        say(b",");
-        print(start);
-        say(b",interleaved,");
-        print_read(INTERLEAVED | code, 3, start);
+        print(rt, length);
+        say(rt, b",");
+        print(rt, start);
+        say(rt, b",sequential,");
+        print_read(rt, SEQUENTIAL | code, 3, start);
+        print(rt, length);
+        say(rt, b",");
+        print(rt, start);
+        say(rt, b",interleaved,");
+        print_read(rt, INTERLEAVED | code, 3, start);
     }
 }
 
-fn main() {
-    print_case_k();
-    say(b"READ 2: ");
-    print_read(SEQUENTIAL | 2, 2, 5);
-    say(b"room for 3: ");
-    print_short();
-    print_rows(2, 1);
-    print_rows(4, 2);
-    print_rows(8, 3);
-    print_rows(16, 4);
+fn main(rt: HostRuntime) {
+    print_case_k(&rt);
+    say(&rt, b"READ 2: ");
+    print_read(&rt, SEQUENTIAL | 2, 2, 5);
+    say(&rt, b"room for 3: ");
+    print_short(&rt);
+    print_rows(&rt, 2, 1);
+    print_rows(&rt, 4, 2);
+    print_rows(&rt, 8, 3);
+    print_rows(&rt, 16, 4);
 }

@@ -1,2 +1,4 @@
+pub mod Counts
+pub mod Digits
 pub mod Input
 pub mod Output

@@ -1,7 +1,9 @@
 // A line of text in a lent buffer, put together piece by piece, so that one call writes it. What there is no room for is
 // left out.
 ghost use Rattle.std.specs.Prelude.{◌≤◌};
-ghost use Rattle.io.specs.Counts.{IsPrefixLen};
+ghost use Rattle.console.specs.Counts.{IsPrefixLen};
+
+use crate::number::decimal;
 
 fn least(a: usize, b: usize) -> usize
     ensures { (result ≤ a) × (result ≤ b) }
@@ -28,7 +30,7 @@ pub fn put_number(line: &mut [u8], at: usize, n: u64) -> usize
     ensures { IsPrefixLen result line.new }
 {
     let mut digits = [0u8; 20];
-    let size = io::decimal(n, &mut digits);
+    let size = decimal(n, &mut digits);
     put(line, at, &digits[..size])
 }
 

@@ -5,8 +5,8 @@
 
 ghost use Rattle.std.specs.Prelude.{◌≤◌, length};
 
-use console::program::{Given, NOTHING, Source};
-use console::{Input, Out, arguments, program, read_input, say};
+use console::program::{Given, NOTHING, Reader, Source};
+use console::{Failure, Input, Out, arguments, program, read_input, say};
 use exports::Converted;
 use settings::COUNT;
 use settings::places::EDITION;
@@ -29,18 +29,18 @@ const ROUNDS: u64 = 0x1_0000_0000;
 enum Rest {
     Whole,
     Part,
-    Failed,
+    Failed(Failure),
     More,
 }
 
-fn write(read: &[u8]) {
-    let mut out: Out = true;
+fn write(rt: &HostRuntime, read: &[u8]) {
+    let mut out = Out::new(rt.stdout());
     say(&mut out, read);
-    program::end(&NAME, out, b"written");
+    program::end(rt, &NAME, out, b"written");
 }
 
 // These records under the settings and the edition of a capture that begins so.
-fn convert(front: &[u8], records: &[u8])
+fn convert(rt: &HostRuntime, front: &[u8], records: &[u8])
     requires { 88 ≤ length front.now }
 {
     let held = capture::settings_in(front);
@@ -49,23 +49,28 @@ fn convert(front: &[u8], records: &[u8])
     let converted = exports::read(records, &held[..COUNT], edition, &mut room);
     match converted {
         Converted::Refused { number, place } => program::refuse(
+            rt,
             &NAME,
             b": refused ",
             number,
             place,
             &UNDONE,
         ),
-        Converted::Written { bytes } => write(&room[..bytes as usize]),
+        Converted::Written { bytes } => write(rt, &room[..bytes as usize]),
     }
 }
 
 // A longest export more, of which nothing is kept: how it ends decides whether the length of the whole is a multiple of six.
-fn passed(fd: i32) -> Rest {
+fn passed(from: &mut Reader) -> Rest {
     let mut room = [0u8; exports::LONGEST];
-    let input = read_input(fd, &mut room);
-    let Input::Whole(size) = input else {
-        return Rest::Failed;
-    };
+    match read_input(from, &mut room) {
+        Input::Whole(size) => ended(size),
+        Input::Failed(why) => Rest::Failed(why),
+    }
+}
+
+// What so many bytes behind the records that are kept come to.
+fn ended(size: usize) -> Rest {
     if size % exports::RECORD != 0 {
         return Rest::Part;
     }
@@ -75,9 +80,9 @@ fn passed(fd: i32) -> Rest {
     Rest::More
 }
 
-fn rest_of(fd: i32) -> Rest {
+fn rest_of(from: &mut Reader) -> Rest {
     for round in 0..ROUNDS {
-        let rest = passed(fd);
+        let rest = passed(from);
         let Rest::More = rest else {
             return rest;
         };
@@ -87,16 +92,16 @@ fn rest_of(fd: i32) -> Rest {
 
 // How many of the bytes that were read tell what the whole export tells: all, or where there are too many records and it does not
 // end with one, a byte less.
-fn told(size: usize, fd: i32, place: usize) -> Given
+fn told(rt: &HostRuntime, size: usize, from: &mut Reader, place: usize) -> Given
     ensures { result.size ≤ 48006 }
 {
     if size < RECORDS {
         return Given { work: true, size };
     }
-    let rest = rest_of(fd);
+    let rest = rest_of(from);
     match rest {
-        Rest::Failed => {
-            program::complain_unread(&NAME, place, &UNDONE);
+        Rest::Failed(why) => {
+            program::complain_unread(rt, &NAME, place, why, &UNDONE);
             NOTHING
         }
         Rest::Part => Given {
@@ -111,29 +116,33 @@ fn told(size: usize, fd: i32, place: usize) -> Given
 }
 
 // The export that argument `export` names, under the settings and the edition of a capture that begins so.
-fn run(front: &[u8], export: usize)
+fn run(rt: &HostRuntime, front: &[u8], export: usize)
     requires { 88 ≤ length front.now }
 {
-    let source = program::open(&NAME, export, &UNDONE);
-    let Source::Open { fd, place } = source else {
+    let Source::Open { mut from, place } = program::open(rt, &NAME, export, &UNDONE) else {
         return;
     };
     let mut records = [0u8; RECORDS];
-    let input = read_input(fd, &mut records);
-    let Input::Whole(size) = input else {
-        program::complain_unread(&NAME, place, &UNDONE);
-        return;
-    };
-    let given = told(size, fd, place);
-    if given.work {
-        let n = given.size;
-        convert(front, &records[..n]);
+    match read_input(&mut from, &mut records) {
+        Input::Whole(size) => {
+            let given = told(rt, size, &mut from, place);
+            if given.work {
+                let n = given.size;
+                convert(rt, front, &records[..n]);
+            }
+        }
+        Input::Failed(why) => program::complain_unread(rt, &NAME, place, why, &UNDONE),
     }
 }
 
-fn complain_of_settings(place: usize) {
-    let shown = if program::standard(place) { 0 } else { place };
+fn complain_of_settings(rt: &HostRuntime, place: usize) {
+    let shown = if program::standard(rt, place) {
+        0
+    } else {
+        place
+    };
     program::complain_of(
+        rt,
         &NAME,
         shown,
         b" is no capture of fourteen settings",
@@ -155,8 +164,9 @@ fn begins_capture(front: &[u8]) -> bool
     words::word_at(front, 16) == capture::EVENTS as u32
 }
 
-fn main() {
+fn main(rt: HostRuntime) {
     let work = program::begin(
+        &rt,
         &NAME,
         b"usage: from_export SETTINGS [FILE]
 
@@ -172,20 +182,20 @@ is refused has no output, and standard error says `refused NUMBER place PLACE`.
     if !work {
         return;
     }
-    let from = arguments::name(0);
-    let export = arguments::name(1);
-    if program::standard(from) && program::standard(export) {
-        program::complain_of(&NAME, 0, b" cannot be both files, see --help", &UNDONE);
+    let from = arguments::name(&rt, 0);
+    let export = arguments::name(&rt, 1);
+    if program::standard(&rt, from) && program::standard(&rt, export) {
+        program::complain_of(&rt, &NAME, 0, b" cannot be both files, see --help", &UNDONE);
         return;
     }
     let mut front = [0u8; FRONT];
-    let settings = program::read(&NAME, from, &UNDONE, &mut front);
+    let settings = program::read(&rt, &NAME, from, &UNDONE, &mut front);
     if !settings.work {
         return;
     }
     if settings.size < capture::EVENTS || !begins_capture(&front) {
-        complain_of_settings(from);
+        complain_of_settings(&rt, from);
         return;
     }
-    run(&front, export);
+    run(&rt, &front, export);
 }

@@ -5,8 +5,7 @@
 
 ghost use Rattle.std.specs.Prelude.{◌<◌, ◌≤◌};
 
-use console::plain::{print, say};
-use libc::STDOUT_FILENO;
+use console::plain::{print, print_long, say};
 use settings::Checked;
 use trials::{store, store_settings};
 
@@ -124,165 +123,192 @@ fn store_capture(out: &mut [u8], size: u32, count: u32) {
 }
 
 fn opened(count: u32, size: u32, at: u32, word: u32, other: u32, second: u32) -> Answer {
-    let mut buffer = io::large_buffer();
+    let mut buffer = [0u8; 65_536];
     store_capture(&mut buffer, size, count);
     store(&mut buffer, at, word);
     store(&mut buffer, other, second);
-    let n = io::count(size as isize, &buffer);
+    let n = buffer.len().min(size as usize);
     of_checked(capture::open(&buffer[..n]))
 }
 
 // ---- lines
 
-fn print_change(at: u32, word: u32) {
+fn print_change(rt: &HostRuntime, at: u32, word: u32) {
     if at == NOWHERE {
         return;
     }
-    say(b", byte ");
-    print(at);
-    say(b" word ");
-    print(word);
+    say(rt, b", byte ");
+    print(rt, at);
+    say(rt, b" word ");
+    print(rt, word);
 }
 
-fn print_answer(got: Answer, number: u32, place: u32) {
+fn print_answer(rt: &HostRuntime, got: Answer, number: u32, place: u32) {
     if got.0 == 0 {
-        say(b"accepted");
+        say(rt, b"accepted");
     } else {
-        say(b"refused ");
-        print(got.0);
-        say(b" place ");
-        print(got.1);
+        say(rt, b"refused ");
+        print(rt, got.0);
+        say(rt, b" place ");
+        print(rt, got.1);
     }
     if got.0 != number || got.1 != place {
-        say(b" WRONG");
+        say(rt, b" WRONG");
     }
 }
 
-fn twice_changed(size: u32, at: u32, word: u32, other: u32, second: u32, number: u32, place: u32) {
-    print(size);
-    say(b" bytes");
-    print_change(at, word);
-    print_change(other, second);
-    say(b": ");
-    print_answer(opened(14, size, at, word, other, second), number, place);
-    say(b"\n");
+fn twice_changed(
+    rt: &HostRuntime,
+    size: u32,
+    at: u32,
+    word: u32,
+    other: u32,
+    second: u32,
+    number: u32,
+    place: u32,
+) {
+    print(rt, size);
+    say(rt, b" bytes");
+    print_change(rt, at, word);
+    print_change(rt, other, second);
+    say(rt, b": ");
+    print_answer(rt, opened(14, size, at, word, other, second), number, place);
+    say(rt, b"\n");
 }
 
-fn changed(size: u32, at: u32, word: u32, number: u32, place: u32) {
-    twice_changed(size, at, word, NOWHERE, 0, number, place);
+fn changed(rt: &HostRuntime, size: u32, at: u32, word: u32, number: u32, place: u32) {
+    twice_changed(rt, size, at, word, NOWHERE, 0, number, place);
 }
 
-fn unchanged(size: u32, number: u32, place: u32) {
-    twice_changed(size, NOWHERE, 0, NOWHERE, 0, number, place);
+fn unchanged(rt: &HostRuntime, size: u32, number: u32, place: u32) {
+    twice_changed(rt, size, NOWHERE, 0, NOWHERE, 0, number, place);
 }
 
 // ---- refusal 1: "capture under 80 or over 64,080 bytes, or not of its stated total", place 0
 
-fn lengths() {
-    unchanged(0, 1, 0);
-    unchanged(79, 1, 0); // states 79
-    unchanged(80, 0, 0); // no events
-    unchanged(88, 0, 0); // one event
-    unchanged(64_080, 0, 0); // 8,000 events
-    unchanged(64_081, 1, 0); // states 64,081
-    unchanged(64_088, 1, 0); // states 8,001 events too, and length is tried first
-    changed(80, TOTAL, 79, 1, 0);
-    changed(80, TOTAL, 81, 1, 0);
-    changed(80, TOTAL, 0, 1, 0);
-    changed(81, TOTAL, 80, 1, 0);
-    changed(64_080, TOTAL, 64_079, 1, 0);
+fn lengths(rt: &HostRuntime) {
+    unchanged(rt, 0, 1, 0);
+    unchanged(rt, 79, 1, 0); // states 79
+    unchanged(rt, 80, 0, 0); // no events
+    unchanged(rt, 88, 0, 0); // one event
+    unchanged(rt, 64_080, 0, 0); // 8,000 events
+    unchanged(rt, 64_081, 1, 0); // states 64,081
+    unchanged(rt, 64_088, 1, 0); // states 8,001 events too, and length is tried first
+    changed(rt, 80, TOTAL, 79, 1, 0);
+    changed(rt, 80, TOTAL, 81, 1, 0);
+    changed(rt, 80, TOTAL, 0, 1, 0);
+    changed(rt, 81, TOTAL, 80, 1, 0);
+    changed(rt, 64_080, TOTAL, 64_079, 1, 0);
 }
 
 // ---- refusal 2: "another header word is not as above, or the total is not 80 + 8N", place 0
 
-fn header_words() {
-    changed(80, SETTINGS_COUNT, 13, 2, 0);
-    changed(80, SETTINGS_COUNT, 15, 2, 0);
-    changed(80, SETTINGS_OFFSET, 23, 2, 0);
-    changed(80, SETTINGS_OFFSET, 25, 2, 0);
-    changed(80, EVENTS_OFFSET, 79, 2, 0);
-    changed(80, EVENTS_OFFSET, 81, 2, 0);
-    changed(80, EDITION, 1, 0, 0); // the newer edition
-    changed(80, EDITION, 2, 2, 0);
-    changed(80, EDITION, 0x8000_0000, 2, 0);
+fn header_words(rt: &HostRuntime) {
+    changed(rt, 80, SETTINGS_COUNT, 13, 2, 0);
+    changed(rt, 80, SETTINGS_COUNT, 15, 2, 0);
+    changed(rt, 80, SETTINGS_OFFSET, 23, 2, 0);
+    changed(rt, 80, SETTINGS_OFFSET, 25, 2, 0);
+    changed(rt, 80, EVENTS_OFFSET, 79, 2, 0);
+    changed(rt, 80, EVENTS_OFFSET, 81, 2, 0);
+    changed(rt, 80, EDITION, 1, 0, 0); // the newer edition
+    changed(rt, 80, EDITION, 2, 2, 0);
+    changed(rt, 80, EDITION, 0x8000_0000, 2, 0);
 }
 
-fn event_counts() {
-    unchanged(81, 2, 0); // 81 is not 80
-    unchanged(87, 2, 0);
-    changed(80, EVENTS_COUNT, 1, 2, 0); // 80 is not 88
-    changed(88, EVENTS_COUNT, 0, 2, 0);
-    changed(64_080, EVENTS_COUNT, 7_999, 2, 0);
-    changed(64_080, EVENTS_COUNT, 8_001, 2, 0);
-    changed(80, EVENTS_COUNT, 0x2000_0000, 2, 0); // 8N is 2^32, which is 0 in 32 bits
+fn event_counts(rt: &HostRuntime) {
+    unchanged(rt, 81, 2, 0); // 81 is not 80
+    unchanged(rt, 87, 2, 0);
+    changed(rt, 80, EVENTS_COUNT, 1, 2, 0); // 80 is not 88
+    changed(rt, 88, EVENTS_COUNT, 0, 2, 0);
+    changed(rt, 64_080, EVENTS_COUNT, 7_999, 2, 0);
+    changed(rt, 64_080, EVENTS_COUNT, 8_001, 2, 0);
+    changed(rt, 80, EVENTS_COUNT, 0x2000_0000, 2, 0); // 8N is 2^32, which is 0 in 32 bits
 }
 
 // ---- refusal 4: "pin bits 20-31 set, or a cycle too large or not above the one before", place the lowest event.
 // Three events are at cycles 0, 10 and 20.
 
-fn pins() {
-    changed(104, PINS_1, 0, 0, 0);
-    changed(104, PINS_1, 0x000F_FFFF, 0, 0); // bits 0 to 19
+fn pins(rt: &HostRuntime) {
+    changed(rt, 104, PINS_1, 0, 0, 0);
+    changed(rt, 104, PINS_1, 0x000F_FFFF, 0, 0); // bits 0 to 19
     for bit in 20u32..32 {
-        changed(104, PINS_1, 1 << bit, 4, 1);
+        changed(rt, 104, PINS_1, 1 << bit, 4, 1);
     }
 }
 
-fn rising_cycles() {
-    changed(104, CYCLE_0, 9, 0, 0); // nothing stands before the first event
-    changed(104, CYCLE_0, 10, 4, 1); // the second is equal
-    changed(104, CYCLE_1, 1, 0, 0); // one above the first
-    changed(104, CYCLE_1, 0, 4, 1); // equal
-    changed(104, CYCLE_1, 20, 4, 2); // the third is equal
-    changed(104, CYCLE_2, 11, 0, 0);
-    changed(104, CYCLE_2, 10, 4, 2); // equal
-    changed(104, CYCLE_2, 9, 4, 2); // falling
-    twice_changed(104, CYCLE_0, 30, CYCLE_1, 40, 4, 2); // the third alone is falling
+fn rising_cycles(rt: &HostRuntime) {
+    changed(rt, 104, CYCLE_0, 9, 0, 0); // nothing stands before the first event
+    changed(rt, 104, CYCLE_0, 10, 4, 1); // the second is equal
+    changed(rt, 104, CYCLE_1, 1, 0, 0); // one above the first
+    changed(rt, 104, CYCLE_1, 0, 4, 1); // equal
+    changed(rt, 104, CYCLE_1, 20, 4, 2); // the third is equal
+    changed(rt, 104, CYCLE_2, 11, 0, 0);
+    changed(rt, 104, CYCLE_2, 10, 4, 2); // equal
+    changed(rt, 104, CYCLE_2, 9, 4, 2); // falling
+    twice_changed(rt, 104, CYCLE_0, 30, CYCLE_1, 40, 4, 2); // the third alone is falling
 }
 
-fn large_cycles() {
-    changed(104, CYCLE_2, 2_000_000_000, 0, 0); // "at most 2,000,000,000"
-    changed(104, CYCLE_2, 2_000_000_001, 4, 2);
-    changed(104, CYCLE_2, 0xFFFF_FFFF, 4, 2);
-    changed(104, CYCLE_0, 2_000_000_000, 4, 1); // it fits, and the second is below it
-    changed(104, CYCLE_0, 2_000_000_001, 4, 0);
-    twice_changed(104, CYCLE_1, 1_999_999_999, CYCLE_2, 2_000_000_000, 0, 0);
-    twice_changed(104, CYCLE_1, 2_000_000_000, CYCLE_2, 2_000_000_001, 4, 2);
+fn large_cycles(rt: &HostRuntime) {
+    changed(rt, 104, CYCLE_2, 2_000_000_000, 0, 0); // "at most 2,000,000,000"
+    changed(rt, 104, CYCLE_2, 2_000_000_001, 4, 2);
+    changed(rt, 104, CYCLE_2, 0xFFFF_FFFF, 4, 2);
+    changed(rt, 104, CYCLE_0, 2_000_000_000, 4, 1); // it fits, and the second is below it
+    changed(rt, 104, CYCLE_0, 2_000_000_001, 4, 0);
+    twice_changed(
+        rt,
+        104,
+        CYCLE_1,
+        1_999_999_999,
+        CYCLE_2,
+        2_000_000_000,
+        0,
+        0,
+    );
+    twice_changed(
+        rt,
+        104,
+        CYCLE_1,
+        2_000_000_000,
+        CYCLE_2,
+        2_000_000_001,
+        4,
+        2,
+    );
 }
 
-fn first_and_last_events() {
-    changed(104, PINS_0, 0x0010_0000, 4, 0);
-    changed(104, PINS_2, 0x0010_0000, 4, 2);
-    changed(64_080, PINS_7999, 0x0010_0000, 4, 7_999);
-    changed(64_080, CYCLE_7999, 79_981, 0, 0); // event 7,998 is at 79,980
-    changed(64_080, CYCLE_7999, 79_980, 4, 7_999);
+fn first_and_last_events(rt: &HostRuntime) {
+    changed(rt, 104, PINS_0, 0x0010_0000, 4, 0);
+    changed(rt, 104, PINS_2, 0x0010_0000, 4, 2);
+    changed(rt, 64_080, PINS_7999, 0x0010_0000, 4, 7_999);
+    changed(rt, 64_080, CYCLE_7999, 79_981, 0, 0); // event 7,998 is at 79,980
+    changed(rt, 64_080, CYCLE_7999, 79_980, 4, 7_999);
 }
 
 // ---- several faults: "tried in this order; the first that applies is given"
 
-fn numbers_in_order() {
-    changed(79, SETTINGS_COUNT, 13, 1, 0);
-    twice_changed(80, TOTAL, 81, SETTINGS_COUNT, 13, 1, 0);
-    twice_changed(64_088, LANE, 0, PINS_0, 0x0010_0000, 1, 0);
-    twice_changed(80, EDITION, 2, LANE, 0, 2, 0);
-    twice_changed(80, EDITION, 1, LANE, 0, 3, 0);
-    twice_changed(104, EVENTS_COUNT, 2, PINS_0, 0x0010_0000, 2, 0);
-    twice_changed(104, LANE, 3, PINS_0, 0x0010_0000, 3, 0);
-    twice_changed(104, T_REFI, 0, PINS_0, 0x0010_0000, 3, 13);
+fn numbers_in_order(rt: &HostRuntime) {
+    changed(rt, 79, SETTINGS_COUNT, 13, 1, 0);
+    twice_changed(rt, 80, TOTAL, 81, SETTINGS_COUNT, 13, 1, 0);
+    twice_changed(rt, 64_088, LANE, 0, PINS_0, 0x0010_0000, 1, 0);
+    twice_changed(rt, 80, EDITION, 2, LANE, 0, 2, 0);
+    twice_changed(rt, 80, EDITION, 1, LANE, 0, 3, 0);
+    twice_changed(rt, 104, EVENTS_COUNT, 2, PINS_0, 0x0010_0000, 2, 0);
+    twice_changed(rt, 104, LANE, 3, PINS_0, 0x0010_0000, 3, 0);
+    twice_changed(rt, 104, T_REFI, 0, PINS_0, 0x0010_0000, 3, 13);
 }
 
 // "lowest such setting", by range or by the mode word alike; "lowest event"
-fn lowest_places() {
-    twice_changed(104, T_RCD, 0, LANE, 0, 3, 0);
-    twice_changed(104, T_REFI, 0, T_MRD, 0, 3, 12);
-    twice_changed(104, T_RCD, 0, MODE, 0x02, 3, 3);
-    twice_changed(104, T_RCD, 0, MODE, 0x80, 3, 3);
-    twice_changed(104, PINS_2, 0x0010_0000, PINS_0, 0x0010_0000, 4, 0);
-    twice_changed(104, PINS_2, 0x0010_0000, CYCLE_1, 0, 4, 1);
-    twice_changed(104, CYCLE_2, 9, PINS_1, 0x0010_0000, 4, 1);
-    twice_changed(104, CYCLE_2, 9, PINS_2, 0x0010_0000, 4, 2);
-    twice_changed(104, CYCLE_2, 0, CYCLE_1, 0, 4, 1);
-    twice_changed(104, CYCLE_2, 9, CYCLE_0, 2_000_000_001, 4, 0);
+fn lowest_places(rt: &HostRuntime) {
+    twice_changed(rt, 104, T_RCD, 0, LANE, 0, 3, 0);
+    twice_changed(rt, 104, T_REFI, 0, T_MRD, 0, 3, 12);
+    twice_changed(rt, 104, T_RCD, 0, MODE, 0x02, 3, 3);
+    twice_changed(rt, 104, T_RCD, 0, MODE, 0x80, 3, 3);
+    twice_changed(rt, 104, PINS_2, 0x0010_0000, PINS_0, 0x0010_0000, 4, 0);
+    twice_changed(rt, 104, PINS_2, 0x0010_0000, CYCLE_1, 0, 4, 1);
+    twice_changed(rt, 104, CYCLE_2, 9, PINS_1, 0x0010_0000, 4, 1);
+    twice_changed(rt, 104, CYCLE_2, 9, PINS_2, 0x0010_0000, 4, 2);
+    twice_changed(rt, 104, CYCLE_2, 0, CYCLE_1, 0, 4, 1);
+    twice_changed(rt, 104, CYCLE_2, 9, CYCLE_0, 2_000_000_001, 4, 0);
 }
 
 // ---- refusal 3: "a setting out of range, or the mode word not valid by rule 2", place the setting;
@@ -296,153 +322,154 @@ fn checked(i: u32, word: u32) -> Answer
     of_checked(settings::check(&list))
 }
 
-fn setting(i: u32, word: u32, number: u32, place: u32)
+fn setting(rt: &HostRuntime, i: u32, word: u32, number: u32, place: u32)
     requires { i < 14 }
 {
-    say(b"setting ");
-    print(i);
-    say(b" is ");
-    print(word);
-    say(b": list ");
-    print_answer(checked(i, word), number, place);
-    say(b", capture ");
+    say(rt, b"setting ");
+    print(rt, i);
+    say(rt, b" is ");
+    print(rt, word);
+    say(rt, b": list ");
+    print_answer(rt, checked(i, word), number, place);
+    say(rt, b", capture ");
     print_answer(
+        rt,
         opened(14, 104, LANE + 4 * i, word, NOWHERE, 0),
         number,
         place,
     );
-    say(b"\n");
+    say(rt, b"\n");
 }
 
 // At the limits of a row and on either side of them.
-fn row(i: u32, below: u32, least: u32, most: u32, above: u32)
+fn row(rt: &HostRuntime, i: u32, below: u32, least: u32, most: u32, above: u32)
     requires { i < 14 }
 {
-    setting(i, below, 3, i);
-    setting(i, least, 0, 0);
-    setting(i, most, 0, 0);
-    setting(i, above, 3, i);
+    setting(rt, i, below, 3, i);
+    setting(rt, i, least, 0, 0);
+    setting(rt, i, most, 0, 0);
+    setting(rt, i, above, 3, i);
 }
 
 // The table of 01 but for row 3.
-fn rows() {
-    row(0, 0, 1, 2, 3);
-    row(1, 11, 12, 14, 15);
-    row(2, 7, 8, 11, 12);
+fn rows(rt: &HostRuntime) {
+    row(rt, 0, 0, 1, 2, 3);
+    row(rt, 1, 11, 12, 14, 15);
+    row(rt, 2, 7, 8, 11, 12);
     for i in 4..13 {
-        row(i, 0, 1, 10_000, 10_001);
+        row(rt, i, 0, 1, 10_000, 10_001);
     }
-    row(13, 0, 1, 1_000_000, 1_000_001);
+    row(rt, 13, 0, 1, 1_000_000, 1_000_001);
 }
 
-fn mode(word: u32, number: u32, place: u32) {
-    setting(3, word, number, place);
+fn mode(rt: &HostRuntime, word: u32, number: u32, place: u32) {
+    setting(rt, 3, word, number, place);
 }
 
 // Row 3: from 0 to 127, and "bits 0-2 are 1, 2, 3, 4; bit 3 is 0 sequential, 1 interleaved; bits 4-6 are 2 or 3".
-fn burst_lengths() {
-    mode(0x20, 3, 3);
-    mode(0x21, 0, 0);
-    mode(0x22, 0, 0);
-    mode(0x23, 0, 0);
-    mode(0x24, 0, 0);
-    mode(0x25, 3, 3);
-    mode(0x27, 3, 3);
-    mode(0x28, 3, 3);
-    mode(0x29, 0, 0);
-    mode(0x3C, 0, 0);
+fn burst_lengths(rt: &HostRuntime) {
+    mode(rt, 0x20, 3, 3);
+    mode(rt, 0x21, 0, 0);
+    mode(rt, 0x22, 0, 0);
+    mode(rt, 0x23, 0, 0);
+    mode(rt, 0x24, 0, 0);
+    mode(rt, 0x25, 3, 3);
+    mode(rt, 0x27, 3, 3);
+    mode(rt, 0x28, 3, 3);
+    mode(rt, 0x29, 0, 0);
+    mode(rt, 0x3C, 0, 0);
 }
 
-fn latencies() {
-    mode(0x02, 3, 3);
-    mode(0x12, 3, 3);
-    mode(0x22, 0, 0);
-    mode(0x32, 0, 0);
-    mode(0x42, 3, 3);
-    mode(0x52, 3, 3);
-    mode(0x62, 3, 3);
-    mode(0x72, 3, 3);
+fn latencies(rt: &HostRuntime) {
+    mode(rt, 0x02, 3, 3);
+    mode(rt, 0x12, 3, 3);
+    mode(rt, 0x22, 0, 0);
+    mode(rt, 0x32, 0, 0);
+    mode(rt, 0x42, 3, 3);
+    mode(rt, 0x52, 3, 3);
+    mode(rt, 0x62, 3, 3);
+    mode(rt, 0x72, 3, 3);
 }
 
-fn mode_range() {
-    mode(0, 3, 3);
-    mode(127, 3, 3);
-    mode(128, 3, 3);
-    mode(0xB2, 3, 3); // 0x32 and bit 7
-    mode(0x8000_0032, 3, 3);
+fn mode_range(rt: &HostRuntime) {
+    mode(rt, 0, 3, 3);
+    mode(rt, 127, 3, 3);
+    mode(rt, 128, 3, 3);
+    mode(rt, 0xB2, 3, 3); // 0x32 and bit 7
+    mode(rt, 0x8000_0032, 3, 3);
 }
 
 // ---- refusal 2 of a list: "a settings list not of 14 words", before refusal 3
 
-fn list(words: &[u32], number: u32, place: u32) {
-    say(b"list of ");
-    io::print_decimal(STDOUT_FILENO, words.len() as u64);
-    say(b" zeros: ");
-    print_answer(of_checked(settings::check(words)), number, place);
-    say(b"\n");
+fn list(rt: &HostRuntime, words: &[u32], number: u32, place: u32) {
+    say(rt, b"list of ");
+    print_long(rt, words.len() as u64);
+    say(rt, b" zeros: ");
+    print_answer(rt, of_checked(settings::check(words)), number, place);
+    say(rt, b"\n");
 }
 
-fn lists() {
-    list(&[], 2, 0);
-    list(&[0u32; 13], 2, 0);
-    list(&[0u32; settings::COUNT], 3, 0);
-    list(&[0u32; 15], 2, 0);
-    list(&[0u32; settings::SLEEPING], 2, 0);
+fn lists(rt: &HostRuntime) {
+    list(rt, &[], 2, 0);
+    list(rt, &[0u32; 13], 2, 0);
+    list(rt, &[0u32; settings::COUNT], 3, 0);
+    list(rt, &[0u32; 15], 2, 0);
+    list(rt, &[0u32; settings::SLEEPING], 2, 0);
 }
 
 // ---- sixteen settings (K1): "events from byte 88, total 88 + 8N, lengths 88 and 64,088 in refusal 1", and bit 20 is CKE
 
-fn sleeping(size: u32, at: u32, word: u32, number: u32, place: u32) {
-    say(b"16 settings, ");
-    print(size);
-    say(b" bytes");
-    print_change(at, word);
-    say(b": ");
-    print_answer(opened(16, size, at, word, NOWHERE, 0), number, place);
-    say(b"\n");
+fn sleeping(rt: &HostRuntime, size: u32, at: u32, word: u32, number: u32, place: u32) {
+    say(rt, b"16 settings, ");
+    print(rt, size);
+    say(rt, b" bytes");
+    print_change(rt, at, word);
+    say(rt, b": ");
+    print_answer(rt, opened(16, size, at, word, NOWHERE, 0), number, place);
+    say(rt, b"\n");
 }
 
-fn sleeping_lengths() {
-    sleeping(80, NOWHERE, 0, 1, 0); // under 88
-    sleeping(87, NOWHERE, 0, 1, 0);
-    sleeping(88, NOWHERE, 0, 0, 0); // no events
-    sleeping(96, NOWHERE, 0, 0, 0); // one event
-    sleeping(64_088, NOWHERE, 0, 0, 0); // 8,000 events
-    sleeping(64_089, NOWHERE, 0, 1, 0);
-    sleeping(64_096, NOWHERE, 0, 1, 0); // 8,001 events
-    sleeping(88, TOTAL, 87, 1, 0);
+fn sleeping_lengths(rt: &HostRuntime) {
+    sleeping(rt, 80, NOWHERE, 0, 1, 0); // under 88
+    sleeping(rt, 87, NOWHERE, 0, 1, 0);
+    sleeping(rt, 88, NOWHERE, 0, 0, 0); // no events
+    sleeping(rt, 96, NOWHERE, 0, 0, 0); // one event
+    sleeping(rt, 64_088, NOWHERE, 0, 0, 0); // 8,000 events
+    sleeping(rt, 64_089, NOWHERE, 0, 1, 0);
+    sleeping(rt, 64_096, NOWHERE, 0, 1, 0); // 8,001 events
+    sleeping(rt, 88, TOTAL, 87, 1, 0);
 }
 
-fn sleeping_headers() {
-    sleeping(89, NOWHERE, 0, 2, 0); // 89 is not 88
-    sleeping(88, EVENTS_COUNT, 1, 2, 0);
-    sleeping(88, EVENTS_OFFSET, 80, 2, 0);
-    sleeping(88, SETTINGS_OFFSET, 32, 2, 0);
-    sleeping(88, SETTINGS_COUNT, 14, 2, 0); // 88 is room for an event behind 14 settings, and none is stated
-    sleeping(88, SETTINGS_COUNT, 15, 2, 0); // the lengths are those of 14 settings
-    sleeping(88, SETTINGS_COUNT, 17, 2, 0);
-    sleeping(64_088, SETTINGS_COUNT, 15, 1, 0);
-    sleeping(88, EDITION, 1, 0, 0);
-    sleeping(88, EDITION, 2, 2, 0);
+fn sleeping_headers(rt: &HostRuntime) {
+    sleeping(rt, 89, NOWHERE, 0, 2, 0); // 89 is not 88
+    sleeping(rt, 88, EVENTS_COUNT, 1, 2, 0);
+    sleeping(rt, 88, EVENTS_OFFSET, 80, 2, 0);
+    sleeping(rt, 88, SETTINGS_OFFSET, 32, 2, 0);
+    sleeping(rt, 88, SETTINGS_COUNT, 14, 2, 0); // 88 is room for an event behind 14 settings, and none is stated
+    sleeping(rt, 88, SETTINGS_COUNT, 15, 2, 0); // the lengths are those of 14 settings
+    sleeping(rt, 88, SETTINGS_COUNT, 17, 2, 0);
+    sleeping(rt, 64_088, SETTINGS_COUNT, 15, 1, 0);
+    sleeping(rt, 88, EDITION, 1, 0, 0);
+    sleeping(rt, 88, EDITION, 2, 2, 0);
 }
 
 // tXP and tXSR from 1 to 10,000.
-fn sleeping_settings() {
-    sleeping(88, T_XP, 0, 3, 14);
-    sleeping(88, T_XP, 1, 0, 0);
-    sleeping(88, T_XP, 10_000, 0, 0);
-    sleeping(88, T_XP, 10_001, 3, 14);
-    sleeping(88, T_XSR, 0, 3, 15);
-    sleeping(88, T_XSR, 1, 0, 0);
-    sleeping(88, T_XSR, 10_000, 0, 0);
-    sleeping(88, T_XSR, 10_001, 3, 15);
+fn sleeping_settings(rt: &HostRuntime) {
+    sleeping(rt, 88, T_XP, 0, 3, 14);
+    sleeping(rt, 88, T_XP, 1, 0, 0);
+    sleeping(rt, 88, T_XP, 10_000, 0, 0);
+    sleeping(rt, 88, T_XP, 10_001, 3, 14);
+    sleeping(rt, 88, T_XSR, 0, 3, 15);
+    sleeping(rt, 88, T_XSR, 1, 0, 0);
+    sleeping(rt, 88, T_XSR, 10_000, 0, 0);
+    sleeping(rt, 88, T_XSR, 10_001, 3, 15);
 }
 
 // The second of three events has its pins at byte 100.
-fn sleeping_pins() {
-    sleeping(112, 100, 0x001F_FFFF, 0, 0); // bits 0 to 20
+fn sleeping_pins(rt: &HostRuntime) {
+    sleeping(rt, 112, 100, 0x001F_FFFF, 0, 0); // bits 0 to 20
     for bit in 21u32..32 {
-        sleeping(112, 100, 1 << bit, 4, 1);
+        sleeping(rt, 112, 100, 1 << bit, 4, 1);
     }
 }
 
@@ -450,14 +477,14 @@ fn sleeping_pins() {
 // before events are looked at. Lists, and captures of three events, with 14 settings and with 16.
 
 fn timed_capture(count: u32, times: [u32; 3], at: u32, word: u32) -> Answer {
-    let mut buffer = io::large_buffer();
+    let mut buffer = [0u8; 65_536];
     let size = events_at(count) + 24;
     store_capture(&mut buffer, size, count);
     store(&mut buffer, T_RP, times[0]);
     store(&mut buffer, T_RAS, times[1]);
     store(&mut buffer, T_RC, times[2]);
     store(&mut buffer, at, word);
-    let n = io::count(size as isize, &buffer);
+    let n = buffer.len().min(size as usize);
     of_checked(capture::open(&buffer[..n]))
 }
 
@@ -469,85 +496,93 @@ fn timed_list(times: [u32; 3]) -> Answer {
     of_checked(settings::check(&list))
 }
 
-fn print_times(times: [u32; 3]) {
-    say(b"tRP ");
-    print(times[0]);
-    say(b", tRAS ");
-    print(times[1]);
-    say(b", tRC ");
-    print(times[2]);
+fn print_times(rt: &HostRuntime, times: [u32; 3]) {
+    say(rt, b"tRP ");
+    print(rt, times[0]);
+    say(rt, b", tRAS ");
+    print(rt, times[1]);
+    say(rt, b", tRC ");
+    print(rt, times[2]);
 }
 
-fn together(times: [u32; 3], number: u32, place: u32) {
-    print_times(times);
-    say(b": list ");
-    print_answer(timed_list(times), number, place);
-    say(b", capture ");
-    print_answer(timed_capture(14, times, NOWHERE, 0), number, place);
-    say(b", of 16 settings ");
-    print_answer(timed_capture(16, times, NOWHERE, 0), number, place);
-    say(b"\n");
+fn together(rt: &HostRuntime, times: [u32; 3], number: u32, place: u32) {
+    print_times(rt, times);
+    say(rt, b": list ");
+    print_answer(rt, timed_list(times), number, place);
+    say(rt, b", capture ");
+    print_answer(rt, timed_capture(14, times, NOWHERE, 0), number, place);
+    say(rt, b", of 16 settings ");
+    print_answer(rt, timed_capture(16, times, NOWHERE, 0), number, place);
+    say(rt, b"\n");
 }
 
 // One more word is changed.
-fn together_with(count: u32, times: [u32; 3], at: u32, word: u32, number: u32, place: u32) {
-    print(count);
-    say(b" settings, ");
-    print_times(times);
-    print_change(at, word);
-    say(b": ");
-    print_answer(timed_capture(count, times, at, word), number, place);
-    say(b"\n");
+fn together_with(
+    rt: &HostRuntime,
+    count: u32,
+    times: [u32; 3],
+    at: u32,
+    word: u32,
+    number: u32,
+    place: u32,
+) {
+    print(rt, count);
+    say(rt, b" settings, ");
+    print_times(rt, times);
+    print_change(rt, at, word);
+    say(rt, b": ");
+    print_answer(rt, timed_capture(count, times, at, word), number, place);
+    say(rt, b"\n");
 }
 
-fn contradictions() {
-    together([3, 7, 10], 0, 0);
-    together([3, 7, 11], 3, 7);
-    together([1, 1, 2], 0, 0);
-    together([1, 1, 3], 3, 7);
-    together([1, 9_999, 10_000], 0, 0);
-    together([1, 9_998, 10_000], 3, 7);
-    together([9_999, 1, 10_000], 0, 0);
-    together([9_998, 1, 10_000], 3, 7);
-    together([10_000, 10_000, 10_000], 0, 0);
-    together([10_000, 10_000, 10_001], 3, 7); // out of its range
-    together([0xFFFF_FFFF, 7, 7], 3, 5); // in 32 bits the sum is 6
+fn contradictions(rt: &HostRuntime) {
+    together(rt, [3, 7, 10], 0, 0);
+    together(rt, [3, 7, 11], 3, 7);
+    together(rt, [1, 1, 2], 0, 0);
+    together(rt, [1, 1, 3], 3, 7);
+    together(rt, [1, 9_999, 10_000], 0, 0);
+    together(rt, [1, 9_998, 10_000], 3, 7);
+    together(rt, [9_999, 1, 10_000], 0, 0);
+    together(rt, [9_998, 1, 10_000], 3, 7);
+    together(rt, [10_000, 10_000, 10_000], 0, 0);
+    together(rt, [10_000, 10_000, 10_001], 3, 7); // out of its range
+    together(rt, [0xFFFF_FFFF, 7, 7], 3, 5); // in 32 bits the sum is 6
 }
 
-fn contradictions_and_other_faults() {
+fn contradictions_and_other_faults(rt: &HostRuntime) {
     let times = [3, 7, 11];
-    together_with(14, times, LANE, 0, 3, 0);
-    together_with(14, times, MODE, 0x02, 3, 3);
-    together_with(14, times, T_RP, 0, 3, 5);
-    together_with(14, times, T_REFI, 0, 3, 13);
-    together_with(16, times, T_XP, 0, 3, 14);
-    together_with(16, times, T_XSR, 0, 3, 15);
-    together_with(14, times, PINS_0, 0x0010_0000, 3, 7);
-    together_with(14, times, CYCLE_1, 0, 3, 7);
-    together_with(16, times, PINS_1, 0x0020_0000, 3, 7); // behind 16 settings those of event 0
-    together_with(14, times, EDITION, 2, 2, 0);
-    together_with(14, times, TOTAL, 0, 1, 0);
+    together_with(rt, 14, times, LANE, 0, 3, 0);
+    together_with(rt, 14, times, MODE, 0x02, 3, 3);
+    together_with(rt, 14, times, T_RP, 0, 3, 5);
+    together_with(rt, 14, times, T_REFI, 0, 3, 13);
+    together_with(rt, 16, times, T_XP, 0, 3, 14);
+    together_with(rt, 16, times, T_XSR, 0, 3, 15);
+    together_with(rt, 14, times, PINS_0, 0x0010_0000, 3, 7);
+    together_with(rt, 14, times, CYCLE_1, 0, 3, 7);
+    together_with(rt, 16, times, PINS_1, 0x0020_0000, 3, 7); // behind 16 settings those of event 0
+    together_with(rt, 14, times, EDITION, 2, 2, 0);
+    together_with(rt, 14, times, TOTAL, 0, 1, 0);
 }
 
-fn main() {
-    lengths();
-    header_words();
-    event_counts();
-    pins();
-    rising_cycles();
-    large_cycles();
-    first_and_last_events();
-    numbers_in_order();
-    lowest_places();
-    lists();
-    rows();
-    burst_lengths();
-    latencies();
-    mode_range();
-    sleeping_lengths();
-    sleeping_headers();
-    sleeping_settings();
-    sleeping_pins();
-    contradictions();
-    contradictions_and_other_faults();
+fn main(rt: HostRuntime) {
+    lengths(&rt);
+    header_words(&rt);
+    event_counts(&rt);
+    pins(&rt);
+    rising_cycles(&rt);
+    large_cycles(&rt);
+    first_and_last_events(&rt);
+    numbers_in_order(&rt);
+    lowest_places(&rt);
+    lists(&rt);
+    rows(&rt);
+    burst_lengths(&rt);
+    latencies(&rt);
+    mode_range(&rt);
+    sleeping_lengths(&rt);
+    sleeping_headers(&rt);
+    sleeping_settings(&rt);
+    sleeping_pins(&rt);
+    contradictions(&rt);
+    contradictions_and_other_faults(&rt);
 }

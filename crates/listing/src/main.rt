@@ -54,9 +54,10 @@ fn list(out: &mut Out, capture: &[u8]) {
     }
 }
 
-fn main() {
+fn main(rt: HostRuntime) {
     let mut buffer = [0u8; ROOM];
     let given = program::input(
+        &rt,
         &NAME,
         b"usage: listing [FILE]
 
@@ -71,7 +72,7 @@ capture the refusal and what was refused.
         return;
     }
     let n = given.size;
-    let mut out: Out = true;
+    let mut out = Out::new(rt.stdout());
     list(&mut out, &buffer[..n]);
-    program::end(&NAME, out, b"printed");
+    program::end(&rt, &NAME, out, b"printed");
 }

@@ -9,8 +9,8 @@ ghost use Rattle.console.specs.Input.{size_of};
 ghost use Rattle.monthly.specs.Meaning.{Held};
 
 use console::line::{put, put_number};
-use console::program::Source;
-use console::{Input, Out, arguments, complain, program, read_input, say, watched};
+use console::program::{Reader, Source};
+use console::{Failure, Input, Out, arguments, complain, program, read_input, say, watched};
 use monthly::{Line, Totals};
 
 const NAME: [u8; 5] = *b"month";
@@ -25,23 +25,24 @@ const ROOM: usize = capture::MOST;
 // ---- the stream
 
 // The bytes of the next capture, as far as there are any: its total word, and what that says.
-fn next(fd: i32, buffer: &mut [u8]) -> Input
+fn next(from: &mut Reader, buffer: &mut [u8]) -> Input
     requires { length buffer.old ≡ 64088 }
     ensures { size_of result ≤ 64088 }
 {
-    let start = read_input(fd, &mut buffer[0..4]);
-    let Input::Whole(got) = start else {
-        return Input::Failed;
-    };
-    if got < 4 {
-        return Input::Whole(got);
+    let start = read_input(from, &mut buffer[0..4]);
+    match start {
+        Input::Whole(got) => {
+            if got < 4 {
+                return start;
+            }
+        }
+        Input::Failed(_) => return start,
     }
     let n = monthly::wanted(words::word_at(buffer, 0));
-    let rest = read_input(fd, &mut buffer[4..n]);
-    let Input::Whole(more) = rest else {
-        return Input::Failed;
-    };
-    Input::Whole(4 + more)
+    match read_input(from, &mut buffer[4..n]) {
+        Input::Whole(more) => Input::Whole(4 + more),
+        Input::Failed(why) => Input::Failed(why),
+    }
 }
 
 // ---- what is printed
@@ -85,61 +86,63 @@ fn print_refusal(out: &mut Out, csv: bool) {
 
 const OFTEN: u64 = 256;
 
-fn show(captures: u64) {
+fn show(rt: &HostRuntime, captures: u64) {
     if captures % OFTEN != 0 {
         return;
     }
-    if !watched() {
+    if !watched(rt) {
         return;
     }
     let mut line = [0u8; 64];
     let mut at = put(&mut line, 0, b"month: ");
     at = put_number(&mut line, at, captures);
     at = put(&mut line, at, b" captures\r");
-    complain(&line[..at]);
+    complain(rt, &line[..at]);
 }
 
-fn clear(captures: u64) {
+fn clear(rt: &HostRuntime, captures: u64) {
     if captures < OFTEN {
         return;
     }
-    if watched() {
-        complain(b"                     \r");
+    if watched(rt) {
+        complain(rt, b"                     \r");
     }
 }
 
 // ---- the walk
 
-fn lost(place: usize) {
-    program::complain_unread(&NAME, place, &UNDONE);
+fn lost(rt: &HostRuntime, place: usize, why: Failure) {
+    program::complain_unread(rt, &NAME, place, why, &UNDONE);
 }
 
 // Behind as many captures as there may be: the totals, or that there is more.
-fn last(out: &mut Out, csv: bool, fd: i32, place: usize, t: Totals)
+fn last(rt: &HostRuntime, out: &mut Out, csv: bool, from: &mut Reader, place: usize, t: Totals)
     requires { Held t }
 {
     let mut byte = [0u8; 1];
-    let more = read_input(fd, &mut byte);
-    let Input::Whole(n) = more else {
-        lost(place);
-        return;
-    };
-    if n == 0 {
-        print_totals(out, csv, t);
-    } else {
-        print_refusal(out, csv);
+    match read_input(from, &mut byte) {
+        Input::Whole(n) => {
+            if n == 0 {
+                print_totals(out, csv, t);
+            } else {
+                print_refusal(out, csv);
+            }
+        }
+        Input::Failed(why) => lost(rt, place, why),
     }
 }
 
 // Answers how many captures there were. Nothing is read behind a line that could not be written.
-fn walk(out: &mut Out, csv: bool, fd: i32, place: usize) -> u64 {
+fn walk(rt: &HostRuntime, out: &mut Out, csv: bool, from: &mut Reader, place: usize) -> u64 {
     let mut buffer = [0u8; ROOM];
     let mut totals = monthly::nothing();
     while monthly::has_room(totals) {
-        let input = next(fd, &mut buffer);
-        let Input::Whole(n) = input else {
-            lost(place);
-            return totals.captures;
+        let n = match next(from, &mut buffer) {
+            Input::Whole(size) => size,
+            Input::Failed(why) => {
+                lost(rt, place, why);
+                return totals.captures;
+            }
         };
         if n == 0 {
             print_totals(out, csv, totals);
@@ -148,7 +151,7 @@ fn walk(out: &mut Out, csv: bool, fd: i32, place: usize) -> u64 {
         let x = monthly::told(&buffer[..n]);
         let i = totals.captures;
         print_line(out, csv, i, x);
-        if !*out {
+        if !out.is_whole() {
             return i;
         }
         totals = monthly::add(totals, x);
@@ -158,14 +161,15 @@ fn walk(out: &mut Out, csv: bool, fd: i32, place: usize) -> u64 {
             print_totals(out, csv, totals);
             return totals.captures;
         }
-        show(totals.captures);
+        show(rt, totals.captures);
     }
-    last(out, csv, fd, place, totals);
+    last(rt, out, csv, from, place, totals);
     totals.captures
 }
 
-fn main() {
+fn main(rt: HostRuntime) {
     let work = program::begin(
+        &rt,
         &NAME,
         b"usage: month [FILE] [--csv]
 
@@ -181,16 +185,16 @@ prints a table with commas. docs/RULES.md, section 12.1, has every line.
     if !work {
         return;
     }
-    let source = program::open(&NAME, arguments::name(0), &UNDONE);
-    let Source::Open { fd, place } = source else {
+    let named = arguments::name(&rt, 0);
+    let Source::Open { mut from, place } = program::open(&rt, &NAME, named, &UNDONE) else {
         return;
     };
-    let mut out: Out = true;
-    let csv = arguments::has(&CSV);
+    let mut out = Out::new(rt.stdout());
+    let csv = arguments::has(&rt, &CSV);
     if csv {
         table::print_head(&mut out);
     }
-    let captures = walk(&mut out, csv, fd, place);
-    clear(captures);
-    program::end(&NAME, out, b"printed");
+    let captures = walk(&rt, &mut out, csv, &mut from, place);
+    clear(&rt, captures);
+    program::end(&rt, &NAME, out, b"printed");
 }

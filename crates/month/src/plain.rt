@@ -1,5 +1,5 @@
 // The lines of a month, in words.
-ghost use Rattle.io.specs.Counts.{IsPrefixLen};
+ghost use Rattle.console.specs.Counts.{IsPrefixLen};
 
 use console::line::put;
 use console::{Out, say};

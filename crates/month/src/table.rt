@@ -1,6 +1,6 @@
 // The same with commas. Every row has the columns of the head; a column without a number is empty, and the totals are the sums
 // of their columns.
-ghost use Rattle.io.specs.Counts.{IsPrefixLen as Within};
+ghost use Rattle.console.specs.Counts.{IsPrefixLen as Within};
 
 use console::line::{put, put_number};
 use console::{Out, say};

@@ -69,12 +69,7 @@ pub fn morgazell_cells(capture: &[u8], out: &mut [u32]) -> u64
 }
 
 // The schedule of the requests by a row policy, 0 open and 1 closed, as a whole capture; bytes behind it in the buffer stay.
-pub fn morgazell_schedule(
-    settings: &[u32],
-    requests: &[u32],
-    policy: u32,
-    out: &mut [u8],
-) -> u64
+pub fn morgazell_schedule(settings: &[u32], requests: &[u32], policy: u32, out: &mut [u8]) -> u64
     ensures value { result ≡ packed (count_told (schedule_outcome settings.now requests.now policy out.old).answer) }
     ensures out_after { out.new ≡ (schedule_outcome settings.now requests.now policy out.old).buffer }
 {
@@ -98,12 +93,7 @@ pub fn morgazell_blank(capture: &[u8], out: &mut [u8]) -> u64
 }
 
 // These records of a handheld analyser as a capture of these settings and this edition; bytes behind it in the buffer stay.
-pub fn morgazell_read_export(
-    records: &[u8],
-    settings: &[u32],
-    edition: u32,
-    out: &mut [u8],
-) -> u64
+pub fn morgazell_read_export(records: &[u8], settings: &[u32], edition: u32, out: &mut [u8]) -> u64
     ensures value { result ≡ packed (count_told (read_outcome records.now settings.now edition out.old).answer) }
     ensures out_after { out.new ≡ (read_outcome records.now settings.now edition out.old).buffer }
 {

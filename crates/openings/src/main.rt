@@ -80,9 +80,10 @@ fn print_openings(out: &mut Out, capture: &[u8]) {
     }
 }
 
-fn main() {
+fn main(rt: HostRuntime) {
     let mut buffer = [0u8; ROOM];
     let given = program::input(
+        &rt,
         &NAME,
         b"usage: openings [FILE]
 
@@ -98,7 +99,7 @@ PLACE`; number 8 is a capture that breaks a rule, at that event.
         return;
     }
     let n = given.size;
-    let mut out: Out = true;
+    let mut out = Out::new(rt.stdout());
     print_openings(&mut out, &buffer[..n]);
-    program::end(&NAME, out, b"printed");
+    program::end(&rt, &NAME, out, b"printed");
 }

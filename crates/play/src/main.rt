@@ -3,7 +3,7 @@
 #![tactic(auto)]
 
 ghost use Rattle.std.specs.Prelude.{◌≤◌};
-ghost use Rattle.io.specs.Counts.{IsPrefixLen};
+ghost use Rattle.console.specs.Counts.{IsPrefixLen};
 
 use console::line::{put, put_number};
 use console::{Out, program, say, say_number};
@@ -140,6 +140,7 @@ fn print_read(out: &mut Out, read: u32, reads: &[u32]) {
 
 // On the first `size` words of the window, with so many words and masks.
 fn on(
+    rt: &HostRuntime,
     capture: &[u8],
     first: u32,
     window: &mut [u32],
@@ -151,7 +152,7 @@ fn on(
     let lent = lesser(size, window.len());
     let given = lesser(supply, writes.len());
     let played = player::play(capture, first, &mut window[..lent], &writes[..given], reads);
-    let mut out: Out = true;
+    let mut out = Out::new(rt.stdout());
     match played {
         Played::Refused { number, place } => print_refused(&mut out, number, place),
         Played::Words { read } => {
@@ -159,11 +160,11 @@ fn on(
             print_cells(&mut out, first, window, lent);
         }
     }
-    program::end(&NAME, out, b"printed");
+    program::end(rt, &NAME, out, b"printed");
 }
 
 // The capture, and behind it the window and what is left to its writes.
-fn work(capture: &[u8], first: u32, size: usize, behind: &[u8]) {
+fn work(rt: &HostRuntime, capture: &[u8], first: u32, size: usize, behind: &[u8]) {
     let mut window = [0u32; MOST_WINDOW + 1];
     let mut writes = [0u32; MOST_WRITES];
     let mut reads = [0u32; MOST_READS];
@@ -173,6 +174,7 @@ fn work(capture: &[u8], first: u32, size: usize, behind: &[u8]) {
     let supply = rest.len() / 4;
     fill(&mut writes, supply, rest);
     on(
+        rt,
         capture,
         first,
         &mut window,
@@ -184,22 +186,23 @@ fn work(capture: &[u8], first: u32, size: usize, behind: &[u8]) {
 }
 
 // Where the first word says that the capture ends. What is too short for one has nothing behind it.
-fn split(input: &[u8], total: usize) {
+fn split(rt: &HostRuntime, input: &[u8], total: usize) {
     let front = lesser(total, input.len());
     let capture = &input[..front];
     let rest = &input[front..];
     if input.len() < 80 {
-        work(input, 0, 0, rest);
+        work(rt, input, 0, 0, rest);
         return;
     }
     if input.len() < total {
-        work(input, 0, 0, rest);
+        work(rt, input, 0, 0, rest);
         return;
     }
     let first = word_at(rest, 0);
     let size = word_at(rest, 4) as usize;
     if rest.len() % 4 != 0 {
         program::complain_of(
+            rt,
             &NAME,
             0,
             b" has some bytes over behind its last word",
@@ -208,24 +211,25 @@ fn split(input: &[u8], total: usize) {
         return;
     }
     if rest.len() < 8 {
-        program::complain_of(&NAME, 0, b" ends before the window does", &UNDONE);
+        program::complain_of(rt, &NAME, 0, b" ends before the window does", &UNDONE);
         return;
     }
     let behind = &rest[8..];
     if MOST_WINDOW < size {
-        work(capture, first, size, behind);
+        work(rt, capture, first, size, behind);
         return;
     }
     if behind.len() / 4 < size {
-        program::complain_of(&NAME, 0, b" ends before the window does", &UNDONE);
+        program::complain_of(rt, &NAME, 0, b" ends before the window does", &UNDONE);
         return;
     }
-    work(capture, first, size, behind);
+    work(rt, capture, first, size, behind);
 }
 
-fn main() {
+fn main(rt: HostRuntime) {
     let mut buffer = [0u8; ROOM];
     let given = program::input(
+        &rt,
         &NAME,
         b"usage: play [FILE]
 
@@ -243,9 +247,9 @@ of what cannot be played `refused NUMBER place PLACE`.
     }
     let n = given.size;
     if n == ROOM {
-        program::complain_of(&NAME, 0, b" is too long", &UNDONE);
+        program::complain_of(&rt, &NAME, 0, b" is too long", &UNDONE);
         return;
     }
     let input = &buffer[..n];
-    split(input, word_at(input, 0) as usize);
+    split(&rt, input, word_at(input, 0) as usize);
 }

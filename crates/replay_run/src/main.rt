@@ -36,13 +36,13 @@ const MASKS: [u32; 8] = [
 // ---- lines
 
 // With two digits a lane.
-fn print_word(lane_code: u32, word: u32) {
-    say(b" ");
+fn print_word(rt: &HostRuntime, lane_code: u32, word: u32) {
+    say(rt, b" ");
     if lane_code == 1 {
-        console::plain::print_word(word, 4);
+        console::plain::print_word(rt, word, 4);
         return;
     }
-    console::plain::print_word(word, 8);
+    console::plain::print_word(rt, word, 8);
 }
 
 // ---- the part
@@ -68,10 +68,10 @@ fn element(list: &[u32], at: usize) -> u32 {
     list[at]
 }
 
-fn store(window: &mut [u32], cell: u32, word: u32, bits: u32) {
+fn store(rt: &HostRuntime, window: &mut [u32], cell: u32, word: u32, bits: u32) {
     let at = cell as usize;
     if window.len() <= at {
-        say(b" WRONG");
+        say(rt, b" WRONG");
         return;
     }
     let old = window[at];
@@ -101,72 +101,86 @@ fn burst_event(policy: u32, b: usize) -> usize {
 }
 
 // A beat of a write stores the given word; a beat of a read returns the cell's.
-fn beat(lane_code: u32, writes: bool, given: usize, cell: u32, window: &mut [u32]) {
+fn beat(
+    rt: &HostRuntime,
+    lane_code: u32,
+    writes: bool,
+    given: usize,
+    cell: u32,
+    window: &mut [u32],
+) {
     if writes {
         let bits = stored(lane_code, element(&MASKS, given));
-        store(window, cell, element(&WORDS, given), bits);
+        store(rt, window, cell, element(&WORDS, given), bits);
         return;
     }
-    print_word(lane_code, element(&*window, cell as usize));
+    print_word(rt, lane_code, element(&*window, cell as usize));
 }
 
 // The beats of the four bursts, in their order. Every other burst is a write and takes the next four words.
-fn replay(lane_code: u32, policy: u32, capture: &[u8], cells: &[u32], window: &mut [u32]) {
+fn replay(
+    rt: &HostRuntime,
+    lane_code: u32,
+    policy: u32,
+    capture: &[u8],
+    cells: &[u32],
+    window: &mut [u32],
+) {
     for j in 0..16 {
         let writes = is_write(capture, burst_event(policy, j / 4));
         let given = j / 8 * 4 + j % 4;
-        beat(lane_code, writes, given, element(cells, j), window);
+        beat(rt, lane_code, writes, given, element(cells, j), window);
     }
-    say(b"\n");
+    say(rt, b"\n");
 }
 
-fn print_window(lane_code: u32, window: &[u32]) {
+fn print_window(rt: &HostRuntime, lane_code: u32, window: &[u32]) {
     for i in 0..8 {
-        print_word(lane_code, element(window, i));
+        print_word(rt, lane_code, element(window, i));
     }
-    say(b"\n");
+    say(rt, b"\n");
 }
 
 // ---- the run
 
-fn play(lane_code: u32, policy: u32, out: &[u8], bytes: u32, old: u32) {
-    let n = io::count(bytes as isize, out);
+fn play(rt: &HostRuntime, lane_code: u32, policy: u32, out: &[u8], bytes: u32, old: u32) {
+    let n = out.len().min(bytes as usize);
     let capture = &out[..n];
     let mut list = [0u32; 16];
     let mut window = [old; 8];
     let listed = cells::burst_cells(capture, &mut list);
     let Listed::Written { cells } = listed else {
-        say(b"WRONG: refused\n");
+        say(rt, b"WRONG: refused\n");
         return;
     };
     if cells != 16 {
-        say(b"WRONG: cells\n");
+        say(rt, b"WRONG: cells\n");
         return;
     }
-    say(b"read:");
-    replay(lane_code, policy, capture, &list, &mut window);
-    say(b"cells 0 to 7:");
-    print_window(lane_code, &window);
+    say(rt, b"read:");
+    replay(rt, lane_code, policy, capture, &list, &mut window);
+    say(rt, b"cells 0 to 7:");
+    print_window(rt, lane_code, &window);
 }
 
-fn run(lane_code: u32, policy: u32, expected: u32, old: u32) {
+fn run(rt: &HostRuntime, lane_code: u32, policy: u32, expected: u32, old: u32) {
     let settings = [lane_code, 13, 10, 0x32, 3, 3, 7, 10, 2, 3, 1, 12, 2, 1000];
     let mut out = [0u8; 144];
     let answer = schedule::schedule(&settings, &REQUESTS, policy, &mut out);
     let Scheduled::Written { bytes } = answer else {
-        say(b"WRONG: refused\n");
+        say(rt, b"WRONG: refused\n");
         return;
     };
     if bytes != expected {
-        say(b"WRONG: bytes\n");
+        say(rt, b"WRONG: bytes\n");
         return;
     }
-    play(lane_code, policy, &out, bytes, old);
+    play(rt, lane_code, policy, &out, bytes, old);
 }
 
-fn main() {
-    run(2, CLOSED_ROWS, 144, 0xaabb_ccdd);
-    run(1, CLOSED_ROWS, 144, 0xccdd);
-    run(2, OPEN_ROWS, 120, 0xaabb_ccdd);
-    run(1, OPEN_ROWS, 120, 0xccdd);
+fn main(rt: HostRuntime) {
+    run(&rt, 2, CLOSED_ROWS, 144, 0xaabb_ccdd);
+    run(&rt, 1, CLOSED_ROWS, 144, 0xccdd);
+    run(&rt, 2, OPEN_ROWS, 120, 0xaabb_ccdd);
+    run(&rt, 1, OPEN_ROWS, 120, 0xccdd);
 }

@@ -9,9 +9,10 @@ const NAME: [u8; 6] = *b"report";
 // One byte more than the longest capture, so that a longer input is seen to be too long and nothing is judged in part.
 const ROOM: usize = capture::MOST + 1;
 
-fn main() {
+fn main(rt: HostRuntime) {
     let mut buffer = [0u8; ROOM];
     let given = program::input(
+        &rt,
         &NAME,
         b"usage: report [FILE]
 
@@ -26,7 +27,7 @@ or `broken rule R event E cycle T`, a line each; of what is no capture
         return;
     }
     let n = given.size;
-    let mut out: Out = true;
+    let mut out = Out::new(rt.stdout());
     print_verdict(&mut out, judge::judge(&buffer[..n]));
-    program::end(&NAME, out, b"printed");
+    program::end(&rt, &NAME, out, b"printed");
 }

@@ -1,5 +1,5 @@
 -- What was counted is how many openings each bank has.
-use Prim.Native.Nat.{ℕ, zero, suc, ◌+◌, ◌-◌, ◌≤◌, ◌<◌}
+use Prim.Native.Nat.{ℕ, zero, suc, ◌+◌, ◌-◌, ◌≤◌, ◌<◌, ◌^◌}
 use mathlib.Core.Bool.{Bool, true, false, cond, ◌&&◌}
 use mathlib.Core.List.{List, [], ◌∷◌, map}
 use mathlib.Core.Path.{◌≡◌, refl, ap, ◌∙◌, sym, subst}
@@ -22,7 +22,7 @@ use Rattle.browser.specs.declared.Seen.TheVariants as seen
 use Rattle.browser.specs.Browsed.{seen_at}
 use Rattle.browser.proofs.Seeing.{sees-event}
 use Rattle.rows.specs.declared.Tally.{Tally}
-use Rattle.rows.specs.Walks.{opens_bank, Few, none_yet, noted_pins, noted_of, tallied_from, events_up_to}
+use Rattle.rows.specs.Walks.{opens_bank, Room, Few, none_yet, noted_pins, noted_of, tallied_from, events_up_to}
 use Rattle.rows.proofs.AsStood.{opens-is}
 
 -- ---- the walk: one event more, and none left
@@ -50,6 +50,9 @@ none-few = record { four = refl; each = each }
 
 pub few-more : (t : Tally) (i j : ℕ) → Few t i → i ≤ j → Few t j
 few-more t i j f l = record { four = f.four; each = λ b. omega (arith, f.each b, l) }
+
+pub few-room : (t : Tally) (i n : ℕ) → Few t i → i < n → n < 2 ^ 32 → Room t
+few-room t i n f small fits b = omega (arith, f.each b)
 
 -- what is counted of bank b by one event
 more-at : (l : List ℕ) (k b : ℕ) → length l ≡ 4 → k < 4 → get_or (set l k (get_or l k 0 + 1)) b 0 ≡ cond (eqb b k) (get_or l b 0 + 1) (get_or l b 0)

@@ -75,54 +75,54 @@ fn load(capture: &[u8], at: u32) -> u32 {
 
 // ---- lines
 
-fn print_close(pins: u32) {
+fn print_close(rt: &HostRuntime, pins: u32) {
     if pins % 16_384 == 1_024 {
-        say(b"PRECHARGE all ");
+        say(rt, b"PRECHARGE all ");
     } else {
-        say(b"PRECHARGE ");
+        say(rt, b"PRECHARGE ");
     }
 }
 
 // CS#, RAS#, CAS#, WE#, CS# the lowest.
-fn print_command(pins: u32) {
+fn print_command(rt: &HostRuntime, pins: u32) {
     let code = pins / 65_536 % 16;
     if code == 12 {
-        say(b"ACTIVE ");
+        say(rt, b"ACTIVE ");
     } else if code == 10 {
-        say(b"READ ");
+        say(rt, b"READ ");
     } else if code == 2 {
-        say(b"WRITE ");
+        say(rt, b"WRITE ");
     } else if code == 4 {
-        print_close(pins);
+        print_close(rt, pins);
     } else if code == 8 {
-        say(b"AUTO REFRESH ");
+        say(rt, b"AUTO REFRESH ");
     } else {
-        say(b"WRONG ");
+        say(rt, b"WRONG ");
     }
 }
 
-fn print_event(capture: &[u8], i: u32) {
+fn print_event(rt: &HostRuntime, capture: &[u8], i: u32) {
     if 8_000 < i {
         return;
     }
-    print_command(load(capture, 84 + 8 * i));
-    print(load(capture, 80 + 8 * i));
+    print_command(rt, load(capture, 84 + 8 * i));
+    print(rt, load(capture, 80 + 8 * i));
 }
 
 // The first nine events.
-fn print_events(capture: &[u8]) {
+fn print_events(rt: &HostRuntime, capture: &[u8]) {
     let n = load(capture, 12);
     for i in 0..9 {
         if n <= i {
             return;
         }
-        say(b", ");
-        print_event(capture, i);
+        say(rt, b", ");
+        print_event(rt, capture, i);
     }
 }
 
 // The last event, if the first nine are not all.
-fn print_last(capture: &[u8]) {
+fn print_last(rt: &HostRuntime, capture: &[u8]) {
     let n = load(capture, 12);
     if n <= 9 {
         return;
@@ -130,110 +130,110 @@ fn print_last(capture: &[u8]) {
     if 8_000 < n {
         return;
     }
-    say(b" .. ");
-    print_event(capture, n - 1);
+    say(rt, b" .. ");
+    print_event(rt, capture, n - 1);
 }
 
-fn print_judged(capture: &[u8]) {
+fn print_judged(rt: &HostRuntime, capture: &[u8]) {
     let verdict = judge::judge(capture);
     match verdict {
-        Verdict::Refused { number, place } => say(b", WRONG: refused"),
+        Verdict::Refused { number, place } => say(rt, b", WRONG: refused"),
         Verdict::Clean { judged, .. } => {
-            say(b", clean, judged ");
-            print(judged);
+            say(rt, b", clean, judged ");
+            print(rt, judged);
         }
-        Verdict::Broken { .. } => say(b", WRONG: broken"),
+        Verdict::Broken { .. } => say(rt, b", WRONG: broken"),
     }
 }
 
-fn print_written(out: &[u8], bytes: u32) {
-    let n = io::count(bytes as isize, out);
+fn print_written(rt: &HostRuntime, out: &[u8], bytes: u32) {
+    let n = out.len().min(bytes as usize);
     let capture = &out[..n];
-    say(b"bytes ");
-    print(bytes);
-    print_judged(capture);
-    print_events(capture);
-    print_last(capture);
+    say(rt, b"bytes ");
+    print(rt, bytes);
+    print_judged(rt, capture);
+    print_events(rt, capture);
+    print_last(rt, capture);
 }
 
-fn print_scheduled(name: &[u8], answer: Scheduled, out: &[u8]) {
-    say(name);
+fn print_scheduled(rt: &HostRuntime, name: &[u8], answer: Scheduled, out: &[u8]) {
+    say(rt, name);
     match answer {
         Scheduled::Refused { number, place } => {
-            say(b": refused ");
-            print(number);
-            say(b" place ");
-            print(place);
+            say(rt, b": refused ");
+            print(rt, number);
+            say(rt, b" place ");
+            print(rt, place);
         }
         Scheduled::Written { bytes } => {
-            say(b": ");
-            print_written(out, bytes);
+            say(rt, b": ");
+            print_written(rt, out, bytes);
         }
     }
-    say(b"\n");
+    say(rt, b"\n");
 }
 
 // A buffer that was filled with 9.
-fn print_nines(name: &[u8], rest: &[u8]) {
-    say(name);
+fn print_nines(rt: &HostRuntime, name: &[u8], rest: &[u8]) {
+    say(rt, name);
     for i in 0..rest.len() {
         if rest[i] != 9 {
-            say(b": WRONG\n");
+            say(rt, b": WRONG\n");
             return;
         }
     }
-    say(b": as it was\n");
+    say(rt, b": as it was\n");
 }
 
 // ---- lists
 
 // With tREFI 4 nine are owed at 36, behind all of it; with tREFI 2 at 18, and the third request would end behind that.
-fn print_case_m() {
+fn print_case_m(rt: &HostRuntime) {
     let requests = [5, WRITE | BANK_1, 5, BANK_1];
     let mut out = [0u8; 200];
     let loose = schedule::schedule(&settings(4), &requests, CLOSED_ROWS, &mut out);
-    print_scheduled(b"case m, tREFI 4", loose, &out);
+    print_scheduled(rt, b"case m, tREFI 4", loose, &out);
     let tight = schedule::schedule(&settings(2), &requests, CLOSED_ROWS, &mut out);
-    print_scheduled(b"case m, tREFI 2", tight, &out);
+    print_scheduled(rt, b"case m, tREFI 2", tight, &out);
 }
 
 // Its list ten times over. With tREFI 24 the first AUTO REFRESH comes at 215, before request 38 and so behind 76 events.
-fn print_case_m_ten_times() {
+fn print_case_m_ten_times(rt: &HostRuntime) {
     let mut out = [0u8; 1_000];
     let paid = schedule::schedule(&settings(24), &TEN_TIMES_M, CLOSED_ROWS, &mut out);
-    print_scheduled(b"ten times over, tREFI 24", paid, &out);
-    say(b"its event 76: ");
-    print_event(&out, 76);
-    say(b"\n");
+    print_scheduled(rt, b"ten times over, tREFI 24", paid, &out);
+    say(rt, b"its event 76: ");
+    print_event(rt, &out, 76);
+    say(rt, b"\n");
     let late = schedule::schedule(&settings(16), &TEN_TIMES_M, CLOSED_ROWS, &mut out);
-    print_scheduled(b"ten times over, tREFI 16", late, &out);
+    print_scheduled(rt, b"ten times over, tREFI 16", late, &out);
 }
 
 // ACTIVE 0 and READ 3 close bank 0 at 7, so that an AUTO REFRESH may come at 10: with tREFI 2 five are owed then, with
 // tREFI 1 ten. AUTO REFRESH 0 pays nothing; with ACTIVE 12 and READ 15 the next may come at 22.
-fn print_few() {
+fn print_few(rt: &HostRuntime) {
     let mut out = [9u8; 100];
     let none = schedule::schedule(&settings(1), &[], CLOSED_ROWS, &mut out);
-    print_scheduled(b"no request, tREFI 1", none, &out);
+    print_scheduled(rt, b"no request, tREFI 1", none, &out);
     let one = schedule::schedule(&settings(2), &[5], CLOSED_ROWS, &mut out);
-    print_scheduled(b"one request, tREFI 2", one, &out);
-    print_nines(b"four bytes behind it", &out[96..]);
+    print_scheduled(rt, b"one request, tREFI 2", one, &out);
+    print_nines(rt, b"four bytes behind it", &out[96..]);
     let late = schedule::schedule(&settings(1), &[5], CLOSED_ROWS, &mut out);
-    print_scheduled(b"one request, tREFI 1", late, &out);
+    print_scheduled(rt, b"one request, tREFI 1", late, &out);
 }
 
 // One byte too few, a word too many, settings that are wrong, and a cell behind the last.
-fn print_refused() {
+fn print_refused(rt: &HostRuntime) {
     let mut out = [9u8; 95];
     let short = schedule::schedule(&settings(10), &[5], CLOSED_ROWS, &mut out);
-    print_scheduled(b"95 bytes for one request", short, &out);
+    print_scheduled(rt, b"95 bytes for one request", short, &out);
     let count = schedule::schedule(&[0u32; 15], &[5], CLOSED_ROWS, &mut out);
-    print_scheduled(b"15 settings", count, &out);
+    print_scheduled(rt, b"15 settings", count, &out);
     let never = schedule::schedule(&settings(0), &[5], CLOSED_ROWS, &mut out);
-    print_scheduled(b"tREFI 0", never, &out);
+    print_scheduled(rt, b"tREFI 0", never, &out);
     let cell = schedule::schedule(&settings(10), &[5, 4 * BANK_1], CLOSED_ROWS, &mut out);
-    print_scheduled(b"the second cell is none", cell, &out);
-    print_nines(b"the buffer", &out);
+    print_scheduled(rt, b"the second cell is none", cell, &out);
+    print_nines(rt, b"the buffer", &out);
 }
 
 // Each request reads cell 5. Alone it takes the bank for 10 cycles: ACTIVE at 10 i, READ at 10 i + 3, the last at 19,993.
@@ -241,100 +241,100 @@ fn print_refused() {
 // request 19, at 190, and one before each from there on: at 190 + 22 k, READ 15 behind it, the last at 43,765; 4,000 events
 // and 1,981. With tREFI 21 it begins with request 18 at 180; after request 18 + k an AUTO REFRESH may come at 202 + 22 k, and
 // nine are owed at 210 + 21 k: too late for k = 8.
-fn print_longest() {
+fn print_longest(rt: &HostRuntime) {
     let requests = [5u32; 2_000];
     let mut out = [0u8; 48_080];
     let loose = schedule::schedule(&settings(1_000_000), &requests, CLOSED_ROWS, &mut out);
-    print_scheduled(b"2000 requests, tREFI 1000000", loose, &out);
+    print_scheduled(rt, b"2000 requests, tREFI 1000000", loose, &out);
     let tight = schedule::schedule(&settings(22), &requests, CLOSED_ROWS, &mut out);
-    print_scheduled(b"2000 requests, tREFI 22", tight, &out);
+    print_scheduled(rt, b"2000 requests, tREFI 22", tight, &out);
     let late = schedule::schedule(&settings(21), &requests, CLOSED_ROWS, &mut out);
-    print_scheduled(b"2000 requests, tREFI 21", late, &out);
+    print_scheduled(rt, b"2000 requests, tREFI 21", late, &out);
 }
 
-fn print_too_many() {
+fn print_too_many(rt: &HostRuntime) {
     let requests = [5u32; 2_001];
     let mut out = [9u8; 100];
     let loose = schedule::schedule(&settings(1_000_000), &requests, CLOSED_ROWS, &mut out);
-    print_scheduled(b"2001 requests, tREFI 1000000", loose, &out);
+    print_scheduled(rt, b"2001 requests, tREFI 1000000", loose, &out);
     let tight = schedule::schedule(&settings(21), &requests, CLOSED_ROWS, &mut out);
-    print_scheduled(b"2001 requests, tREFI 21", tight, &out);
+    print_scheduled(rt, b"2001 requests, tREFI 21", tight, &out);
 }
 
 // ---- rows left open
 
 // The second requests of both banks find their rows open. Ten times over the last event is at 131, with closed rows at 252.
-fn print_open_case_m() {
+fn print_open_case_m(rt: &HostRuntime) {
     let requests = [5, WRITE | BANK_1, 5, BANK_1];
     let mut out = [0u8; 1_000];
     let once = schedule::schedule(&settings(4), &requests, OPEN_ROWS, &mut out);
-    print_scheduled(b"open rows, case m", once, &out);
+    print_scheduled(rt, b"open rows, case m", once, &out);
     let ten_times = schedule::schedule(&settings(24), &TEN_TIMES_M, OPEN_ROWS, &mut out);
-    print_scheduled(b"open rows, ten times over", ten_times, &out);
+    print_scheduled(rt, b"open rows, ten times over", ten_times, &out);
 }
 
 // Another row is closed at tRAS, and after a write when its data are tWR old; no burst is cut by its like, and a WRITE waits
 // until the data of a READ have left the bus.
-fn print_open_rows() {
+fn print_open_rows(rt: &HostRuntime) {
     let mut out = [0u8; 200];
     let read = schedule::schedule(&settings(1_000), &[5, 1_024], OPEN_ROWS, &mut out);
-    print_scheduled(b"open rows, another row", read, &out);
+    print_scheduled(rt, b"open rows, another row", read, &out);
     let written = schedule::schedule(&settings(1_000), &[WRITE | 5, 1_024], OPEN_ROWS, &mut out);
-    print_scheduled(b"open rows, another row behind a write", written, &out);
+    print_scheduled(rt, b"open rows, another row behind a write", written, &out);
     let mixed = [WRITE | 5, WRITE | 5, 5, WRITE | 5];
     let row = schedule::schedule(&settings(1_000), &mixed, OPEN_ROWS, &mut out);
-    print_scheduled(b"open rows, one row", row, &out);
+    print_scheduled(rt, b"open rows, one row", row, &out);
 }
 
-fn print_around_refresh(capture: &[u8]) {
-    say(b"from event 104 on:");
+fn print_around_refresh(rt: &HostRuntime, capture: &[u8]) {
+    say(rt, b"from event 104 on:");
     for i in 104..110 {
-        say(b" ");
-        print_event(capture, i);
+        say(rt, b" ");
+        print_event(rt, capture, i);
     }
-    say(b"\n");
+    say(rt, b"\n");
 }
 
 // READ 3, 5 and so on to 209, which is request 103. The next at 211 would keep PRECHARGE all from coming before 213, AUTO
 // REFRESH at 216, where nine are owed. So these come first, at 211 and 214, and the row is opened anew.
-fn print_open_refresh() {
+fn print_open_refresh(rt: &HostRuntime) {
     let mut out = [0u8; 1_000];
     let paid = schedule::schedule(&settings(24), &[5u32; 106], OPEN_ROWS, &mut out);
-    print_scheduled(b"open rows, 106 requests, tREFI 24", paid, &out);
-    print_around_refresh(&out);
+    print_scheduled(rt, b"open rows, 106 requests, tREFI 24", paid, &out);
+    print_around_refresh(rt, &out);
     let two = schedule::schedule(&settings(2), &[5u32; 9], OPEN_ROWS, &mut out);
-    print_scheduled(b"open rows, tREFI 2", two, &out);
+    print_scheduled(rt, b"open rows, tREFI 2", two, &out);
     let three = schedule::schedule(&settings(3), &[5u32; 12], OPEN_ROWS, &mut out);
-    print_scheduled(b"open rows, tREFI 3", three, &out);
+    print_scheduled(rt, b"open rows, tREFI 3", three, &out);
 }
 
 // No such policy: before a request that is none, behind the settings.
-fn print_no_policy() {
+fn print_no_policy(rt: &HostRuntime) {
     let mut out = [9u8; 95];
     let policy = schedule::schedule(&settings(10), &[4 * BANK_1], 2, &mut out);
-    print_scheduled(b"policy 2", policy, &out);
+    print_scheduled(rt, b"policy 2", policy, &out);
     let count = schedule::schedule(&[], &[5], 2, &mut out);
-    print_scheduled(b"policy 2, no settings", count, &out);
-    print_nines(b"the buffer", &out);
+    print_scheduled(rt, b"policy 2, no settings", count, &out);
+    print_nines(rt, b"the buffer", &out);
 }
 
 // ACTIVE 0, READ 3 and one every other cycle, the last at 3 + 2 x 1,999.
-fn print_open_longest() {
+fn print_open_longest(rt: &HostRuntime) {
     let mut out = [0u8; 64_080];
     let loose = schedule::schedule(&settings(1_000_000), &[5u32; 2_000], OPEN_ROWS, &mut out);
-    print_scheduled(b"open rows, 2000 requests", loose, &out);
+    print_scheduled(rt, b"open rows, 2000 requests", loose, &out);
 }
 
-fn main() {
-    print_case_m();
-    print_case_m_ten_times();
-    print_few();
-    print_refused();
-    print_longest();
-    print_too_many();
-    print_open_case_m();
-    print_open_rows();
-    print_open_refresh();
-    print_no_policy();
-    print_open_longest();
+fn main(rt: HostRuntime) {
+    print_case_m(&rt);
+    print_case_m_ten_times(&rt);
+    print_few(&rt);
+    print_refused(&rt);
+    print_longest(&rt);
+    print_too_many(&rt);
+    print_open_case_m(&rt);
+    print_open_rows(&rt);
+    print_open_refresh(&rt);
+    print_no_policy(&rt);
+    print_open_longest(&rt);
 }

@@ -12,30 +12,32 @@ const UNDONE: [u8; 19] = *b"nothing was written";
 // One byte more than the longest capture, so that a longer input is seen to be too long and none is written in part.
 const ROOM: usize = capture::MOST + 1;
 
-fn write(export: &[u8]) {
-    let mut out: Out = true;
+fn write(rt: &HostRuntime, export: &[u8]) {
+    let mut out = Out::new(rt.stdout());
     say(&mut out, export);
-    program::end(&NAME, out, b"written");
+    program::end(rt, &NAME, out, b"written");
 }
 
-fn convert(capture: &[u8]) {
+fn convert(rt: &HostRuntime, capture: &[u8]) {
     let mut room = [0u8; exports::LONGEST];
     let converted = exports::write(capture, &mut room);
     match converted {
         Converted::Refused { number, place } => program::refuse(
+            rt,
             &NAME,
             b": refused ",
             number,
             place,
             &UNDONE,
         ),
-        Converted::Written { bytes } => write(&room[..bytes as usize]),
+        Converted::Written { bytes } => write(rt, &room[..bytes as usize]),
     }
 }
 
-fn main() {
+fn main(rt: HostRuntime) {
     let mut buffer = [0u8; ROOM];
     let given = program::input(
+        &rt,
         &NAME,
         b"usage: to_export [FILE]
 
@@ -51,5 +53,5 @@ What is refused has no output, and standard error says
         return;
     }
     let n = given.size;
-    convert(&buffer[..n]);
+    convert(&rt, &buffer[..n]);
 }

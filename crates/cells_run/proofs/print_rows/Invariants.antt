@@ -1,4 +1,4 @@
-use Prim.Native.Nat.{◌≤◌, ◌-◌}
+use Prim.Native.Nat.{◌≤◌}
 use Rattle.cells_run.proofs.print_rows.Given as goal
 
 abbrev pub invariant-loop-start : goal.invariant-loop-start

@@ -1,18 +1,8 @@
-use Prim.Native.Nat.{◌-◌}
-use mathlib.Core.Path.{ap}
-use native.Mathlib.Omega.{arith}
-use Rattle.io.proofs.Counting.{prefix_len_of_le}
-use Rattle.console.specs.Input.{came_in}
+use Rattle.std.proofs.Common.{arith}
+use Rattle.console.proofs.Known.{Consumes-more}
 use Rattle.console.proofs.read_input.Goals as goal
 
-pub returns-then-n-eq0 : goal.returns-then-n-eq0
-returns-then-n-eq0 c = prefix_len_of_le _ c.read_from-piece.new.1.0 (omega arith)
-
-pub overflow_add-done : goal.overflow_add-done
-overflow_add-done c = omega (arith, ap came_in c.in-Bytes.is)
-
 pub loop-done-preserved : goal.loop-done-preserved
-loop-done-preserved c = (omega (arith, ap came_in c.in-Bytes.is), omega arith)
-
-pub returns : goal.returns
-returns c = prefix_len_of_le _ c.loop-done.buf c.loop-done.invariant.0
+loop-done-preserved g c =
+    let read = c.in-Bytes.ensures in
+    (omega (arith, read.in_bounds), Consumes-more _ _ _ c.loop-done.buf _ _ _ read.front c.loop-done.invariant.1 read.bytes.0)

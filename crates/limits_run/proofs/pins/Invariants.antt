@@ -1,4 +1,4 @@
-use Prim.Native.Nat.{◌≤◌, ◌-◌}
+use Prim.Native.Nat.{◌≤◌}
 use Rattle.limits_run.proofs.pins.Given as goal
 
 abbrev pub invariant-loop-bit : goal.invariant-loop-bit

@@ -1,4 +1,4 @@
-use Prim.Native.Nat.{◌≤◌, ◌-◌}
+use Prim.Native.Nat.{◌≤◌}
 use Rattle.limits_run.proofs.rows.Given as goal
 
 abbrev pub invariant-loop-i : goal.invariant-loop-i

@@ -1,5 +1,4 @@
 -- The invariant: the buffer keeps its length.
-use Prim.Native.Nat.{◌-◌}
 use native.Mathlib.Omega.{arith}
 use Rattle.limits_run.proofs.store_events.Goals as goal
 

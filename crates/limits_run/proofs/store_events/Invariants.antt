@@ -1,5 +1,5 @@
 -- The invariant: the buffer keeps its length.
-use Prim.Native.Nat.{◌≤◌, ◌-◌}
+use Prim.Native.Nat.{◌≤◌}
 use mathlib.Core.Path.{◌≡◌}
 use lib.ListN.{length}
 use Rattle.limits_run.proofs.store_events.Given as goal

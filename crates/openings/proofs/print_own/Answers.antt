@@ -1,4 +1,3 @@
-use Prim.Native.Nat.{◌-◌}
 use Rattle.openings.proofs.print_own.Goals as goal
 
 pub print_opening-requires : goal.print_opening-requires

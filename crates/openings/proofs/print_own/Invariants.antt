@@ -1,4 +1,4 @@
-use Prim.Native.Nat.{◌≤◌, ◌-◌}
+use Prim.Native.Nat.{◌≤◌}
 use Rattle.openings.proofs.print_own.Given as goal
 
 abbrev pub invariant-loop-i : goal.invariant-loop-i

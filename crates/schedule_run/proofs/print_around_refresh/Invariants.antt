@@ -1,4 +1,4 @@
-use Prim.Native.Nat.{◌≤◌, ◌-◌}
+use Prim.Native.Nat.{◌≤◌}
 use Rattle.schedule_run.proofs.print_around_refresh.Given as goal
 
 abbrev pub invariant-loop-i : goal.invariant-loop-i

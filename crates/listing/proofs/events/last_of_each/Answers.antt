@@ -1,5 +1,4 @@
 -- The invariant: there is a place for each of the nine kinds.
-use Prim.Native.Nat.{◌-◌}
 use Rattle.listing.proofs.events.last_of_each.Goals as goal
 
 pub event_at-event-requires : goal.event_at-event-requires

@@ -1,4 +1,3 @@
-use Prim.Native.Nat.{◌-◌}
 use Rattle.listing.proofs.events.print_around.Goals as goal
 
 pub first_listed-first-requires : goal.first_listed-first-requires

@@ -1,4 +1,3 @@
-use Prim.Native.Nat.{◌-◌}
 use Rattle.listing.proofs.events.print_around.Given as goal
 
 abbrev pub invariant-loop-i : goal.invariant-loop-i

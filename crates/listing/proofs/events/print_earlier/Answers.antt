@@ -1,4 +1,3 @@
-use Prim.Native.Nat.{◌-◌}
 use Rattle.listing.proofs.events.print_earlier.Goals as goal
 
 pub last_of_each-last-requires : goal.last_of_each-last-requires
