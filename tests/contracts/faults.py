@@ -59,3 +59,21 @@ def made(texts, laws):
     yield "one that prints nothing beside those that do", "wording.proofs.word.Reads", texts + [("wording", [], PRINTED)], laws
     yield "one that is lent an output, elsewhere", "words.proofs.print.Reads", texts + [("words", [], PRINTED)], laws
     yield "a module of a folder", "words.proofs.a.b.word.Reads", texts + [("words", ["a", "b"], "pub fn word(x: u32) -> u32 { x }")], laws
+
+
+# What is wrong with the exports, what is to be said of it, and the text that is replaced by another, once.
+EXPORTS = [
+    ("an export without a clause", "morgazell_c::morgazell_judge has not the head", "\n    ensures { result ≡ packed (judge_told (judge_answer capture.now)) }", ""),
+    ("an export of another clause", "morgazell_c::morgazell_judge has not the head", "judge_told (judge_answer capture.now)", "judge_told (recording_answer capture.now)"),
+    ("an export of another argument", "morgazell_c::morgazell_recording has not the head", "morgazell_recording(recording: &[u8])", "morgazell_recording(recording: &[u32])"),
+    ("an export that asks for something", "morgazell_c::morgazell_version has not the head", "morgazell_version() -> u32\n", "morgazell_version() -> u32\n    requires { 0 < 1 }\n"),
+    ("an export that calls another function", "morgazell_c::morgazell_judge does more", "morgazell::morgazell_judge(capture)", "morgazell::morgazell_recording(capture)"),
+    ("an export under another name", "morgazell_c exports no morgazell_judge", "fn morgazell_judge(", "fn morgazell_judged("),
+    ("an export that is not exported", "other functions than those", "#[unsafe(no_mangle)]\npub extern \"C\" fn morgazell_judge", "pub extern \"C\" fn morgazell_judge"),
+]
+
+
+def exported(ours, theirs):
+    """(what is wrong, what is to be said of it, the library, the exports)"""
+    for name, said, old, new in EXPORTS:
+        yield name, said, ours, replaced(theirs, old, new)

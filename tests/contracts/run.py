@@ -159,20 +159,25 @@ def at_once(text, margin=4):
 
 # ---- what is exported
 
-def heads(crate):
-    """Each public function of a crate's code: its head, from its name to its body, and its body."""
-    text = QUIET.sub("", "\n".join(source for of, _, source in sources([crate])))
+def heads(text):
+    """Each public function: its head, from its name to its body, and its body."""
     found = re.findall(r"^pub (?:extern \"C\" )?fn (\w+)(.*?)\n?\{\n(.*?)^\}$", text, re.M | re.S)
-    return {name: (" ".join(head.replace(",\n)", ")").split()), " ".join(body.split())) for name, head, body in found}
+    return {name: (" ".join(head.replace(",\n)", ")").split()).replace("( ", "("), " ".join(body.split())) for name, head, body in found}
 
 
-def unexported():
-    """What is not the same in the static library and in the library that it is made of."""
-    ours, theirs = heads(EXPORTED), heads(EXPORTING)
+def code(crate):
+    return QUIET.sub("", "\n".join(text for _, _, text in sources([crate])))
+
+
+def unexported(exported, exporting):
+    """What is not the same in the text of the static library and in that of the library that it is made of."""
+    ours, theirs = heads(exported), heads(exporting)
     ours = {name: head for name, head in ours.items() if name.startswith(EXPORTED + "_")}
     yield from ("%s exports no %s" % (EXPORTING, name) for name in sorted(set(ours) - set(theirs)))
+    if len(theirs) != len(re.findall(r"\bno_mangle\b", exporting)):
+        yield "%s has other functions than those that it exports" % EXPORTING
     for name, (head, body) in sorted(theirs.items()):
-        if name not in ours or head.replace("( ", "(") != ours[name][0].replace("( ", "("):
+        if name not in ours or head != ours[name][0]:
             yield "%s::%s has not the head of a function of %s" % (EXPORTING, name, EXPORTED)
         if not re.fullmatch(r"%s::%s\([\w, ]*\)" % (EXPORTED, name), body):
             yield "%s::%s does more than to call %s::%s" % (EXPORTING, name, EXPORTED, name)
@@ -198,13 +203,16 @@ def wrong(texts, laws, held):
 
 def main():
     texts, laws, held = list(sources()), at_once(read(LAWS), 2), read(HELD)
-    found = wrong(texts, laws, held) + list(unheld(texts, held)) + list(unexported())
+    both = code(EXPORTED), code(EXPORTING)
+    found = wrong(texts, laws, held) + list(unheld(texts, held)) + list(unexported(*both))
     if "mod Held" not in read("crates", "demands", "proofs", "Lib.antt").splitlines():
         found.append("the laws of functions proved by hand are not declared, so nothing checks them")
     if "mod Settled" not in read("crates", "demands", "proofs", "Lib.antt").splitlines():
         found.append("the laws are not declared, so nothing checks them")
     made = [] if found else list(faults.made(texts, laws))
     unnoticed = [name for name, said, *fault in made if not any(said in line for line in wrong(*fault, held))]
+    made += [] if found else list(faults.exported(*both))
+    unnoticed += [name for name, said, *fault in made[-len(faults.EXPORTS):] if not any(said in line for line in unexported(*fault))]
     for line in found + ["not noticed: " + name for name in unnoticed]:
         print(line)
     count = sum(1 for text in texts for _ in functions(*text))
