@@ -14,14 +14,14 @@ WAS = re.compile(r"\b(formerly|no longer(?! than)|any more|used to be|as it stoo
 
 
 def sentences(text):
-    """The sentences of paragraphs and points, and the pieces of cells of tables; code counts as a word, and what stands in
-    brackets is left out."""
+    """The sentences of paragraphs and points, and the pieces of cells of tables; code counts as a word, what stands in brackets
+    is left out, and so is a cell that has names in code and nothing else, since a list is no sentence."""
     text = re.sub(r"^    .*$", "", text, flags=re.M)
     text = re.sub(r"`[^`\n]*`", "code", text)
     text = re.sub(r"\([^()]*\)|[*#]", "", text)
     for line in text.splitlines():
         if line.startswith("|"):
-            yield from re.split(r"(?<=[.?!;:])\s+| \| ", line.strip("| "))
+            yield from (piece for piece in re.split(r"(?<=[.?!;:])\s+| \| ", line.strip("| ")) if not re.fullmatch("code(, code)*", piece))
         else:
             yield from re.split(r"(?<=[.?!])\s+", line)
 
