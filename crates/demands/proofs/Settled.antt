@@ -69,7 +69,7 @@ use Rattle.effects.proofs.start.Reads as effects-start
 use Rattle.effects.proofs.enter_after.Reads as effects-enter-after
 use Rattle.effects.proofs.self_after.Reads as effects-self-after
 use Rattle.effects.proofs.leave_after.Reads as effects-leave-after
-use Rattle.part.proofs.step.Reads as part_step
+use Rattle.part.proofs.step.Reads as part-step
 use Rattle.judge.proofs.walk.Reads as judge-walk
 use Rattle.judge.proofs.judge_to.Reads as judge-judge-to
 use Rattle.judge.proofs.judge.Reads as judge-judge
@@ -115,7 +115,7 @@ use Rattle.cells.proofs.burst_cells.Reads as cells-burst-cells
 use Rattle.player.proofs.play.Reads as player-play
 use Rattle.browser.proofs.event_at.Reads as browser-event-at
 use Rattle.rows.proofs.stands.Reads as rows-stands
-use Rattle.rows.proofs.write.Reads as rows_write
+use Rattle.rows.proofs.write.Reads as rows-write
 use Rattle.asking.proofs.open_row.Reads as asking-open-row
 use Rattle.monthly.proofs.wanted.Reads as monthly-wanted
 use Rattle.monthly.proofs.ends.Reads as monthly-ends
@@ -408,7 +408,7 @@ effects-leave-after-settles κs a z z' e e' p q = p ∙ sym q
 
 -- ---- part
 
-pub part-step-settles : (κs : _) (a : _) (z z' : _) (e e' : _) → part_step.Post κs a z e → part_step.Post κs a z' e' →
+pub part-step-settles : (κs : _) (a : _) (z z' : _) (e e' : _) → part-step.Post κs a z e → part-step.Post κs a z' e' →
     (z ≡ z') × ((e.1.0.now ≡ e'.1.0.now) × (e.1.1.0.now ≡ e'.1.1.0.now))
 part-step-settles κs a z z' e e' p q = (part.one_answer z z' (p.0 ∙ sym q.0), (p.1.0 ∙ sym q.1.0, p.1.1 ∙ sym q.1.1))
 
@@ -570,7 +570,7 @@ browser-event-at-settles κs a z z' e e' p q = p ∙ sym q
 pub rows-stands-settles : (κs : _) (a : _) (z z' : _) (e e' : _) → rows-stands.Post κs a z e → rows-stands.Post κs a z' e' → z ≡ z'
 rows-stands-settles κs a z z' e e' p q = p ∙ sym q
 
-pub rows-write-settles : (κs : _) (a : _) (z z' : _) (e e' : _) → rows_write.Post κs a z e → rows_write.Post κs a z' e' →
+pub rows-write-settles : (κs : _) (a : _) (z z' : _) (e e' : _) → rows-write.Post κs a z e → rows-write.Post κs a z' e' →
     e.1.1.0.now ≡ e'.1.1.0.now
 rows-write-settles κs a z z' e e' p q = p ∙ sym q
 
