@@ -1,4 +1,4 @@
--- The public functions whose proofs are walks by hand, since they hold a reference to a struct or a struct with one: what each
+-- The public functions that hold a reference to a struct or a struct with one: what each
 -- contract ensures is one fact, an equation for the result and for each lent buffer as it is left. So any two results, and any
 -- two contents of a buffer, that it allows for the same arguments are equal.
 use Prim.Native.Nat.{ℕ, ◌+◌}
