@@ -1,5 +1,6 @@
 use mathlib.Core.Path.{sym}
 use native.Mathlib.Omega.{arith}
+use borrow.Author.Rules.{rules}
 use borrow.Author.Tests.{eq-eqb, ne_eqb}
 use Rattle.reading.proofs.Laws.{none_yet, one_more, all-passed, passed_to}
 use Rattle.deadlines.proofs.banks.all_idle.Goals as goal
@@ -23,10 +24,10 @@ pub banks-smaller : goal.banks-smaller
 banks-smaller c = omega arith
 
 pub banks-preserved : goal.banks-preserved
-banks-preserved c = one_more c.banks.invariant (eq-eqb _ _ c.if-d-i-eq0.true)
+banks-preserved c = one_more c.banks.invariant (search (rules, eq-eqb))
 
 pub returns-in-banks : goal.returns-in-banks
-returns-in-banks c = sym (passed_to c.banks.invariant (omega arith) (ne_eqb _ _ c.if-d-i-eq0.false))
+returns-in-banks c = sym (passed_to c.banks.invariant (omega arith) (search (rules, ne_eqb)))
 
 pub returns : goal.returns
 returns c = sym (all-passed c.banks.invariant (omega arith))
