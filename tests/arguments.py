@@ -65,7 +65,7 @@ class Trial:
             print(f"WRONG {self.name} {arguments!r:.200}: {found!r:.600}, not {(out, err, read)!r:.600}")
 
     def complains(self, arguments, folder, what):
-        self.hold(arguments, folder, b"", f"{self.name}: {what}; {self.undone}\n".encode())
+        self.hold(arguments, folder, b"", f"{self.name}: {what}; {self.undone}\n".encode(errors="surrogateescape"))
 
     # ---- what is asked
 
@@ -110,6 +110,8 @@ class Trial:
         self.complains(["./" * 2048], folder, "./" * 2048 + " could not be opened")
         self.complains(["./" * 2047 + "n"], folder, "./" * 2047 + "n could not be opened: there is no such file")
         self.complains(["line\nline\t\x1b[31m\x7f"], folder, "line?line??[31m? could not be opened: there is no such file")
+        with open(os.path.join(folder, "na\udcefve"), "wb"):
+            self.complains(["na\udcefve"], folder, "na\udcefve could not be opened: its name is not UTF-8")
         self.complains(["sub"], folder, "sub could not be read: it is a folder")
         self.complains(["/proc/self/mem"], folder, "/proc/self/mem could not be read to its end")
         with open(os.path.join(folder, "locked"), "wb") as file:

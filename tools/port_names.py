@@ -1,9 +1,10 @@
 #!/usr/bin/env python3
 """Brings the repository's own definitions and lemmas to snake case, as the port asked: `python3 tools/port_names.py [--check]`, once, at the top.
 
-A name is respelled where it begins with a small letter and holds a capital, and where the specs or proofs of this repository
-declare it: a definition, a lemma, a field, a constructor or a variable. Each part between dashes goes by itself: `bytesOf-append`
-becomes `bytes_of-append`. Types, facts and modules keep their capitals, and so do functions of src/, comments and strings.
+In the specs, the proofs, the edits and the code of crates/ each name is respelled that begins with a small letter and holds a
+capital: a definition, a lemma, a field, a constructor or a variable. Each part between dashes goes by itself: `bytesOf-append`
+becomes `bytes_of-append`. Types, facts and modules keep their capitals; functions of src/ have none. Strings and numerals stay,
+and of a comment all but what stands in backticks.
 """
 import os
 import re
