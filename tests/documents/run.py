@@ -43,15 +43,14 @@ NOT_DECISIONS = {"C99"}
 NOT_NAMES = {"CRATE-PATH-settles", "ruleN", "rule-N"}
 
 
-# It sets what was beside what is, and so names things that are gone.
-BEFORE_AND_NOW = "docs/PORT.md"
+# They set what was beside what is, and so name things that are gone, or are not there yet.
+BEFORE_AND_NOW = ("docs/PORT.md", "docs/DESIGN-PASS.md")
 
 
 def documents():
     """Every page by its name."""
     pages = PAGES + [os.path.relpath(path, ROOT) for path in glob.glob(os.path.join(ROOT, "docs", "*.md")) if names.is_landed(path)]
-    pages.remove(BEFORE_AND_NOW)
-    return {page: read(page) for page in sorted(pages)}
+    return {page: read(page) for page in sorted(set(pages).difference(BEFORE_AND_NOW))}
 
 
 def of_requests():
