@@ -21,32 +21,42 @@ LAWS = os.path.join("crates", "demands", "proofs", "Settled.antt")
 HELD = os.path.join("crates", "demands", "proofs", "Held.antt")
 
 # The functions that may have their law in Held.
-BY_HAND = {"browser-start", "browser-next", "browser-onward", "browser-look", "rows-count", "banks-fill", "morgazell-morgazell-open-row"}
+BY_HAND = {"browser-start", "browser-next", "browser-onward", "rows-count", "banks-fill", "morgazell-morgazell-open-row"}
+
+# What they hand out refers to bytes that they were lent: of two results what is seen of them is the same.
+SEEN = {
+    "capture-open-to": "finding.seen %s", "capture-open": "finding.seen %s", "cells-held-Clean-judged": "finding.held %s.opened",
+}
 
 # The static library, and the library whose functions it exports.
 EXPORTING, EXPORTED = "morgazell_c", "morgazell"
 
-# They read and print for the programs: all of `console`, and of `wording` what is lent the mark of an output or a line of text.
+# They read and print for the programs: all of `console`, and of `wording` what is lent the mark of an output.
 READING = "console"
 PRINTING = "wording"
-MARK = re.compile(r"&mut Out\b|\bline: &mut \[u8\]")
+MARK = re.compile(r"&mut Out\b")
 
 # What the laws and their proofs are written with.
 BROUGHT = """\
 use mathlib.Core.Path.{◌≡◌, sym, ◌∙◌}
-use Rattle.settings.proofs.Unique as settings
+use Rattle.refusal.proofs.Unique as refusal
+use Rattle.rules.proofs.Unique as rules
 use Rattle.part.proofs.Unique as part
+use Rattle.judge.proofs.Unique as judge
+use Rattle.banks.proofs.Unique as banks
 use Rattle.cells.proofs.Unique as cells
-use Rattle.player.proofs.Unique as player
 use Rattle.drafts.proofs.Unique as drafts
 use Rattle.serving.proofs.Unique as serving
-use Rattle.schedule.proofs.Unique as schedule
-use Rattle.hidden.proofs.Unique as hidden
-use Rattle.exports.proofs.Unique as exports
 use Rattle.monthly.proofs.Unique as monthly
 use Rattle.demands.proofs.Finding as finding
 use Rattle.demands.proofs.Judging as judging
 """.splitlines()
+
+# What is held by a type of which a reference is lent that cannot be written through.
+LIFETIMES = re.compile(r"(?<=: &)(\w+)<'\w+>")
+
+# What a type may lend that is written with brackets.
+LENDING = re.compile(r"<.*['&]")
 
 # Text in which a brace or `pub fn` means nothing.
 QUIET = re.compile(r"""//[^\n]*|/\*(?:.|\n)*?\*/|b"(?:\\.|[^"\\])*"|b'(?:\\.|[^'\\])'""")
@@ -68,6 +78,9 @@ def read(*path):
         return file.read()
 
 
+CRATES = set(os.listdir(os.path.join(ROOT, "crates")))
+
+
 def libraries():
     for line in read("crates.txt").splitlines():
         crate, *kind = line.split("#")[0].split(":")[0].split() or [""]
@@ -86,16 +99,23 @@ def sources(crates=None):
                 yield crate, module, read("crates", crate, "src", place + ".rt")
 
 
+def homes(crate):
+    """Of each type of a crate that has a module of its own, that module: its methods are found there, wherever they are written."""
+    return {name: module for _, module, text in sources([crate] if crate in CRATES else []) if module
+            for name in re.findall(r"^pub struct (\w+)", QUIET.sub("", text), re.M)}
+
+
 def functions(crate, module, text):
     """The public functions of a source, also those of its modules and types."""
-    blocks = []
+    blocks, home = [], homes(crate)
     for piece in PIECE.finditer(QUIET.sub("", text)):
         if piece["open"]:
             blocks.append(piece["module"] or piece["type"])
         elif piece["close"]:
             blocks.pop()
         else:
-            path = module + [block for block in blocks if block] + [piece["name"]]
+            named = [block for block in blocks if block]
+            path = (home.get(named[0], module) if named else module) + named + [piece["name"]]
             parameters = [" ".join(p.split()) for p in re.split(r",(?![^<]*>)", piece["parameters"]) if p.strip()]
             if crate != PRINTING or not any(MARK.search(p) for p in parameters):
                 yield Function(crate, path, parameters, piece["answers"])
@@ -104,7 +124,10 @@ def functions(crate, module, text):
 def claims(function):
     """What the law says of two results z, z' and of two contents e, e' of what is lent."""
     said = []
-    if function.answer:
+    seen = SEEN.get(name_of(function))
+    if seen:
+        said.append("%s ≡ %s" % (seen % "z", seen % "z'"))
+    elif function.answer:
         said.append("z.now ≡ z'.now" if function.answer.endswith("&") else "z ≡ z'")
     for place, parameter in enumerate(function.parameters):
         if re.search(r"&\s*('\w+ )?mut\b", parameter):
@@ -197,7 +220,7 @@ def wrong(texts, laws, held):
         if line and not line.startswith("-- "):
             there[re.sub(r"^(\S+-settles κs a z z' e e' p q =) .*$", r"\1", line)] += 1
     held = ["no law can say what is lent inside %s of %s::%s" % (p, f.crate, "::".join(f.path))
-            for f in public for p in f.parameters if "<" in p]
+            for f in public for p in f.parameters if LENDING.search(LIFETIMES.sub(r"\1", p))]
     return held + ["missing: " + line for line in wanted - there] + ["of no public function: " + line for line in there - wanted]
 
 

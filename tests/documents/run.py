@@ -43,7 +43,7 @@ NOT_DECISIONS = {"C99"}
 NOT_NAMES = {"CRATE-PATH-settles", "ruleN", "rule-N"}
 
 
-# They set what was beside what is, and so name things that are gone, or are not there yet.
+# They set what was beside what is, and so name things that are gone.
 BEFORE_AND_NOW = ("docs/PORT.md", "docs/DESIGN-PASS.md")
 
 

@@ -1,32 +1,69 @@
 -- What was counted, written and found of a clean capture is what the reading says.
-use Prim.Native.Nat.{ℕ, zero, suc, ◌+◌, ◌*◌, ◌≤◌, ◌<◌}
-use mathlib.Core.List.{List, [], ◌∷◌, ◌++◌, map}
+use Prim.Native.Nat.{ℕ, zero, suc, ◌+◌, ◌*◌, ◌^◌, ◌≤◌, ◌<◌}
+use mathlib.Core.List.{List, [], ◌∷◌, ◌++◌, map, append_assoc, append-nil}
 use mathlib.Core.Option.{Option}
 use mathlib.Core.Path.{◌≡◌, refl, sym, ap, ◌∙◌, subst}
 use native.Mathlib.Nat.{zero-add}
+use native.Mathlib.Numerals.{add-one}
 use native.Mathlib.Omega.{arith}
-use lib.ListN.{length, get_or, take, drop, length-append}
-use lib.Seq.{sets}
+use lib.ListN.{length, get_or, set, take, drop, length-set, length-append, length-drop}
+use lib.Seq.{sets, take-suc-set, drop-cons, take_all}
 use Rattle.reading.specs.Search.{count}
-use Rattle.reading.specs.Capture.{Event, most_events, capture_size, count_in, event_count, event_bytes, event_at, events_of}
+use Rattle.reading.specs.Capture.{Event, most_events, capture_size, count_in, events_start, event_count, event_bytes, event_at, events_of}
 use Rattle.reading.specs.Verdict.{clean}
 use Rattle.reading.specs.Answers.{Answer, answered, accepted, settings_in, verdict_in}
-use Rattle.reading.specs.Openings.{openings_of, opening_words, index_of, records_from, records_of, row_after}
+use Rattle.reading.specs.Openings.{openings_of, opening_words, index_of, Record, records_from, records_of, row_after}
 use Rattle.reading.specs.OpenRow.{index_in, records_in, row_in}
-use Rattle.words.proofs.Runs.{front}
+use Rattle.words.proofs.Runs.{front, none-behind}
 use Rattle.capture.proofs.Accepted.{Sized, accepted-sound}
-use Rattle.banks.specs.declared.Asked.{Asked}
+use Rattle.std.specs.Prelude as std
+use Rattle.std.specs.Prelude.{Some, None}
+use Rattle.std.specs.Option.{option_map}
+use Rattle.words.specs.Found.{place_of}
 use Rattle.banks.specs.declared.Bank.{Bank}
-use Rattle.banks.specs.Banks.{bank_at, bank_of, row_asked, told_of}
+use Rattle.banks.specs.Banks.{bank_at, bank_of, record_of, found, told_of}
 use Rattle.rows.specs.declared.Tally.{Tally}
-use Rattle.rows.specs.declared.Standing.{Standing}
-use Rattle.rows.specs.Walks.{Few, none_yet, tallied_from, events_up_to, opened_by_all, stand_after, row_stood}
+use Rattle.rows.specs.Walks.{Standing, Few, none_yet, tallied_from, events_up_to, opened_by_all, stand_after, row_stood}
 use Rattle.rows.proofs.AsStood.{row-stood}
 use Rattle.rows.proofs.Opened.{index-so}
 use Rattle.rows.proofs.Tallying.{few-more, tallied-few, tallied-so}
 use Rattle.rows.proofs.Writing.{words-length}
 
--- ---- the records of four banks
+-- ---- the records of the banks, one after the other
+
+pub record Telling (counts : List ℕ) (banks : List Bank) (before i : ℕ) : Type 0 where
+  pub within : i ≤ 4
+  pub long : length banks ≡ 4
+  pub small : before ≤ 8000 * i
+  pub same : take i banks ++ map bank_of (records_from before (drop i counts)) ≡ map bank_of (records_from 0 counts)
+
+pub tells-none : (counts : List ℕ) {banks : List Bank} → length banks ≡ 4 → Telling counts banks 0 0
+tells-none counts four = record { within = omega arith; long = four; small = omega arith; same = refl }
+
+module _ {t : Tally} {banks : List Bank} {before i : ℕ} (f : Few t 8000) (x : Telling t.counts banks before i) where
+  abbrev count_at : ℕ
+  count_at = get_or t.counts i 0
+
+  abbrev told-bank : Bank
+  told-bank = record { before = before; count = count_at }
+
+  pub tells-room : i < 4 → before + count_at < 2 ^ 32
+  tells-room l = omega (arith, x.small, f.each i)
+
+  pub tells-on : i < 4 → Telling t.counts (set banks i told-bank) (before + count_at) (i + 1)
+  tells-on l =
+      record {
+        within = omega arith;
+        long = length-set banks i told-bank ∙ x.long;
+        small = omega (arith, x.small, f.each i);
+        same =
+            rw (add-one i, take-suc-set banks i told-bank (omega (arith, x.long)), append_assoc (take i banks) (told-bank ∷ []) (map bank_of (records_from (before + count_at) (drop (suc i) t.counts))))
+            (sym (ap (λ (l : List ℕ). take i banks ++ map bank_of (records_from before l)) (drop-cons t.counts i 0 (omega (arith, f.four)))) ∙ x.same);
+      }
+
+  pub told-all : 4 ≤ i → banks ≡ map bank_of (records_from 0 t.counts)
+  told-all l =
+      sym (rw (none-behind t.counts i (omega (arith, f.four)), take_all i banks (omega (arith, x.long)), append-nil banks)) ∙ x.same
 
 pub four-records : (l : List ℕ) → length l ≡ 4 →
     (record { before = 0; count = get_or l 0 0 } ∷ record { before = get_or l 0 0; count = get_or l 1 0 } ∷ record { before = get_or l 0 0 + get_or l 1 0; count = get_or l 2 0 }
@@ -60,6 +97,9 @@ module _ (capture : List ℕ) (open-to : accepted capture (answered (tt {0})) �
 
   pub long : capture_size (count_in capture) (event_count capture) ≤ length capture
   long = omega (arith, sized.size)
+
+  pub there : 8 * event_count capture ≤ length (event_bytes capture)
+  there = omega (arith, long, length-drop (events_start (count_in capture)) capture)
 
   pub few-events : event_count capture ≤ 8000
   few-events = sized.few
@@ -123,9 +163,17 @@ module _ (capture : List ℕ) (open-to : accepted capture (answered (tt {0})) �
       ∙ (ap (λ (es : List Event). row_stood (stand_after bank es)) (sym (take_count (event_at (event_bytes capture)) 0 (event_count capture) (suc event) (omega (arith, l))))
       ∙ sym (row-stood (settings_in capture) bank (take (suc event) (events_of capture)))))
 
-  pub answered-told : (bank event : ℕ) (x : Standing) {a : Answer (Option ℕ)} {asked : Asked} {banks : List Bank} → a ≡ answered (row_in capture bank event) →
-      row_stood x ≡ row_in capture bank event → asked ≡ row_asked (row_stood x) → banks ≡ map bank_of (records_in capture) →
-      record { answer = asked; banks = banks } ≡ told_of a (records_in capture)
-  answered-told bank event x e f g h =
-      let same = g ∙ ap row_asked f in
-      (λ i. record { answer = same i; banks = h i }) ∙ ap (λ (b : Answer (Option ℕ)). told_of b (records_in capture)) (sym e)
+  -- the row that is open, or none
+  pub row-open : (x : Standing) → place_of (option_map (λ o. o.row) x) ≡ row_stood x
+  row-open None = refl
+  row-open (Some o) = refl
+
+  same_records : (rs : List Record) → map record_of (map bank_of rs) ≡ rs
+  same_records [] = refl
+  same_records (r ∷ rs) = ap (λ (l : List Record). r ∷ l) (same_records rs)
+
+  pub answered-told : (bank event : ℕ) (row : std.Option ℕ) {a : Answer (Option ℕ)} {banks : List Bank} → a ≡ answered (row_in capture bank event) →
+      place_of row ≡ row_in capture bank event → banks ≡ map bank_of (records_in capture) →
+      answered (found (record { row = row; banks = banks })) ≡ told_of a (records_in capture)
+  answered-told bank event row {a} {banks} e f g =
+      (λ i. answered (f i, (ap (map record_of) g ∙ same_records (records_in capture)) i)) ∙ ap (λ (b : Answer (Option ℕ)). told_of b (records_in capture)) (sym e)

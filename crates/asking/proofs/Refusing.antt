@@ -1,6 +1,7 @@
 -- The refusals of a question, in their order.
 use Prim.Native.Nat.{ℕ, ◌≤◌, ◌<◌}
-use mathlib.Core.Bool.{Bool, true, false, not, ◌&&◌, and-eq-true_iff}
+use mathlib.Core.Bool.{Bool, true, false, not, ◌&&◌, and-false, and-eq-true_iff}
+use mathlib.Core.Logic.{◌⊎◌, inl, inr}
 use mathlib.Core.List.{List}
 use mathlib.Core.Option.{Option, none, some}
 use mathlib.Core.Path.{◌≡◌, refl, sym, ap, ◌∙◌}
@@ -16,29 +17,23 @@ use Rattle.reading.specs.Openings.{Record}
 use Rattle.reading.specs.OpenRow.{index_in, row_in, question_fits, open_row_answer, over}
 use Rattle.capture.proofs.Outcome.{follow}
 use Rattle.capture.proofs.Accepted.{followed}
-use Rattle.judge.specs.declared.Verdict as declared
-use Rattle.judge.specs.Meaning.{means}
-use Rattle.banks.specs.declared.Told.{Told}
 use Rattle.banks.specs.Banks.{told_of}
-use Rattle.asking.specs.Asked.{clean_said, question_said, no_records}
+use Rattle.asking.specs.Asked.{clean_said, question_said}
 
 -- ---- 1 to 4 and 8, by the judge's answer
 
-abbrev clean_by : Answer Report → Answer (Unit {0})
+abbrev pub clean_by : Answer Report → Answer (Unit {0})
 clean_by (refused number place) = refused number place
 clean_by (answered r) = unless 8 (not_clean r.verdict) (answered tt)
 
 module _ (capture : List ℕ) where
-  by-judge : clean_by (judge_answer capture) ≡ clean_said capture
+  pub by-judge : clean_by (judge_answer capture) ≡ clean_said capture
   unfolding judge_answer_to clean_said
   by-judge = ap clean_by (followed most_events capture _) ∙ (go (accepted capture (answered tt)) _ ∙ sym (followed most_events capture _))
     where
       go : (a : Answer (Unit {0})) (r : Report) → clean_by (follow a (answered r)) ≡ follow a (unless 8 (not_clean r.verdict) (answered tt))
       go (refused number place) r = refl
       go (answered u) r = refl
-
-  pub judged-so : {v w : declared.Verdict} → means v ≡ judge_answer capture → v ≡ w → clean_by (means w) ≡ clean_said capture
-  judged-so said is = ap clean_by (sym (ap means is) ∙ said) ∙ by-judge
 
   -- ---- none of them: accepted and clean
 
@@ -64,11 +59,9 @@ module _ (n bank event records : ℕ) where
   unfolding question_said
   bad e = ap (λ (y : Bool). unless 13 (given 0 (not y)) (unless 7 (given 4 (ltb records 4)) (answered tt))) e
 
-  pub bad-bank : 3 < bank → refused 13 0 ≡ question_said n bank event records
-  bad-bank l = sym (bad {y = false} (rw (lt-leb bank 3 l)))
-
-  pub bad-event : bank ≤ 3 → n ≤ event → refused 13 0 ≡ question_said n bank event records
-  bad-event l m = sym (bad {y = false} (rw (le-leb bank 3 l, le-ltb event n m)))
+  pub bad-question : (3 < bank) ⊎ (n ≤ event) → refused 13 0 ≡ question_said n bank event records
+  bad-question (inl l) = sym (bad {y = false} (rw (lt-leb bank 3 l)))
+  bad-question (inr m) = sym (bad {y = false} (rw (le-ltb event n m, and-false (leb bank 3))))
 
   module _ (l : bank ≤ 3) (m : event < n) where
     good : question_said n bank event records ≡ unless 7 (given 4 (ltb records 4)) (answered tt)
@@ -140,7 +133,7 @@ module _ (capture : List ℕ) (bank event records words : ℕ) where
 
 -- ---- a refusal as it is told
 
-pub refused-told : {number place : ℕ} {a : Answer (Option ℕ)} {r : Told} (records : List Record) (new index : List ℕ) → a ≡ refused number place →
-    r ≡ no_records number place → (r ≡ told_of a records) × (index ≡ over a new index)
-refused-told records new index e f =
-    (f ∙ ap (λ (b : Answer (Option ℕ)). told_of b records) (sym e), ap (λ (b : Answer (Option ℕ)). over b new index) (sym e))
+pub refused-told : {number place : ℕ} {a : Answer (Option ℕ)} (records : List Record) (new index : List ℕ) → a ≡ refused number place →
+    (refused number place ≡ told_of a records) × (index ≡ over a new index)
+refused-told records new index e =
+    (ap (λ (b : Answer (Option ℕ)). told_of b records) (sym e), ap (λ (b : Answer (Option ℕ)). over b new index) (sym e))

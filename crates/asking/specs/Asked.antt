@@ -1,10 +1,7 @@
--- The refusals of a question, in two parts; and what is told where it is refused.
-use Rattle.std.specs.Prelude.{ℕ, not, ◌&&◌, List, replicate, leb, ltb}
+-- The refusals of a question, in two parts.
+use Rattle.std.specs.Prelude.{ℕ, not, ◌&&◌, List, leb, ltb}
 use Rattle.reading.specs.Search.{given}
 use Rattle.reading.specs.Answers.{Answer, answered, unless, accepted, verdict_in, not_clean}
-use Rattle.banks.specs.declared.Asked.TheVariants.{Refused}
-use Rattle.banks.specs.declared.Told.{Told}
-use Rattle.banks.specs.Banks.{no_opening}
 
 -- 1 to 4, then 8
 unfoldable pub clean_said : List ℕ → Answer (Unit {0})
@@ -14,6 +11,3 @@ clean_said capture = accepted capture (unless 8 (not_clean (verdict_in capture))
 unfoldable pub question_said : ℕ → ℕ → ℕ → ℕ → Answer (Unit {0})
 question_said n bank event records =
     unless 13 (given 0 (not (leb bank 3 && ltb event n))) (unless 7 (given 4 (ltb records 4)) (answered tt))
-
-abbrev pub no_records : ℕ → ℕ → Told
-no_records number place = record { answer = Refused number place; banks = replicate 4 no_opening }

@@ -1,2 +1,3 @@
--- Filling the records one after the other.
+-- Filling the records one after the other; and that there is one answer.
 pub mod Filling
+pub mod Unique

@@ -1,20 +1,21 @@
 -- A turn of the look ahead: as long as nothing cut the burst, the events from j on decide what it keeps.
-use Prim.Native.Nat.{ℕ, suc, ◌+◌, ◌-◌, ◌≤◌, ◌<◌}
+use Prim.Native.Nat.{ℕ, suc, ◌+◌, ◌-◌, ◌≤◌, ◌<◌, min}
 use mathlib.Core.Bool.{Bool, true, false, cond, not, ◌&&◌, ◌||◌}
 use mathlib.Core.List.{List, [], ◌∷◌}
 use mathlib.Core.Path.{◌≡◌, refl, sym, ap, ◌∙◌}
 use native.Mathlib.Omega.{arith}
-use borrow.Author.Tests.{lt-ltb, le-ltb, lt-leb}
-use lib.Dec.{ltb, eqb}
+use native.Mathlib.Nat.{min-eq_left, min-le_right, le-min}
+use borrow.Author.Tests.{leb-true, leb-false, lt-ltb, le-ltb, lt-leb}
+use lib.Dec.{leb, ltb, eqb}
 use Rattle.reading.specs.Search.{lesser}
 use Rattle.reading.specs.Mode.{h}
 use Rattle.reading.specs.Settings.{Settings, newer}
 use Rattle.reading.specs.Capture.{Event, event_at}
 use Rattle.reading.proofs.Laws.{lesser-first}
 use Rattle.pins.specs.Pins.{code_of, bank_of, ten_of, gives}
-use Rattle.beats.specs.Kept.{Fit, events_from, cuts_burst, kept_by, kept_ahead, cut_ahead, left_by_burst, next_leaves, row_leaves, interrupted_ahead, interruptible, kept_whole, kept_of}
+use Rattle.beats.specs.Kept.{events_from, cuts_burst, kept_by, kept_ahead, cut_ahead, left_by_burst, next_leaves, row_leaves, interrupted_ahead, interruptible, kept_whole, kept_of}
 use Rattle.beats.proofs.Columns.{half_le}
-use Rattle.beats.proofs.Events.{next-event, no-event, rise-behind}
+use Rattle.beats.proofs.Events.{Fit, next-event, no-event, rise-behind}
 use Rattle.beats.proofs.Cut.{cut-once}
 
 module _ (bytes : List ℕ) (n i mode : ℕ) where
@@ -67,6 +68,14 @@ module _ (bytes : List ℕ) (n i mode : ℕ) where
   unfolding kept_ahead
   ends {j} z eh l = eh ∙ sym (z.same ∙ rw (no-event bytes n j l))
 
+-- the lesser of two, as the library says it
+pub lesser_is : (a b : ℕ) → min a b ≡ lesser a b
+lesser_is a b = go (leb a b) refl
+  where
+    go : (v : Bool) → leb a b ≡ v → min a b ≡ cond v a b
+    go true e = min-eq_left (leb-true a b e)
+    go false e = let k : b ≤ min a b = le-min (omega (arith, leb-false a b e)) (omega arith) in omega (arith, k, min-le_right a b)
+
 -- no more are kept than there were
 by_le : (b k pairs : ℕ) (e : Event) → kept_by b k pairs e ≤ pairs
 by_le b k pairs e = go (cuts_burst b e.pins)
@@ -103,6 +112,12 @@ module _ (s : Settings) (mode : ℕ) (e : Event) (es : List Event) (some : 1 ≤
 
   pub one_left : {half next : ℕ} → half ≡ h mode → next ≡ next_leaves s e.cycle half es → next ≡ 1 → next ≡ interrupted_ahead s mode e es
   one_left f g o = let left = g ∙ ap (λ (m : ℕ). next_leaves s e.cycle m es) f in omega (arith, some, next-most, left)
+
+-- what both searches leave
+pub both_leave : (s : Settings) (mode : ℕ) (e : Event) (es : List Event) {half next row : ℕ} → half ≡ h mode → next ≡ next_leaves s e.cycle half es →
+    row ≡ row_leaves s (bank_of e.pins) e.cycle half es → min next row ≡ interrupted_ahead s mode e es
+both_leave s mode e es {half} {next} {row} f g i =
+    lesser_is next row ∙ (λ u. lesser (g u) (i u)) ∙ ap (λ (m : ℕ). lesser (next_leaves s e.cycle m es) (row_leaves s (bank_of e.pins) e.cycle m es)) f
 
 pub kept_half : (s : Settings) (mode : ℕ) (e : Event) (es : List Event) → kept_of s mode e es ≤ h mode
 unfolding kept_of kept_whole

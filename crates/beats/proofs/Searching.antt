@@ -12,8 +12,8 @@ use Rattle.reading.specs.Settings.{Settings}
 use Rattle.reading.specs.Capture.{Event, event_at}
 use Rattle.capture.proofs.Rising.{Rises}
 use Rattle.pins.specs.Pins.{code_of, bank_of, gives}
-use Rattle.beats.specs.Kept.{Fit, events_from, shuts_bank, takes_bank, next_leaves, row_leaves}
-use Rattle.beats.proofs.Events.{next-event, no-event, rise-behind}
+use Rattle.beats.specs.Kept.{events_from, shuts_bank, takes_bank, next_leaves, row_leaves}
+use Rattle.beats.proofs.Events.{Fit, next-event, no-event, rise-behind}
 
 -- what is left where no cycle has gone by
 pub none_before : (pairs t from : ℕ) → t ≤ from → 0 ≡ lesser pairs (t - from)

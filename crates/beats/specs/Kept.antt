@@ -1,20 +1,22 @@
 -- The pairs that a burst keeps, found by looking ahead at the events behind it.
-use Rattle.std.specs.Prelude.{ℕ, ◌+◌, ◌-◌, ◌*◌, ◌≤◌, ◌<◌, Bool, true, cond, not, ◌&&◌, ◌||◌, List, [], ◌∷◌, map, ◌≡◌, length, ltb, eqb}
+use Rattle.std.specs.Prelude.{ℕ, ◌+◌, ◌-◌, Bool, cond, not, ◌&&◌, ◌||◌, List, [], ◌∷◌, map, ltb, eqb}
 use Rattle.reading.specs.Search.{count, lesser}
 use Rattle.reading.specs.Mode.{h}
 use Rattle.reading.specs.Settings.{Settings, newer}
-use Rattle.reading.specs.Capture.{Event, event_at, cycle_fits}
+use Rattle.reading.specs.Capture.{Event, event_at}
+use Rattle.capture.specs.declared.held.Events.{Events}
 use Rattle.pins.specs.Pins.{code_of, bank_of, ten_of, gives}
-
--- n events that fit
-pub record Fit (bytes : List ℕ) (n : ℕ) : Type 0 where
-  pub few : n ≤ 8000
-  pub long : 8 * n ≤ length bytes
-  pub events : (i : ℕ) → i < n → cycle_fits bytes i ≡ true
 
 -- of n events those from event i on
 abbrev pub events_from : List ℕ → ℕ → ℕ → List Event
 events_from bytes n i = map (event_at bytes) (count i (n - i))
+
+-- of the events of an accepted capture event i, and those behind it
+abbrev pub at : Events → ℕ → Event
+at x i = event_at x.bytes.now i
+
+abbrev pub behind : Events → ℕ → List Event
+behind x i = events_from x.bytes.now x.count (i + 1)
 
 -- with A10 high PRECHARGE names all banks
 abbrev pub names_bank : ℕ → ℕ → Bool

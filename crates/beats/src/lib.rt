@@ -5,13 +5,13 @@ ghost use Rattle.std.specs.Prelude.{◌≡◌, true, false, cond, ◌+◌, ◌-�
 ghost use Rattle.std.proofs.lemmas.List.Edits.{sets};
 ghost use Rattle.reading.specs.Search.{lesser};
 ghost use Rattle.reading.specs.Settings.{settings_of};
-ghost use Rattle.reading.specs.Capture.{event_at};
 ghost use Rattle.reading.specs.Bursts.{column_of, beat_column};
 ghost use Rattle.pins.specs.Pins.{code_of, bank_of, address_of, mode_after};
-ghost use Rattle.beats.specs.Kept.{Fit, names_bank, shuts_bank, cuts_burst, events_from, cut_ahead, next_leaves, takes_bank, row_leaves, interrupted_ahead, kept_whole};
+ghost use Rattle.beats.specs.Kept.{at, behind, names_bank, shuts_bank, cuts_burst, cut_ahead, next_leaves, takes_bank, row_leaves, interrupted_ahead, kept_whole};
 ghost use Rattle.beats.specs.Kept as is;
 ghost use Rattle.beats.specs.Rows.{Sized, InRow, InBlock, first_in_row, first_cells, cells_opened, block_cells, beat_cells};
 
+use capture::held::Events;
 use deadlines::sums::{after2, data_after, past};
 use settings::places::{COLUMN_BITS, EDITION, ROW_BITS, T_WR, T_WTR};
 use settings::{Settings, mode};
@@ -22,20 +22,14 @@ use settings::{Settings, mode};
 fn names_bank(bank: usize, w: u32) -> bool
     ensures { result ≡ names_bank bank w }
 {
-    if pins::ten(w) {
-        return true;
-    }
-    bank == pins::bank(w)
+    pins::ten(w) || bank == pins::bank(w)
 }
 
 // A PRECHARGE of the bank, or of all.
 pub fn shuts_bank(bank: usize, w: u32) -> bool
     ensures { result ≡ shuts_bank bank w }
 {
-    if pins::code(w) != pins::PRECHARGE {
-        return false;
-    }
-    names_bank(bank, w)
+    pins::code(w) == pins::PRECHARGE && names_bank(bank, w)
 }
 
 fn cuts_burst(burst: u32, w: u32) -> bool
@@ -45,36 +39,16 @@ fn cuts_burst(burst: u32, w: u32) -> bool
     if pins::code(burst) == pins::WRITE {
         return asked == pins::WRITE;
     }
-    if asked == pins::READ {
-        return true;
-    }
-    if asked == pins::TERMINATE {
-        return true;
-    }
-    if asked != pins::PRECHARGE {
-        return false;
-    }
-    names_bank(pins::bank(burst), w)
+    asked == pins::READ || asked == pins::TERMINATE || shuts_bank(pins::bank(burst), w)
 }
 
 // After these a PRECHARGE of the bank does nothing to a write that was given there before.
 fn takes_bank(bank: usize, w: u32) -> bool
     ensures { result ≡ takes_bank bank w }
 {
-    if bank != pins::bank(w) {
-        return false;
-    }
     let asked = pins::code(w);
-    if asked == pins::ACTIVE {
-        return true;
-    }
-    if asked == pins::WRITE {
-        return true;
-    }
-    if asked != pins::READ {
-        return false;
-    }
-    pins::ten(w)
+    bank == pins::bank(w)
+        && (asked == pins::ACTIVE || asked == pins::WRITE || asked == pins::READ && pins::ten(w))
 }
 
 // MODE REGISTER SET with 00 replaces the mode word at once.
@@ -121,11 +95,12 @@ pub fn first_cells(s: &Settings) -> [u32; 4]
     requires { Sized (settings_of s.now) }
     ensures { result ≡ first_cells (settings_of s.now) 0 0 0 0 }
 {
-    let zeroth = first_cell(s, 0, 0);
-    let first = first_cell(s, 1, 0);
-    let second = first_cell(s, 2, 0);
-    let third = first_cell(s, 3, 0);
-    [zeroth, first, second, third]
+    [
+        first_cell(s, 0, 0),
+        first_cell(s, 1, 0),
+        first_cell(s, 2, 0),
+        first_cell(s, 3, 0),
+    ]
 }
 
 // ACTIVE opens its bank on its row.
@@ -170,22 +145,44 @@ fn write_interleaved(out: &mut [u32], at: usize, block: u32, size: u32, column: 
     }
 }
 
-// Writes the cells of the first 2 x `pairs` beats from out[at] on, in the row whose first cell is `first`.
-pub fn write_burst(out: &mut [u32], at: usize, first: u32, mode: u32, column: u32, pairs: u32)
-    requires in_row { InRow first column pairs }
-    requires pairs_in_bounds { at + 2 * pairs ≤ length out.old }
-    ensures { out.new ≡ sets out.old at (beat_cells first mode column (2 * pairs)) }
-{
-    let length = mode::burst_length(mode);
-    let block = first + column / length * length;
-    if mode::interleaved(mode) {
-        write_interleaved(out, at, block, length, column, pairs);
-        return;
-    }
-    write_sequential(out, at, block, length, column, pairs);
+// A burst: the first cell of its row, the mode word of its event, its column, and the pairs that it keeps in the end.
+#[derive(Clone, Copy)]
+pub struct Burst {
+    pub writes: bool,
+    pub first: u32,
+    pub mode: u32,
+    pub column: u32,
+    pub pairs: u32,
+    ghost in_row: { InRow first column pairs },
 }
 
-// The cell of one beat, in the row whose first cell is `first`.
+impl Burst {
+    // Writes the cells of its beats from out[at] on.
+    pub fn write(&self, out: &mut [u32], at: usize)
+        requires { at + 2 * self.now.pairs ≤ length out.old }
+        ensures { out.new ≡ sets out.old at (beat_cells self.now.first self.now.mode self.now.column (2 * self.now.pairs)) }
+    {
+        let length = mode::burst_length(self.mode);
+        let block = self.first + self.column / length * length;
+        if mode::interleaved(self.mode) {
+            write_interleaved(out, at, block, length, self.column, self.pairs);
+            return;
+        }
+        write_sequential(out, at, block, length, self.column, self.pairs);
+    }
+
+    // The cell of one beat.
+    #[inline(always)]
+    pub fn cell(&self, beat: u32) -> u32
+        requires { beat < 128 }
+        ensures { result ≡ self.now.first + beat_column self.now.mode self.now.column beat }
+    {
+        beat_cell(self.first, self.mode, self.column, beat)
+    }
+}
+
+// The cell of one beat, in the row whose first cell is `first`. In place, what is the same for every beat is reckoned once.
+#[inline(always)]
 pub fn beat_cell(first: u32, mode: u32, column: u32, beat: u32) -> u32
     requires { (first < 2 ^ 27) × ((column < 2048) × (beat < 128)) }
     ensures { result ≡ first + beat_column mode column beat }
@@ -201,28 +198,24 @@ pub fn beat_cell(first: u32, mode: u32, column: u32, beat: u32) -> u32
 // ---- kept pairs
 
 // The pairs of the burst at event i, by the events that can cut it: those before k + h. Cycles rise, so the first event
-// that cuts it leaves it the fewest pairs.
-fn look_ahead(bytes: &[u8], n: u32, i: u32, mode: u32) -> u32
-    requires { Fit bytes.now n × (i < n) }
-    ensures { result ≡ cut_ahead mode (event_at bytes.now i) (events_from bytes.now n (i + 1)) }
+// that cuts it leaves it the fewest pairs. The walks ahead begin behind event i, so they count the index.
+fn look_ahead(events: &Events<'_>, i: u32, mode: u32) -> u32
+    requires { i < events.now.count }
+    ensures { result ≡ cut_ahead mode (at events.now i) (behind events.now i) }
 {
-    let at = i as usize;
-    let burst = capture::pins_at(bytes, at);
-    let k = capture::cycle_at(bytes, at);
+    let burst = events.pins(i);
+    let k = events.cycle(i);
     let half = mode::half(mode);
     let end = k + half;
-    let mut j = i + 1;
-    'later: while j < n {
-        let behind = j as usize;
-        let t = capture::cycle_at(bytes, behind);
+    let n = events.count;
+    'later: for j in i + 1..n {
+        let t = events.cycle(j);
         if end <= t {
             return half;
         }
-        let w = capture::pins_at(bytes, behind);
-        if cuts_burst(burst, w) {
+        if cuts_burst(burst, events.pins(j)) {
             return t - k;
         }
-        j += 1;
     }
     half
 }
@@ -231,37 +224,27 @@ fn look_ahead(bytes: &[u8], n: u32, i: u32, mode: u32) -> u32
 fn before(pairs: u32, t: u32, from: u64) -> u32
     ensures { result ≡ lesser pairs (t - from) }
 {
-    if (t as u64) <= from {
-        return 0;
-    }
-    let gone = (t as u64) - from;
-    if (pairs as u64) <= gone {
-        return pairs;
-    }
-    gone as u32
+    (pairs as u64).min((t as u64).saturating_sub(from)) as u32
 }
 
 // Of a write at event i that can be interrupted, the pairs that the first READ or WRITE behind it leaves. Far enough behind it
 // none takes any.
-fn next_leaves(s: &Settings, bytes: &[u8], n: u32, i: u32, pairs: u32) -> u32
-    requires { Fit bytes.now n × (i < n) }
-    ensures { result ≡ next_leaves (settings_of s.now) (event_at bytes.now i).cycle pairs (events_from bytes.now n (i + 1)) }
+fn next_leaves(s: &Settings, events: &Events<'_>, i: u32, pairs: u32) -> u32
+    requires { i < events.now.count }
+    ensures { result ≡ next_leaves (settings_of s.now) (at events.now i).cycle pairs (behind events.now i) }
 {
-    let k = capture::cycle_at(bytes, i as usize);
+    let k = events.cycle(i);
     let reach = data_after(k, pairs, s[T_WTR]);
-    let mut j = i + 1;
-    'later: while j < n {
-        let behind = j as usize;
-        let t = capture::cycle_at(bytes, behind);
+    let n = events.count;
+    'later: for j in i + 1..n {
+        let t = events.cycle(j);
         if past(reach, t) {
             return pairs;
         }
-        let w = capture::pins_at(bytes, behind);
-        if !pins::gives_burst(w) {
-            j += 1;
-            continue 'later;
+        let w = events.pins(j);
+        if pins::gives_burst(w) {
+            return left_by(s, k, pairs, t, w);
         }
-        return left_by(s, k, pairs, t, w);
     }
     pairs
 }
@@ -276,80 +259,62 @@ fn left_by(s: &Settings, k: u32, pairs: u32, t: u32, w: u32) -> u32
 }
 
 // The same of the first event that ends its row, or takes it.
-fn row_leaves(s: &Settings, bytes: &[u8], n: u32, i: u32, pairs: u32) -> u32
-    requires { Fit bytes.now n × (i < n) }
-    ensures { result ≡ row_leaves (settings_of s.now) (bank_of (event_at bytes.now i).pins) (event_at bytes.now i).cycle pairs
-        (events_from bytes.now n (i + 1)) }
+fn row_leaves(s: &Settings, events: &Events<'_>, i: u32, pairs: u32) -> u32
+    requires { i < events.now.count }
+    ensures { result ≡ row_leaves (settings_of s.now) (bank_of (at events.now i).pins) (at events.now i).cycle pairs
+        (behind events.now i) }
 {
-    let k = capture::cycle_at(bytes, i as usize);
-    let bank = pins::bank(capture::pins_at(bytes, i as usize));
+    let k = events.cycle(i);
+    let bank = pins::bank(events.pins(i));
     let reach = data_after(k, pairs, s[T_WR]);
-    let mut j = i + 1;
-    'later: while j < n {
-        let behind = j as usize;
-        let t = capture::cycle_at(bytes, behind);
+    let n = events.count;
+    'later: for j in i + 1..n {
+        let t = events.cycle(j);
         if past(reach, t) {
             return pairs;
         }
-        let w = capture::pins_at(bytes, behind);
+        let w = events.pins(j);
         if shuts_bank(bank, w) {
             return before(pairs, t, after2(k, 1, s[T_WR]));
         }
         if takes_bank(bank, w) {
             return pairs;
         }
-        j += 1;
     }
     pairs
-}
-
-fn fewer(a: u32, b: u32) -> u32
-    ensures { result ≡ lesser a b }
-{
-    if a <= b {
-        return a;
-    }
-    b
 }
 
 // In the newer edition READ and PRECHARGE interrupt a write without auto precharge.
 pub fn interruptible(s: &Settings, w: u32) -> bool
     ensures { result ≡ is.interruptible (settings_of s.now) w }
 {
-    if s[EDITION] != 1 {
-        return false;
-    }
-    if pins::code(w) != pins::WRITE {
-        return false;
-    }
-    !pins::ten(w)
+    s[EDITION] == 1 && pins::code(w) == pins::WRITE && !pins::ten(w)
 }
 
 // The pairs that such a write of event i keeps in the end. In a clean capture it keeps one at least, so the search ends where
 // one is left.
-pub fn interrupted(s: &Settings, bytes: &[u8], n: u32, i: u32, mode: u32) -> u32
-    requires fit { Fit bytes.now n × (i < n) }
-    requires bound { 1 ≤ interrupted_ahead (settings_of s.now) mode (event_at bytes.now i) (events_from bytes.now n (i + 1)) }
-    ensures { result ≡ interrupted_ahead (settings_of s.now) mode (event_at bytes.now i) (events_from bytes.now n (i + 1)) }
+pub fn interrupted(s: &Settings, events: &Events<'_>, i: u32, mode: u32) -> u32
+    requires within { i < events.now.count }
+    requires bound { 1 ≤ interrupted_ahead (settings_of s.now) mode (at events.now i) (behind events.now i) }
+    ensures { result ≡ interrupted_ahead (settings_of s.now) mode (at events.now i) (behind events.now i) }
 {
     let half = mode::half(mode);
     if half == 1 {
         return half;
     }
-    let next = next_leaves(s, bytes, n, i, half);
+    let next = next_leaves(s, events, i, half);
     if next == 1 {
         return next;
     }
-    let row = row_leaves(s, bytes, n, i, half);
-    fewer(next, row)
+    next.min(row_leaves(s, events, i, half))
 }
 
 // The pairs that the burst of event i keeps in the end, where it is none of these; none if the event gives no burst.
-pub fn kept(bytes: &[u8], n: u32, i: u32, mode: u32) -> u32
-    requires { Fit bytes.now n × (i < n) }
-    ensures { result ≡ kept_whole mode (event_at bytes.now i) (events_from bytes.now n (i + 1)) }
+pub fn kept(events: &Events<'_>, i: u32, mode: u32) -> u32
+    requires { i < events.now.count }
+    ensures { result ≡ kept_whole mode (at events.now i) (behind events.now i) }
 {
-    let w = capture::pins_at(bytes, i as usize);
+    let w = events.pins(i);
     if !pins::gives_burst(w) {
         return 0;
     }
@@ -358,5 +323,5 @@ pub fn kept(bytes: &[u8], n: u32, i: u32, mode: u32) -> u32
     if pins::ten(w) {
         return half;
     }
-    look_ahead(bytes, n, i, mode)
+    look_ahead(events, i, mode)
 }

@@ -1,32 +1,40 @@
 // The browser's reader: it holds a capture and a position, and sees the event that stands there.
 #![tactic(auto)]
 
-ghost use Rattle.std.specs.Prelude.{◌≡◌, ◌+◌, ◌≤◌, ◌<◌, ◌^◌, length};
+ghost use Rattle.std.specs.Prelude.{◌≡◌, ◌+◌, ◌*◌, ◌≤◌, ◌<◌, ◌^◌, length};
 ghost use Rattle.reading.specs.Capture.{capture_size, count_in, event_count};
-ghost use Rattle.browser.specs.Browsed.{seen_at};
+ghost use Rattle.std.specs.Iterator.{YieldsFirst, item_count};
+ghost use Rattle.browser.specs.Browsed.{seen_among, seen_at, events_left};
 
-// What stands at a position: an event, or nothing behind the last.
-#[derive(Clone, Copy)]
-pub enum Seen {
-    Event { cycle: u32, pins: u32 },
-    End,
+// An event as it is seen.
+#[derive(Clone, Copy, Debug, PartialEq, Eq)]
+pub struct Event {
+    pub cycle: u32,
+    pub pins: u32,
 }
 
-// The decoder: event `at` of a capture that is as long as its header says.
-pub fn event_at(capture: &[u8], at: usize) -> Seen
-    requires { capture_size (count_in capture.now) (event_count capture.now) ≤ length capture.now }
-    ensures { result ≡ seen_at capture.now at }
+// The events that a capture states, whatever they are: the bytes from where the first starts, of which event i stands at 8 i, and
+// how many there are. Those of an accepted capture are `capture::held::Events`.
+#[derive(Clone, Copy)]
+pub struct Stated<'a> {
+    pub bytes: &'a [u8],
+    pub count: u32,
+    ghost held: { 8 * count ≤ length bytes.now },
+}
+
+// The decoder: event `at`, or nothing behind the last.
+pub fn event_at(events: &Stated, at: usize) -> Option<Event>
+    ensures { result ≡ seen_among events.now.bytes.now events.now.count at }
 {
-    if at < capture::event_count(capture) as usize {
-        let bytes = capture::event_bytes(capture);
-        let cycle = capture::cycle_at(bytes, at);
-        let pins = capture::pins_at(bytes, at);
-        return Seen::Event { cycle, pins };
+    if at < events.count as usize {
+        let cycle = capture::cycle_at(events.bytes, at);
+        let pins = capture::pins_at(events.bytes, at);
+        return Some(Event { cycle, pins });
     }
-    Seen::End
+    None
 }
 
-#[derive(Clone, Copy)]
+#[derive(Clone, Copy, Drop)]
 pub struct Reader<'a> {
     pub capture: &'a [u8],
     pub at: usize,
@@ -39,12 +47,15 @@ pub fn start<'a>(capture: &'a [u8]) -> Reader<'a>
     Reader { capture, at: 0 }
 }
 
-// The event where the reader stands.
-pub fn next<'a>(r: Reader<'a>) -> Seen
+// The event where the reader stands, in a capture that is as long as its header says. That is asked here and not by the type,
+// since a reader starts on any bytes.
+pub fn next<'a>(r: Reader<'a>) -> Option<Event>
     requires { capture_size (count_in r.capture.now) (event_count r.capture.now) ≤ length r.capture.now }
     ensures { result ≡ seen_at r.entry.capture.now r.entry.at }
 {
-    event_at(r.capture, r.at)
+    let bytes = capture::event_bytes(r.capture);
+    let count = capture::event_count(r.capture);
+    event_at(&Stated { bytes, count }, r.at)
 }
 
 // The reader behind that event.
@@ -58,10 +69,19 @@ pub fn onward<'a>(r: Reader<'a>) -> Reader<'a>
     }
 }
 
-// The event at a position, by a reader made for it. Its parameters are plain, so its callers are covered.
-pub fn look(capture: &[u8], at: usize) -> Seen
-    requires { capture_size (count_in capture.now) (event_count capture.now) ≤ length capture.now }
-    ensures { result ≡ seen_at capture.now at }
-{
-    next(Reader { capture, at })
+// The events from there on, one after the other.
+impl<'a> Iterator for Reader<'a> {
+    type Item = Event;
+
+    ghost can_next = { λ r. capture_size (count_in r.capture.now) (event_count r.capture.now) ≤ length r.capture.now };
+
+    ghost next_gives = { YieldsFirst events_left };
+
+    ghost remaining = { item_count events_left };
+
+    fn next(&mut self) -> Option<Event> {
+        let event = next(*self)?;
+        *self = onward(*self);
+        Some(event)
+    }
 }

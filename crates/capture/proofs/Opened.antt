@@ -9,21 +9,24 @@ use Rattle.reading.specs.Search.{count}
 use Rattle.reading.specs.Mode.{mode_word}
 use Rattle.reading.specs.Settings.{Settings, settings_of, setting_fits}
 use Rattle.reading.specs.Capture.{count_in, events_start, event_count, edition_in, setting_words, event_bytes, event_at, events_of, cycle_fits}
-use Rattle.reading.specs.Answers.{Answer, refused, accepted_to, settings_in}
-use Rattle.settings.specs.declared.Checked.{Checked}
-use Rattle.settings.specs.declared.Checked.TheVariants.{Fine, Refused}
-use Rattle.settings.specs.Meaning.{means, held}
+use Rattle.reading.specs.Answers.{Answer, refused, answered, accepted_to, settings_in}
+use Rattle.std.specs.Prelude.{Result, Ok, Err}
+use Rattle.refusal.specs.declared.Refusal.{Refusal}
+use Rattle.refusal.specs.Refusal.{number_of, place_of, passed}
+use Rattle.settings.specs.Meaning.{held}
 use Rattle.settings.proofs.Fitting.{at_least, at_most, mode-valid}
 use Rattle.capture.specs.Calls.{opened_to, AcceptedTo}
+use Rattle.capture.specs.Holding.{Holds}
+use Rattle.capture.specs.declared.held.Opened as handed
 use Rattle.capture.proofs.Accepted.{Sound, count-range, held_in, accepted-sound, refused-to}
 
 -- by what `open` says
-module _ (most : ℕ) (c : List ℕ) {o : Checked} (said : means o ≡ opened_to most c) where
-  pub refused-so : {A : Type 0} (rest : Answer A) {number place : ℕ} → o ≡ Refused number place → accepted_to most c rest ≡ refused number place
-  refused-so rest e = refused-to most c rest (sym said ∙ ap means e)
+module _ {T : Type 0} (most : ℕ) (c : List ℕ) {o : Result T Refusal} (said : passed o ≡ opened_to most c) where
+  pub refused-so : {A : Type 0} (rest : Answer A) {r : Refusal} → o ≡ Err r → accepted_to most c rest ≡ refused (number_of r) (place_of r)
+  refused-so rest e = refused-to most c rest (sym said ∙ ap passed e)
 
-  pub accepted-so : o ≡ Fine → AcceptedTo most c
-  accepted-so e = sym said ∙ ap means e
+  pub accepted-so : {x : T} → o ≡ Ok x → AcceptedTo most c
+  accepted-so e = sym said ∙ ap passed e
 
 -- its settings can be read, and its events
 pub long : (most : ℕ) (c : List ℕ) → AcceptedTo most c → events_start (count_in c) ≤ length c
@@ -74,3 +77,8 @@ opens {most} {c} open-to {settings} {n} {bytes} e f g =
 
     fits : (i : ℕ) → i < 14 → setting_fits i (word i) ≡ true
     fits i l = sound.settings i (omega (arith, (count-range c).0))
+
+-- what `open_to` hands out
+pub opens-held : {most : ℕ} {c : List ℕ} → answered tt ≡ opened_to most c → (o : handed.Opened) → Holds c o →
+    Opened most c o.settings o.events.count o.events.bytes.now
+opens-held said o h = opens (sym said) h.settings-are h.count-is h.bytes-are

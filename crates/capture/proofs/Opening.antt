@@ -12,8 +12,8 @@ use Rattle.reading.specs.Settings.{bad_setting}
 use Rattle.reading.specs.Capture.{header_word, count_in, events_start, capture_size, pin_limit, event_count, setting_words, event_bytes, length_fits_to, header_fits_to, bad_event}
 use Rattle.reading.specs.Answers.{refused, answered, unless, accepted_to}
 use Rattle.words.specs.Found.{place_of}
-use Rattle.words.specs.declared.Found.{Found}
-use Rattle.words.specs.declared.Found.TheVariants.{Nothing, At}
+use Rattle.std.specs.Prelude.{Some, None}
+use Rattle.std.specs.Prelude as std
 use Rattle.capture.specs.Calls.{opened_to}
 use Rattle.capture.proofs.Accepted.{Sized, count-range, words_count}
 use Rattle.settings.specs.Meaning.{bad_among, padded}
@@ -63,12 +63,12 @@ module _ (capture : List ℕ) where
     unfolding accepted_to
     wrong-header h = rw (right-length, h)
 
-    module _ (right-header : header_fits_to most capture ≡ true) (setting : Found) (is-setting : place_of setting ≡ bad_setting (setting_words capture)) where
-      pub wrong-setting : {i : ℕ} → setting ≡ At i → refused 3 i ≡ opened_to most capture
+    module _ (right-header : header_fits_to most capture ≡ true) (setting : std.Option ℕ) (is-setting : place_of setting ≡ bad_setting (setting_words capture)) where
+      pub wrong-setting : {i : ℕ} → setting ≡ Some i → refused 3 i ≡ opened_to most capture
       unfolding accepted_to
       wrong-setting e = rw (right-length, right-header, sym is-setting, e)
 
-      pub right-settings : setting ≡ Nothing → (event : Found) {n : ℕ} → n ≡ event_count capture →
+      pub right-settings : setting ≡ None → (event : std.Option ℕ) {n : ℕ} → n ≡ event_count capture →
           place_of event ≡ bad_event (pin_limit capture) (event_bytes capture) n →
           unless 4 (place_of event) (answered tt) ≡ opened_to most capture
       unfolding accepted_to

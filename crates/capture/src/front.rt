@@ -32,6 +32,6 @@ pub fn put(settings: &[u32], edition: u32, n: u32, out: &mut [u8])
         sets out.old 0 (bytes_of (header_of edition (length settings.now) n ++ settings.now)) }
 {
     let head = [size(n), STATED, FIRST_SETTING, n, FIRST_EVENT, edition];
-    words::put_words(out, 0, &head, 6);
-    words::put_words(out, SETTINGS, settings, COUNT);
+    words::put_words(out, 0, &head);
+    words::put_words(out, SETTINGS, settings);
 }

@@ -2,19 +2,24 @@
 #![tactic(auto)]
 
 pub mod front;
+pub mod held;
 
-ghost use Rattle.std.specs.Prelude.{◌≡◌, true, not, ◌+◌, ◌*◌, ◌^◌, ◌≤◌, ◌<◌, length, eqb};
+ghost use Rattle.std.specs.Prelude.{◌≡◌, true, not, ◌+◌, ◌*◌, ◌^◌, ◌≤◌, ◌<◌, length, eqb, IfOk};
 ghost use Rattle.std.proofs.Math.Option.{none};
 ghost use Rattle.words.specs.Found.{place_of};
 ghost use Rattle.reading.specs.Settings.{sleeping_count};
 ghost use Rattle.reading.specs.Capture.{header_word, count_in, events_start, pin_limit, event_count, edition_in, setting_words, event_bytes, event_at, length_fits_to, header_fits_to, bad_event};
 ghost use Rattle.reading.specs.Answers.{answered, accepted_to, accepted};
-ghost use Rattle.settings.specs.Meaning.{means, padded, held};
+ghost use Rattle.refusal.specs.Refusal.{passed};
+ghost use Rattle.settings.specs.Meaning.{padded, held};
 ghost use Rattle.capture.specs.Meaning.{fits_from};
+ghost use Rattle.capture.specs.Holding.{Holds};
 
+use held::{Events, Opened};
+use refusal::Refusal;
 use settings::places::EDITION;
-use settings::{COUNT, Checked, HELD, SLEEPING, Settings};
-use words::{Found, both};
+use settings::{COUNT, HELD, SLEEPING, Settings};
+use words::both;
 
 // How many settings a capture states, without sleep and with it.
 const COUNT_STATED: u32 = COUNT as u32;
@@ -232,12 +237,12 @@ fn all_fit(limit: u32, bytes: &[u8], n: usize) -> bool
     both(fine, last <= LAST_CYCLE)
 }
 
-fn lowest_bad_event(limit: u32, bytes: &[u8], n: usize) -> Found
+fn lowest_bad_event(limit: u32, bytes: &[u8], n: usize) -> Option<u32>
     requires { (n < 2 ^ 32) × (8 * n ≤ length bytes.now) }
     ensures { place_of result ≡ bad_event limit bytes.now n }
 {
     if all_fit(limit, bytes, n) {
-        return Found::Nothing;
+        return None;
     }
     let mut next = 0;
     'events: for i in 0..n {
@@ -247,43 +252,44 @@ fn lowest_bad_event(limit: u32, bytes: &[u8], n: usize) -> Found
             next = cycle + 1;
             continue 'events;
         }
-        return Found::At(i as u32);
+        return Some(i as u32);
     }
-    Found::Nothing
+    None
 }
 
-// Refusals 1 to 4, in this order, where there may be so many events.
-pub fn open_to(capture: &[u8], most: u32) -> Checked
-    ensures { means result ≡ accepted_to most capture.now (answered tt) }
+// Refusals 1 to 4, in this order, where there may be so many events; else what the capture holds. In place, so that the answer is
+// not moved from frame to frame: the header states how much stack a call takes.
+#[inline(always)]
+pub fn open_to<'a>(capture: &'a [u8], most: u32) -> Result<Opened<'a>, Refusal>
+    ensures answer { passed result ≡ accepted_to most capture.now (answered tt) }
+    ensures holds { IfOk result (Holds capture.now) }
 {
     if bad_length(capture, most) {
-        return Checked::Refused {
-            number: 1,
-            place: 0,
-        };
+        return Err(Refusal::Length);
     }
     if bad_header(capture, most) {
-        return Checked::Refused {
-            number: 2,
-            place: 0,
-        };
+        return Err(Refusal::Header);
     }
-    let loaded = setting_words(capture);
-    let settings = settings_count(capture) as usize;
-    let setting = settings::lowest_bad(&loaded, settings);
-    if let Found::At(place) = setting {
-        return Checked::Refused { number: 3, place };
+    let mut settings = setting_words(capture);
+    let stated = settings_count(capture) as usize;
+    if let Some(place) = settings::lowest_bad(&settings, stated) {
+        return Err(Refusal::Setting(place));
     }
-    let n = event_count(capture) as usize;
-    let Found::At(place) = lowest_bad_event(pin_limit(capture), event_bytes(capture), n) else {
-        return Checked::Fine;
-    };
-    Checked::Refused { number: 4, place }
+    settings[EDITION] = edition(capture);
+    let count = event_count(capture);
+    let bytes = event_bytes(capture);
+    if let Some(place) = lowest_bad_event(pin_limit(capture), bytes, count as usize) {
+        return Err(Refusal::Event(place));
+    }
+    let events = Events { bytes, count };
+    Ok(Opened { settings, events })
 }
 
 // Those of a capture.
-pub fn open(capture: &[u8]) -> Checked
-    ensures { means result ≡ accepted capture.now (answered tt) }
+#[inline(always)]
+pub fn open<'a>(capture: &'a [u8]) -> Result<Opened<'a>, Refusal>
+    ensures answer { passed result ≡ accepted capture.now (answered tt) }
+    ensures holds { IfOk result (Holds capture.now) }
 {
     open_to(capture, MOST_EVENTS)
 }

@@ -27,9 +27,8 @@ use Rattle.bridge.proofs.Kept.{same-cuts}
 use Rattle.judge.specs.Meaning.{events_in, part_at}
 use Rattle.judge.proofs.Events.{part-next}
 use Rattle.judge.proofs.Sounds.{Sounds, clean-sound}
-use Rattle.beats.specs.Kept as kept
 use Rattle.beats.specs.Kept.{events_from}
-use Rattle.beats.proofs.Events.{next-event, no-event}
+use Rattle.beats.proofs.Events.{Fit, next-event, no-event}
 use Rattle.beats.proofs.Ahead.{Told, Alone}
 use Rattle.cells.specs.Meaning.{Listable, Clean}
 
@@ -70,8 +69,8 @@ module _ (s : Settings) (p : Part) (from : ℕ) (e : Event) (l : from ≤ e.cycl
         given = λ w a. given-stands s p t c a (opened-before c.bank) (write-is e.pins ∙ w) third;
       }
 
-pub fitting : (settings bytes : List ℕ) (n : ℕ) → Listable settings bytes n → kept.Fit bytes n
-fitting settings bytes n z = record { few = z.few; long = z.fit.long; events = z.fit.events }
+pub fitting : (settings bytes : List ℕ) (n : ℕ) → Listable settings bytes n → Fit bytes n
+fitting settings bytes n z = z.fit.events
 
 -- every event of a clean capture
 module _ (settings bytes : List ℕ) (n : ℕ) (z : Listable settings bytes n) (k : Clean (settings_of settings) bytes n) where

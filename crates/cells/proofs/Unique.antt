@@ -1,39 +1,41 @@
 -- The contracts of `burst_cells`, `kept_beats` and `burst_at` allow one answer alone; the buffer stands in the first as it is.
 use Prim.Native.Nat.{ℕ}
-use mathlib.Core.Option.{Option, none, some}
-use mathlib.Core.Path.{◌≡◌, refl, sym, ap, ◌∙◌}
-use Rattle.reading.specs.Answers.{Answer, refused, answered}
+use mathlib.Core.HLevel.{is_prop→PathP}
+use mathlib.Core.List.{List}
+use Rattle.reading.specs.Settings.{Settings}
+use Rattle.cells.specs.declared.held.State.{State}
+use Rattle.cells.specs.Meaning.{At}
+use mathlib.Core.Path.{◌≡◌, refl, sym, ◌∙◌}
+use native.Mathlib.Omega.{arith}
+use Rattle.std.proofs.Props.{props}
 use Rattle.cells.specs.Meaning as meaning
-use Rattle.cells.specs.Meaning.{means, given_means}
-use Rattle.cells.specs.declared.Beats.{Beats}
-use Rattle.cells.specs.declared.Given.{Given}
-use Rattle.cells.specs.declared.Given.TheVariants as goal
-use Rattle.cells.specs.declared.Listed.{Listed}
-use Rattle.cells.specs.declared.Listed.TheVariants.{Refused, Written}
-
-meant : Answer ℕ → Listed
-meant (refused number place) = Refused number place
-meant (answered cells) = Written cells
-
-meant-means : (r : Listed) → meant (means r) ≡ r
-unfolding meant
-meant-means (Refused number place) = refl
-meant-means (Written cells) = refl
-
-pub one_answer : (r q : Listed) → means r ≡ means q → r ≡ q
-one_answer r q h = sym (meant-means r) ∙ ap meant h ∙ meant-means q
+use Rattle.cells.specs.Meaning.{given_means}
+use Rattle.std.specs.Prelude.{Some, None}
+use Rattle.std.specs.Prelude as std
+use Rattle.beats.specs.declared.Burst as held
+use Rattle.beats.specs.Rows.{InRow}
+use Rattle.cells.specs.declared.held.Beats.{Beats}
 
 pub one-count : (r q : Beats) → r.read ≡ q.read → r.written ≡ q.written → r ≡ q
 one-count r q f g = λ i. record { read = f i; written = g i }
 
-given_back : Option meaning.Burst → Given
-given_back none = goal.Other
-given_back (some x) = goal.Burst x.writes x.first x.column x.pairs
+pub one-given : (r q : std.Option held.Burst) → given_means r ≡ given_means q → r ≡ q
+one-given None None h = refl
+one-given None (Some y) h = let z : ◌≡◌ {A = ℕ} 0 1 = cc in absurd (omega arith)
+one-given (Some x) None h = let z : ◌≡◌ {A = ℕ} 0 1 = cc in absurd (omega arith)
+one-given (Some x) (Some y) h =
+    let f : ◌≡◌ {A = meaning.Burst} (record { writes = x.writes; first = x.first; mode = x.mode; column = x.column; pairs = x.pairs })
+    (record { writes = y.writes; first = y.first; mode = y.mode; column = y.column; pairs = y.pairs }) = cc in
+    λ i.
+    Some
+    (record {
+      writes = (f i).writes;
+      first = (f i).first;
+      mode = (f i).mode;
+      column = (f i).column;
+      pairs = (f i).pairs;
+      in_row = is_prop→PathP (λ j. InRow (f j).first (f j).column (f j).pairs) (λ j. hlevel props) x.in_row y.in_row i;
+    })
 
-given_back_lem : (r : Given) → given_back (given_means r) ≡ r
-unfolding given_back
-given_back_lem goal.Other = refl
-given_back_lem (goal.Burst writes first column pairs) = refl
-
-pub one-given : (r q : Given) → given_means r ≡ given_means q → r ≡ q
-one-given r q h = sym (given_back_lem r) ∙ ap given_back h ∙ given_back_lem q
+pub one-state : {s : Settings} {bytes : List ℕ} {i : ℕ} (x y : State) → At s bytes i x.firsts x.mode → At s bytes i y.firsts y.mode → x ≡ y
+one-state x y a b = λ k. record { firsts = (a.rowed ∙ sym b.rowed) k; mode = (a.moded ∙ sym b.moded) k }

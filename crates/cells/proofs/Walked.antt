@@ -155,6 +155,7 @@ module _ (settings bytes : List ℕ) (n : ℕ) where
               record {
                 writes = sym (write-is (e i).pins) u;
                 first = row u;
+                mode = a.moded u;
                 column = column_of s (address_of (e i).pins);
                 pairs = kept_of s (a.moded u) (e i) (later i);
               }

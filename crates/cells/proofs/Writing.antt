@@ -1,6 +1,6 @@
 -- Writing the cells: what stands in the buffer before event i, and the cells of the events from i on.
 use Prim.Native.Nat.{ℕ, ◌+◌, ◌*◌, ◌≤◌, ◌<◌}
-use mathlib.Core.Bool.{true, false}
+use mathlib.Core.Bool.{false}
 use mathlib.Core.List.{List, [], ◌++◌, append_assoc, append-nil}
 use mathlib.Core.Path.{◌≡◌, refl, sym, ap, ◌∙◌}
 use native.Mathlib.Nat.{zero-add}
@@ -9,21 +9,21 @@ use lib.ListN.{length, get_or, length-append}
 use lib.Seq.{sets, length-sets}
 use Rattle.reading.specs.Settings.{Settings, settings_of}
 use Rattle.reading.specs.Capture.{Event, event_at}
-use Rattle.reading.specs.Bursts.{column_of}
 use Rattle.reading.specs.Part.{Part}
 use Rattle.words.proofs.Runs.{sets-append}
-use Rattle.pins.specs.Pins.{bank_of, address_of, gives, mode_after}
+use Rattle.pins.specs.Pins.{bank_of, gives}
 use Rattle.judge.specs.Meaning.{part_at}
 use Rattle.beats.specs.Kept.{events_from, kept_of}
-use Rattle.beats.specs.Rows.{InRow, first_in_row, first_cells, cells_opened, beat_cells}
+use Rattle.beats.specs.declared.Burst.{Burst}
+use Rattle.beats.specs.Rows.{first_in_row, beat_cells}
 use Rattle.beats.proofs.Events.{no-event}
 use Rattle.beats.proofs.Looking.{kept-le, kept-nothing}
 use Rattle.beats.proofs.Storing.{length-cells, no_cells}
 use Rattle.beats.proofs.Ahead.{event_cells, cells_from}
-use Rattle.cells.specs.Meaning.{Listable, Clean, firsts_at, cells_on}
-use Rattle.cells.proofs.Walked as walked
-use Rattle.cells.proofs.Walked.{Walked, walks-on, all-cells, next-cells}
-use Rattle.cells.proofs.Rows.{first-at, none-opened, mode-stays, rows_next, row_at}
+use Rattle.cells.specs.Meaning.{Listable, Clean, firsts_at, At, cells_on}
+use Rattle.cells.proofs.Walked.{Walked, all-cells, next-cells}
+use Rattle.cells.proofs.Rows.{first-at, none-opened, mode-stays, mode-next, rows_next}
+use Rattle.cells.proofs.Stepping.{Is}
 
 module _ (settings bytes : List ℕ) (n : ℕ) (old : List ℕ) where
   abbrev s : Settings
@@ -37,11 +37,11 @@ module _ (settings bytes : List ℕ) (n : ℕ) (old : List ℕ) where
     pub holds : out ≡ sets old 0 done
     pub total : cells_on s bytes n ≡ done ++ cells_from s (part_at s bytes i) (events_from bytes n i)
 
-  pub begins : {firsts : List ℕ} → Listable settings bytes n → Clean s bytes n → firsts ≡ first_cells s 0 0 0 0 → Written old firsts s.mode 0 0
-  begins z k f =
+  pub begins : {firsts : List ℕ} {mode : ℕ} → Listable settings bytes n → Clean s bytes n → At s bytes 0 firsts mode → Written old firsts mode 0 0
+  begins z k a =
       record {
-        on = walked.begins settings bytes n;
-        rowed = f;
+        on = record { moded = a.moded; within = omega arith; small = omega arith };
+        rowed = a.rowed;
         done = [];
         place = refl;
         holds = refl;
@@ -51,8 +51,7 @@ module _ (settings bytes : List ℕ) (n : ℕ) (old : List ℕ) where
   pub size : {out firsts : List ℕ} {mode next i : ℕ} → Written out firsts mode next i → length out ≡ length old
   size b = ap length b.holds ∙ length-sets old 0 b.done
 
-  module _ {out firsts : List ℕ} {mode next i : ℕ} (b : Written out firsts mode next i) (l : i < n) {pins pairs : ℕ}
-      (ew : pins ≡ (event_at bytes i).pins) (ep : pairs ≡ kept_of s mode (event_at bytes i) (events_from bytes n (i + 1))) where
+  module _ {out firsts : List ℕ} {mode next i : ℕ} (b : Written out firsts mode next i) (l : i < n) {pairs : ℕ} (ep : pairs ≡ kept_of s mode (event_at bytes i) (events_from bytes n (i + 1))) where
     abbrev e : Event
     e = event_at bytes i
 
@@ -84,12 +83,17 @@ module _ (settings bytes : List ℕ) (n : ℕ) (old : List ℕ) where
         let front = length-append b.done cells in
         omega (arith, whole, front, sized, size b, b.place)
 
-    turned : {out' firsts' : List ℕ} {mode' : ℕ} → out' ≡ sets out next cells → firsts' ≡ cells_opened s firsts pins → mode' ≡ mode_after mode pins →
+    turned : {out' firsts' : List ℕ} {mode' : ℕ} → out' ≡ sets out next cells → At s bytes (i + 1) firsts' mode' →
         Written out' firsts' mode' (next + 2 * pairs) (i + 1)
-    turned eo ef em =
+    turned eo a =
         record {
-          on = walks-on settings bytes n b.on l ew ep em (omega arith);
-          rowed = rows_next s bytes i ew b.rowed ef;
+          on =
+              record {
+                moded = a.moded;
+                within = omega arith;
+                small = omega (arith, b.on.small, ep, kept-le s mode e later);
+              };
+          rowed = a.rowed;
           done = b.done ++ cells;
           place = omega (arith, b.place, sized, length-append b.done cells);
           holds = eo ∙ rw (b.holds, b.place) one-behind;
@@ -101,26 +105,28 @@ module _ (settings bytes : List ℕ) (n : ℕ) (old : List ℕ) where
             ap (λ (k : ℕ). sets (sets old 0 b.done) k cells) (sym (zero-add (length b.done)))
             ∙ sets-append old 0 b.done cells
 
-    -- an event that gives a burst, by the number of its row's first cell and by its column
-    module _ {bank first column : ℕ} (eb : bank ≡ bank_of pins) (ef : first ≡ get_or firsts bank 0) (ec : column ≡ column_of s (address_of pins)) where
-      first-is : first ≡ first_in_row s bank (p.banks bank).row
-      first-is = ef ∙ ap (λ (xs : List ℕ). get_or xs bank 0) b.rowed ∙ first-at s p bank (omega (arith, eb))
+    -- an event that gives a burst
+    module _ {x : Burst} (is : Is s bytes n i firsts mode x) (same : x.pairs ≡ pairs) where
+      first-is : x.first ≡ first_in_row s (bank_of e.pins) (p.banks (bank_of e.pins)).row
+      first-is = is.row ∙ ap (λ (xs : List ℕ). get_or xs (bank_of e.pins) 0) b.rowed ∙ first-at s p (bank_of e.pins) (omega arith)
 
-      pub in_row : Listable settings bytes n → InRow first column pairs
-      in_row z = rw (first-is, ec) (row_at s bytes z.sized i bank (address_of pins) (omega (arith, eb)) (omega (arith, ep, kept-le s mode e later)))
+      stored-are : beat_cells x.first x.mode x.column (2 * x.pairs) ≡ cells
+      stored-are = rw (first-is, is.place, is.moded, same, pairs-are, b.on.moded)
 
-      stored-are : beat_cells first mode column (2 * pairs) ≡ cells
-      stored-are = rw (first-is, ec, eb, ew, pairs-are, b.on.moded)
-
-      pub goes_on : {out' : List ℕ} → gives pins ≡ true → out' ≡ sets out next (beat_cells first mode column (2 * pairs)) →
+      pub goes_on : {out' : List ℕ} → out' ≡ sets out next (beat_cells x.first x.mode x.column (2 * x.pairs)) →
           Written out' firsts mode (next + 2 * pairs) (i + 1)
-      goes_on g eo = turned (eo ∙ ap (sets out next) stored-are) (none-opened pins g s firsts) (mode-stays pins g mode)
+      goes_on eo =
+          turned (eo ∙ ap (sets out next) stored-are)
+          (record {
+            rowed = rows_next s bytes i refl b.rowed (none-opened e.pins is.burst s firsts);
+            moded = mode-next s bytes i refl b.on.moded (mode-stays e.pins is.burst mode);
+          })
 
   -- an event that gives none
-  pub passes : {out firsts firsts' : List ℕ} {mode mode' next i pins : ℕ} → Written out firsts mode next i → i < n → pins ≡ (event_at bytes i).pins →
-      gives pins ≡ false → firsts' ≡ cells_opened s firsts pins → mode' ≡ mode_after mode pins → Written out firsts' mode' next (i + 1)
-  passes {out} {firsts} {firsts'} {mode} {mode'} {next} {i} {pins} b l ew g ef em =
-      rw same at (turned b l ew none_kept (sym nothing) ef em)
+  pub passes : {out firsts firsts' : List ℕ} {mode mode' next i : ℕ} → Written out firsts mode next i → i < n →
+      gives (event_at bytes i).pins ≡ false → At s bytes (i + 1) firsts' mode' → Written out firsts' mode' next (i + 1)
+  passes {out} {firsts} {firsts'} {mode} {mode'} {next} {i} b l g a =
+      rw same at (turned b l none_kept (sym nothing) a)
     where
       later : List Event
       later = events_from bytes n (i + 1)
@@ -129,7 +135,7 @@ module _ (settings bytes : List ℕ) (n : ℕ) (old : List ℕ) where
       same = omega arith
 
       none_kept : 0 ≡ kept_of s mode (event_at bytes i) later
-      none_kept = kept-nothing s mode (event_at bytes i) later (ap gives (sym ew) ∙ g)
+      none_kept = kept-nothing s mode (event_at bytes i) later g
 
       nothing : sets out next (event_cells s (part_at s bytes i) (event_at bytes i) later) ≡ out
       nothing = rw (← b.on.moded, ← none_kept) (ap (sets out next) (no_cells _ _ _))

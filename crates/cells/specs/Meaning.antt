@@ -1,5 +1,7 @@
 -- What this crate's answers mean in document 01, and what is known of the captures whose cells are listed.
 use Rattle.std.specs.Prelude.{ℕ, ◌+◌, ◌≤◌, Bool, true, cond, List, ◌≡◌, ltb, eqb, get_or}
+use Rattle.std.specs.Prelude.{Some, None}
+use Rattle.std.specs.Prelude as std
 use Rattle.std.proofs.Math.Option.{Option, none, some, map}
 use Rattle.reading.specs.Search as search
 use Rattle.reading.specs.Mode.{mode_word}
@@ -10,35 +12,28 @@ use Rattle.reading.specs.Bursts.{column_of}
 use Rattle.reading.specs.Part.{Part}
 use Rattle.reading.specs.Verdict.{verdict_of}
 use Rattle.reading.specs.Cells.{bursts_of, cells_of}
-use Rattle.reading.specs.Answers.{Answer, refused, answered, unless, Outcome, leaves, fitting, not_clean}
+use Rattle.reading.specs.Answers.{unless, Outcome, leaves, fitting, not_clean}
 use Rattle.pins.specs.Pins.{code_of, bank_of, address_of, gives}
 use Rattle.beats.specs.Kept.{events_from, kept_of}
 use Rattle.beats.specs.Rows.{Sized, first_in_row, first_cells}
 use Rattle.judge.specs.Meaning.{Fit, events_in, part_at}
-use Rattle.cells.specs.declared.Given.{Given}
-use Rattle.cells.specs.declared.Given.TheVariants as given
-use Rattle.cells.specs.declared.Listed.{Listed}
-use Rattle.cells.specs.declared.Listed.TheVariants.{Refused, Written}
-
--- document 01's answer
-abbrev pub means : Listed → Answer ℕ
-means (Refused number place) = refused number place
-means (Written cells) = answered cells
+use Rattle.beats.specs.declared.Burst as held
 
 -- what is told of a burst, and what an event gives by it
 pub record Burst : Type 0 where
   pub writes : Bool
   pub first : ℕ
+  pub mode : ℕ
   pub column : ℕ
   pub pairs : ℕ
 
-abbrev pub given_means : Given → Option Burst
-given_means given.Other = none
-given_means (given.Burst writes first column pairs) = some (record { writes = writes; first = first; column = column; pairs = pairs })
+abbrev pub given_means : std.Option held.Burst → Option Burst
+given_means None = none
+given_means (Some x) = some (record { writes = x.writes; first = x.first; mode = x.mode; column = x.column; pairs = x.pairs })
 
 -- of a burst of the reading
 abbrev pub told_of : Settings → reading.Burst → Burst
-told_of s x = record { writes = x.writes; first = first_in_row s x.bank x.row; column = x.column; pairs = x.n }
+told_of s x = record { writes = x.writes; first = first_in_row s x.bank x.row; mode = x.mode; column = x.column; pairs = x.n }
 
 -- by the first cells of the rows that the banks were opened on and the mode word before event i
 abbrev pub told_by : Settings → List ℕ → ℕ → ℕ → List ℕ → ℕ → Burst
@@ -46,6 +41,7 @@ told_by s bytes n i firsts mode =
     record {
       writes = eqb (code_of (event_at bytes i).pins) 2;
       first = get_or firsts (bank_of (event_at bytes i).pins) 0;
+      mode = mode;
       column = column_of s (address_of (event_at bytes i).pins);
       pairs = kept_of s mode (event_at bytes i) (events_from bytes n (i + 1));
     }

@@ -4,8 +4,8 @@
 
 ghost use Rattle.std.specs.Prelude.{◌≤◌};
 
-use cells::Listed;
-use console::plain::{print, say};
+use console::Out;
+use refusal::Refusal;
 use trials::{store, store_settings};
 
 // The settings of 01's cases; the mode word is setting 3, at byte 36.
@@ -52,93 +52,76 @@ fn store_capture(capture: &mut [u8], total: u32, n: u32, mode: u32, cycle: u32, 
 // ---- lines
 
 // The first n elements of a list, or all that it has, with a space between any two.
-fn print_list(rt: &HostRuntime, list: &[u32], n: u32) {
-    let mut i: u32 = 0;
-    while i < n {
-        let at = i as usize;
-        if list.len() <= at {
-            return;
-        }
+fn print_list(to: &mut Out, list: &[u32], n: u32) {
+    for (i, cell) in list.iter().take(n as usize).enumerate() {
         if 0 < i {
-            say(rt, b" ");
+            write!(to, " ");
         }
-        print(rt, list[at]);
-        i += 1;
+        write!(to, "{cell}");
     }
+    writeln!(to);
 }
 
-fn print_listed(rt: &HostRuntime, answer: Listed, out: &[u32]) {
+fn print_listed(to: &mut Out, answer: Result<u32, Refusal>, out: &[u32]) {
     match answer {
-        Listed::Refused { number, place } => {
-            say(rt, b"refused ");
-            print(rt, number);
-            say(rt, b" place ");
-            print(rt, place);
-        }
-        Listed::Written { cells } => print_list(rt, out, cells),
+        Ok(cells) => print_list(to, out, cells),
+        Err(refusal) => writeln!(to, "{refusal}"),
     }
-    say(rt, b"\n");
 }
 
 // The cells of ACTIVE 0 and one READ.
-fn print_read(rt: &HostRuntime, mode: u32, cycle: u32, column: u32) {
+fn print_read(to: &mut Out, mode: u32, cycle: u32, column: u32) {
     let mut capture = [0u8; 96];
     let mut out = [0u32; 16];
     store_capture(&mut capture, 96, 2, mode, cycle, column);
     let answer = cells::burst_cells(&capture, &mut out);
-    print_listed(rt, answer, &out);
+    print_listed(to, answer, &out);
 }
 
 // "READ 3 column 5: cells 5, 6, 7, 4; interleaved 5, 4, 7, 6; with READ 4 column 8 the first gives 5, 6."
-fn print_case_k(rt: &HostRuntime) {
-    say(rt, b"READ 3 column 5: ");
-    print_read(rt, SEQUENTIAL | 2, 3, 5);
-    say(rt, b"interleaved: ");
-    print_read(rt, INTERLEAVED | 2, 3, 5);
-    say(rt, b"with READ 4 column 8: ");
+fn print_case_k(to: &mut Out) {
+    write!(to, "READ 3 column 5: ");
+    print_read(to, SEQUENTIAL | 2, 3, 5);
+    write!(to, "interleaved: ");
+    print_read(to, INTERLEAVED | 2, 3, 5);
+    write!(to, "with READ 4 column 8: ");
     let mut capture = [0u8; 104];
     let mut out = [0u32; 16];
     store_capture(&mut capture, 104, 3, SEQUENTIAL | 2, 3, 5);
     store_event(&mut capture, 96, 4, READ | 8);
     let answer = cells::burst_cells(&capture, &mut out);
-    print_listed(rt, answer, &out);
+    print_listed(to, answer, &out);
 }
 
 // A list that is too short stays as it was.
-fn print_short(rt: &HostRuntime) {
+fn print_short(to: &mut Out) {
     let mut capture = [0u8; 96];
     let mut out = [9u32; 3];
     store_capture(&mut capture, 96, 2, SEQUENTIAL | 2, 3, 5);
     let answer = cells::burst_cells(&capture, &mut out);
-    print_listed(rt, answer, &out);
-    print_list(rt, &out, 3);
-    say(rt, b"\n");
+    print_listed(to, answer, &out);
+    print_list(to, &out, 3);
 }
 
 // The rows of a length, for its code in the mode word.
-fn print_rows(rt: &HostRuntime, length: u32, code: u32) {
+fn print_rows(to: &mut Out, length: u32, code: u32) {
     for start in 0..length {
-        print(rt, length);
-        say(rt, b",");
-        print(rt, start);
-        say(rt, b",sequential,");
-        print_read(rt, SEQUENTIAL | code, 3, start);
-        print(rt, length);
-        say(rt, b",");
-        print(rt, start);
-        say(rt, b",interleaved,");
-        print_read(rt, INTERLEAVED | code, 3, start);
+        write!(to, "{length},{start},sequential,");
+        print_read(to, SEQUENTIAL | code, 3, start);
+        write!(to, "{length},{start},interleaved,");
+        print_read(to, INTERLEAVED | code, 3, start);
     }
 }
 
 fn main(rt: HostRuntime) {
-    print_case_k(&rt);
-    say(&rt, b"READ 2: ");
-    print_read(&rt, SEQUENTIAL | 2, 2, 5);
-    say(&rt, b"room for 3: ");
-    print_short(&rt);
-    print_rows(&rt, 2, 1);
-    print_rows(&rt, 4, 2);
-    print_rows(&rt, 8, 3);
-    print_rows(&rt, 16, 4);
+    let mut to = Out::new(rt.stdout());
+    print_case_k(&mut to);
+    write!(to, "READ 2: ");
+    print_read(&mut to, SEQUENTIAL | 2, 2, 5);
+    write!(to, "room for 3: ");
+    print_short(&mut to);
+    print_rows(&mut to, 2, 1);
+    print_rows(&mut to, 4, 2);
+    print_rows(&mut to, 8, 3);
+    print_rows(&mut to, 16, 4);
 }

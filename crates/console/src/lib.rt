@@ -5,102 +5,88 @@
 pub mod arguments;
 pub mod line;
 pub mod number;
-pub mod plain;
 pub mod program;
 
-ghost use Rattle.std.specs.Prelude.{◌≡◌, ◌+◌, ◌≤◌, length, take, drop, true};
-ghost use Rattle.std.specs.Io.KnownBytes.{Appends};
+ghost use Rattle.std.specs.Prelude.{◌≡◌, ◌+◌, ◌≤◌, length, take, drop, true, IfOk};
+ghost use Rattle.std.specs.Io.{WritesAtMost};
+ghost use Rattle.std.specs.Io.KnownBytes.{WriteAppends};
 ghost use Rattle.console.specs.Counts.{IsPrefixLen};
-ghost use Rattle.console.specs.Input.{size_of, came_in, Gives, Reads};
+ghost use Rattle.console.specs.Input.{size_of, Gives, Reads};
 ghost use Rattle.console.specs.Output.{Stays, Writes};
 
+use crate::line::Line;
+use std::fmt;
+use std::fmt::Display;
 use std::io::{Error, ErrorKind, IsTerminal, Read, Stdout, Write};
 
 // How often a call that signals interrupt is made before it counts as failed: every loop has to end.
 const TRIES: u32 = 1_000;
 
+// Room for the longest text that is formatted.
+const LINE: usize = 512;
+
 // ---- input
 
 // Why a read failed.
-#[derive(Clone, Copy)]
+#[derive(Clone, Copy, Debug, PartialEq, Eq)]
 pub enum Failure {
     // What was to be read is a folder.
     Folder,
     Other,
 }
 
-// All bytes up to the end of the input or of the buffer, or a read failed.
-#[derive(Clone, Copy)]
-pub enum Input {
-    Whole(usize),
-    Failed(Failure),
-}
-
-// What a read came to; no bytes at the end of the input.
-#[derive(Clone, Copy)]
-enum Piece {
-    Bytes(usize),
-    Lost(Failure),
+impl From<Error> for Failure {
+    fn from(error: Error) -> Failure {
+        match error.kind() {
+            ErrorKind::IsADirectory => Failure::Folder,
+            _ => Failure::Other,
+        }
+    }
 }
 
 fn interrupted(error: &Error) -> bool {
     error.kind() == ErrorKind::Interrupted
 }
 
-fn why_failed(error: &Error) -> Failure {
-    if error.kind() == ErrorKind::IsADirectory {
-        return Failure::Folder;
-    }
-    Failure::Other
-}
-
-// A read into buf, made again where a signal interrupted it.
-fn read_piece<R: Read>(from: &mut R, buf: &mut [u8]) -> Piece
-    ensures in_bounds { IsPrefixLen (came_in result) buf.new }
+// A read into buf, made again where a signal interrupted it: how many bytes it gave, none at the end of the input.
+fn read_piece<R: Read>(from: &mut R, buf: &mut [u8]) -> Result<usize, Failure>
+    ensures in_bounds { IsPrefixLen (size_of result) buf.new }
     ensures bytes { Gives (R.remaining from.old) (R.remaining from.new) result buf.new }
 {
     for tried in 0..TRIES {
         match from.read(buf) {
-            Ok(n) => return Piece::Bytes(n),
-            Err(error) => {
-                if !interrupted(&error) {
-                    return Piece::Lost(why_failed(&error));
-                }
-            }
+            Ok(n) => return Ok(n),
+            Err(error) if interrupted(&error) => {}
+            Err(error) => return Err(Failure::from(error)),
         }
     }
-    Piece::Lost(Failure::Other)
+    Err(Failure::Other)
 }
 
 // A read into buf from index `done` on.
-fn read_from<R: Read>(from: &mut R, buf: &mut [u8], done: usize) -> Piece
+fn read_from<R: Read>(from: &mut R, buf: &mut [u8], done: usize) -> Result<usize, Failure>
     requires { done ≤ length buf.old }
-    ensures in_bounds { done + came_in result ≤ length buf.old }
+    ensures in_bounds { done + size_of result ≤ length buf.old }
     ensures front { take done buf.new ≡ take done buf.old }
     ensures bytes { Gives (R.remaining from.old) (R.remaining from.new) result (drop done buf.new) }
 {
     read_piece(from, &mut buf[done..])
 }
 
-// A read that fails settles it, whatever a later one would say.
-pub fn read_input<R: Read>(from: &mut R, buf: &mut [u8]) -> Input
+// All bytes up to the end of the input or of the buffer. A read that fails settles it, whatever a later one would say.
+pub fn read_input<R: Read>(from: &mut R, buf: &mut [u8]) -> Result<usize, Failure>
     ensures in_bounds { IsPrefixLen (size_of result) buf.new }
     ensures bytes { Reads (R.remaining from.old) (R.remaining from.new) result buf.new }
 {
     let mut done: usize = 0;
     while done < buf.len() {
-        let piece = read_from(from, buf, done);
-        match piece {
-            Piece::Bytes(n) => {
-                if n == 0 {
-                    return Input::Whole(done);
-                }
-                done += n;
-            }
-            Piece::Lost(why) => return Input::Failed(why),
+        let n = read_from(from, buf, done)?;
+        if n == 0 {
+            return Ok(done);
         }
+        done += n;
     }
-    Input::Whole(done)
+    Ok(done)
 }
 
 // ---- standard output and standard error
@@ -126,29 +112,26 @@ impl Out {
     }
 }
 
-// A write of text, made again where a signal interrupted it: how many bytes it took, 0 where it failed.
-fn write_piece<W: Write>(to: &mut W, text: &[u8]) -> usize
-    ensures in_bounds { result ≤ length text.now }
-    ensures bytes { Appends (W.contents to.old) (W.contents to.new) (take result text.now) }
+// A write of text, made again where a signal interrupted it: how many bytes it took.
+fn write_piece<W: Write>(to: &mut W, text: &[u8]) -> Result<usize, Error>
+    ensures in_bounds { WritesAtMost result text.now }
+    ensures bytes { WriteAppends (W.contents to.old) (W.contents to.new) result text.now }
 {
     for tried in 0..TRIES {
         match to.write(text) {
-            Ok(n) => return n,
-            Err(error) => {
-                if !interrupted(&error) {
-                    return 0;
-                }
-            }
+            Ok(n) => return Ok(n),
+            Err(error) if interrupted(&error) => {}
+            Err(error) => return Err(error),
         }
     }
-    0
+    Err(Error::from(ErrorKind::Interrupted))
 }
 
 // A write of text from index `done` on.
-fn write_from<W: Write>(to: &mut W, text: &[u8], done: usize) -> usize
+fn write_from<W: Write>(to: &mut W, text: &[u8], done: usize) -> Result<usize, Error>
     requires { done ≤ length text.now }
-    ensures in_bounds { done + result ≤ length text.now }
-    ensures bytes { Appends (W.contents to.old) (W.contents to.new) (take result (drop done text.now)) }
+    ensures in_bounds { IfOk result (λ n. done + n ≤ length text.now) }
+    ensures bytes { WriteAppends (W.contents to.old) (W.contents to.new) result (drop done text.now) }
 {
     write_piece(to, &text[done..])
 }
@@ -159,7 +142,9 @@ fn write_whole<W: Write>(to: &mut W, text: &[u8]) -> bool
 {
     let mut done: usize = 0;
     while done < text.len() {
-        let n = write_from(to, text, done);
+        let Ok(n) = write_from(to, text, done) else {
+            return false;
+        };
         if n == 0 {
             return false;
         }
@@ -187,34 +172,15 @@ pub fn say(out: &mut Out, text: &[u8])
     }
 }
 
-pub fn print(out: &mut Out, n: u32)
-    ensures { Stays out.old.whole out.new.whole }
-{
-    let mut text = [0u8; 20];
-    let size = number::decimal(n as u64, &mut text);
-    say(out, &text[..size]);
-}
-
-pub fn say_number(out: &mut Out, before: &[u8], n: u32)
-    ensures { Stays out.old.whole out.new.whole }
-{
-    say(out, before);
-    print(out, n);
-}
-
-// In hexadecimal, with at least so many digits.
-pub fn print_word(out: &mut Out, word: u32, digits: usize)
-    ensures { Stays out.old.whole out.new.whole }
-{
-    let mut text = [0u8; 16];
-    let size = number::hex(word as u64, digits, &mut text);
-    say(out, &text[..size]);
-}
-
-pub fn say_word(out: &mut Out, before: &[u8], word: u32, digits: usize)
-    ensures { Stays out.old.whole out.new.whole }
-{
-    say(out, before);
-    say(out, b"0x");
-    print_word(out, word, digits);
+impl Out {
+    // A formatted text by one write, which `write!` makes: it answers nothing, since the mark tells. What there is no room for
+    // counts as not written.
+    pub fn write_fmt<D: Display + Drop>(&mut self, text: D)
+        ensures { Stays self.old.whole self.new.whole }
+    {
+        let mut line = Line::<LINE>::new();
+        let fits = fmt::Write::write_fmt(&mut line, text).is_ok();
+        say(self, line.text());
+        self.whole = self.whole && fits;
+    }
 }

@@ -1,37 +1,56 @@
-// A line of text in a lent buffer, put together piece by piece, so that one call writes it. What there is no room for is
-// left out.
-ghost use Rattle.std.specs.Prelude.{◌≤◌};
-ghost use Rattle.console.specs.Counts.{IsPrefixLen};
+// A line of text in a fixed room, put together piece by piece, so that one call writes it.
+ghost use Rattle.std.specs.Prelude.{◌≡◌, ◌≤◌, ◌-◌, ◌++◌, [], length, take};
 
-use crate::number::decimal;
+use std::fmt;
 
-fn least(a: usize, b: usize) -> usize
-    ensures { (result ≤ a) × (result ≤ b) }
-{
-    if a < b { a } else { b }
+// The text so far is the first `len` bytes.
+#[derive(Clone, Copy)]
+pub struct Line<const N: usize> {
+    bytes: [u8; N],
+    len: usize,
+    ghost within: { len ≤ N },
 }
 
-// A text from place `at` on; answers where it ends.
-pub fn put(line: &mut [u8], at: usize, text: &[u8]) -> usize
-    ensures { IsPrefixLen result line.new }
-{
-    if line.len() < at {
-        return line.len();
+impl<const N: usize> Line<N> {
+    pub fn new() -> Line<N>
+        ensures { take result.len result.bytes ≡ [] }
+    {
+        Line {
+            bytes: [0; N],
+            len: 0,
+        }
     }
-    let n = least(line.len() - at, text.len());
-    for i in 0..n {
-        line[at + i] = text[i];
+
+    pub fn text(&self) -> &[u8]
+        ensures { result.now ≡ take self.now.len self.now.bytes }
+    {
+        &self.bytes[..self.len]
     }
-    at + n
+
+    // What there is no room for is left out.
+    pub fn put(&mut self, text: &[u8])
+        ensures { take self.new.len self.new.bytes ≡ take self.old.len self.old.bytes ++ take (N - self.old.len) text.now }
+    {
+        let start = self.len;
+        let n = text.len().min(N - start);
+        let bytes = &mut self.bytes[..];
+        bytes[start..start + n].copy_from_slice(&text[..n]);
+        self.len = start + n;
+    }
 }
 
-// A number in decimal digits.
-pub fn put_number(line: &mut [u8], at: usize, n: u64) -> usize
-    ensures { IsPrefixLen result line.new }
-{
-    let mut digits = [0u8; 20];
-    let size = decimal(n, &mut digits);
-    put(line, at, &digits[..size])
+// An error where not all of a text had room.
+impl<const N: usize> fmt::Write for Line<N> {
+    ghost write_str_gives = { λ old text new. take new.len new.bytes ≡ take old.len old.bytes ++ text };
+
+    fn write_str(&mut self, text: &str) -> fmt::Result {
+        let room = N - self.len;
+        self.put(text.as_bytes());
+        if room < text.len() {
+            return Err(fmt::Error);
+        }
+        Ok(())
+    }
 }
 
 // A byte that no terminal should be sent becomes a question mark.
@@ -43,7 +62,7 @@ fn shown(byte: u8) -> u8 {
 }
 
 pub fn cover(text: &mut [u8]) {
-    for i in 0..text.len() {
-        text[i] = shown(text[i]);
+    for byte in text.iter_mut() {
+        *byte = shown(*byte);
     }
 }

@@ -1,4 +1,5 @@
-// A number as text, in ASCII.
+// A number as text, in ASCII, in a lent buffer. What programs print goes through `write!`. These two stay as they are for what
+// their clauses promise: each digit, and that the rest of the buffer stays.
 ghost use Rattle.std.specs.Prelude.{◌≡◌, ◌<◌, ◌≤◌, min, max, length, take, drop};
 ghost use Rattle.console.specs.Counts.{IsPrefixLen};
 ghost use Rattle.console.specs.Digits.{last_digits, IsDigitCount, hex_digit_ascii};
@@ -23,7 +24,7 @@ pub fn hex(n: u64, width: usize, out: &mut [u8; 16]) -> usize
     ensures digits { take result out.new ≡ last_digits 16 result n }
     ensures rest { drop result out.new ≡ drop result out.old }
 {
-    let k = digit_count(n, 16, clamp_width(width));
+    let k = digit_count(n, 16, width.max(1).min(16));
     write_digits(n, 16, k, out);
     k
 }
@@ -41,18 +42,6 @@ fn digit_count(n: u64, base: u64, width: usize) -> usize
         k += 1;
     }
     if k < width { width } else { k }
-}
-
-fn clamp_width(width: usize) -> usize
-    ensures { result ≡ min (max width 1) 16 }
-{
-    if width < 1 {
-        1
-    } else if width > 16 {
-        16
-    } else {
-        width
-    }
 }
 
 // Puts the last k digits of n in a base at the start of out.

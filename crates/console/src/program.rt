@@ -1,10 +1,11 @@
-// The frame of a program. `name` is the program's, and `undone` says what was not done because of a complaint.
-ghost use Rattle.console.specs.Counts.{IsPrefixLen};
+// The frame of a program: what it says of itself, its arguments, its input, its complaints and the end of its output.
+ghost use Rattle.std.specs.Prelude.{◌≤◌, length, IfSome};
 
-use crate::arguments::Asked;
-use crate::line::{cover, put, put_number};
-use crate::{Failure, Input, Out, arguments, complain, read_input, say};
+use crate::arguments::{Asked, Stray};
+use crate::line::{Line, cover};
+use crate::{Failure, Out, arguments, complain, read_input, say};
 use std::env::Env;
+use std::fmt::{Display, Write};
 use std::fs::File;
 use std::io::{Error, Read, Stdin};
 use std::{fs, io, str};
@@ -15,44 +16,44 @@ const LINE: usize = 4_500;
 // Room for the longest name of a file.
 const PATH: usize = 4_096;
 
-// What a program works on: so many bytes at the start of its buffer; or there is nothing to do, since help was asked for or
-// something went wrong, which was told.
+// Its name, the text of --help, what was not done because of a complaint, the option that it has, and how many names it takes
+// at most.
 #[derive(Clone, Copy)]
-pub struct Given {
-    pub work: bool,
-    pub size: usize,
+pub struct Program<'a> {
+    pub name: &'a [u8],
+    pub help: &'a [u8],
+    pub undone: &'a [u8],
+    pub option: Option<&'a [u8]>,
+    pub names: usize,
 }
 
-pub const NOTHING: Given = Given {
-    work: false,
-    size: 0,
-};
-
-// What an input is read from. A file is closed where this is dropped.
+// What an input is read from: standard input, or a file and the argument that names it. A file is closed where this is dropped.
 #[derive(Drop)]
-pub enum Reader {
+pub enum Source {
     Standard(Stdin),
-    Named(File),
+    Named(File, usize),
 }
 
-impl Read for Reader {
-    fn read(&mut self, buf: &mut [u8]) -> io::Result<usize> {
+impl Source {
+    fn place(&self) -> Option<usize> {
         match self {
-            Reader::Standard(from) => from.read(buf),
-            Reader::Named(from) => from.read(buf),
+            Source::Standard(_) => None,
+            Source::Named(_, place) => Some(*place),
         }
     }
 }
 
-// An input that was opened, and which argument names it, 0 for standard input.
-#[derive(Drop)]
-pub enum Source {
-    Open { from: Reader, place: usize },
-    Nothing,
+impl Read for Source {
+    fn read(&mut self, buf: &mut [u8]) -> io::Result<usize> {
+        match self {
+            Source::Standard(from) => from.read(buf),
+            Source::Named(from, _) => from.read(buf),
+        }
+    }
 }
 
 // Why a file could not be opened.
-#[derive(Clone, Copy)]
+#[derive(Clone, Copy, Debug, PartialEq, Eq)]
 enum Unopened {
     Missing,
     Forbidden,
@@ -61,236 +62,243 @@ enum Unopened {
     Other,
 }
 
-// ---- complaints
+const ENOENT: i32 = 2;
 
-// An argument, as a terminal may show it.
-fn shown(rt: &HostRuntime, place: usize, text: &mut [u8]) -> usize
-    ensures { IsPrefixLen result text.new }
-{
-    let n = arguments::copy(rt, place, text);
-    cover(text);
-    n
+const EACCES: i32 = 13;
+
+impl From<Error> for Unopened {
+    fn from(error: Error) -> Unopened {
+        match error.raw_os_error() {
+            Some(ENOENT) => Unopened::Missing,
+            Some(EACCES) => Unopened::Forbidden,
+            _ => Unopened::Other,
+        }
+    }
 }
 
-// Argument `place`, or standard input where that is 0.
-fn put_place(rt: &HostRuntime, line: &mut [u8], at: usize, place: usize) -> usize
-    ensures { IsPrefixLen result line.new }
-{
-    if place == 0 {
-        return put(line, at, b"standard input");
+// ---- files
+
+// An opening that a signal interrupts is made again by std.
+fn opened(rt: &HostRuntime, place: usize) -> Result<File, Unopened> {
+    let mut path = [0u8; PATH];
+    let Some(path) = arguments::copy(rt, place, &mut path) else {
+        return Err(Unopened::Other);
+    };
+    let Ok(path) = str::from_utf8(path) else {
+        return Err(Unopened::NotText);
+    };
+    Ok(fs::open(rt, path)?)
+}
+
+// Which argument names a file: - stands for standard input.
+fn named(rt: &HostRuntime, place: Option<usize>) -> Option<usize> {
+    place.filter(|place| !arguments::is(rt, *place, b"-"))
+}
+
+// No argument and - stand for standard input.
+pub fn standard(rt: &HostRuntime, place: Option<usize>) -> bool {
+    named(rt, place).is_none()
+}
+
+// ---- complaints
+
+// An argument, as a terminal may show it; none where it is empty or too long.
+fn shown<'a>(rt: &HostRuntime, place: usize, room: &'a mut [u8]) -> Option<&'a [u8]> {
+    let text = arguments::copy(rt, place, room)?;
+    if text.is_empty() {
+        return None;
     }
-    let mut text = [0u8; PATH];
-    let n = shown(rt, place, &mut text);
-    if n == 0 {
-        return put(line, at, b"a name that is empty or too long");
-    }
-    put(line, at, &text[..n])
+    cover(text);
+    Some(text)
 }
 
 // Of an argument, or of standard input.
-pub fn complain_of(rt: &HostRuntime, name: &[u8], place: usize, what: &[u8], undone: &[u8]) {
-    let mut line = [0u8; LINE];
-    let mut at = put(&mut line, 0, name);
-    at = put(&mut line, at, b": ");
-    at = put_place(rt, &mut line, at, place);
-    at = put(&mut line, at, what);
-    at = put(&mut line, at, b"; ");
-    at = put(&mut line, at, undone);
-    at = put(&mut line, at, b"\n");
-    complain(rt, &line[..at]);
-}
-
-fn complain_unopened(rt: &HostRuntime, name: &[u8], place: usize, why: Unopened, undone: &[u8]) {
-    let what: &[u8] = match why {
-        Unopened::Missing => b" could not be opened: there is no such file",
-        Unopened::Forbidden => b" could not be opened: it may not be read",
-        Unopened::NotText => b" could not be opened: its name is not UTF-8",
-        Unopened::Other => b" could not be opened",
+fn put_place<const N: usize>(rt: &HostRuntime, line: &mut Line<N>, place: Option<usize>) {
+    let Some(place) = place else {
+        line.put(b"standard input");
+        return;
     };
-    complain_of(rt, name, place, what, undone);
-}
-
-pub fn complain_unread(rt: &HostRuntime, name: &[u8], place: usize, why: Failure, undone: &[u8]) {
-    if place != 0 {
-        if let Failure::Folder = why {
-            complain_of(
-                rt,
-                name,
-                place,
-                b" could not be read: it is a folder",
-                undone,
-            );
-            return;
-        }
+    let mut room = [0u8; PATH];
+    match shown(rt, place, &mut room) {
+        Some(text) => line.put(text),
+        None => line.put(b"a name that is empty or too long"),
     }
-    complain_of(rt, name, place, b" could not be read to its end", undone);
 }
 
-// That something is refused; `what` says of which thing.
-pub fn refuse(rt: &HostRuntime, name: &[u8], what: &[u8], number: u32, place: u32, undone: &[u8]) {
-    let mut line = [0u8; 160];
-    let mut at = put(&mut line, 0, name);
-    at = put(&mut line, at, what);
-    at = put_number(&mut line, at, number as u64);
-    at = put(&mut line, at, b" place ");
-    at = put_number(&mut line, at, place as u64);
-    at = put(&mut line, at, b"; ");
-    at = put(&mut line, at, undone);
-    at = put(&mut line, at, b"\n");
-    complain(rt, &line[..at]);
-}
+impl Program<'_> {
+    // Of an argument, or of standard input.
+    pub fn complain_of(&self, rt: &HostRuntime, place: Option<usize>, what: &[u8]) {
+        let mut line = Line::<LINE>::new();
+        line.put(self.name);
+        line.put(b": ");
+        put_place(rt, &mut line, place);
+        line.put(what);
+        self.complain_undone(rt, line);
+    }
 
-// ---- before the work
+    // The end of every complaint.
+    fn complain_undone<const N: usize>(&self, rt: &HostRuntime, before: Line<N>) {
+        let mut line = before;
+        line.put(b"; ");
+        line.put(self.undone);
+        line.put(b"\n");
+        complain(rt, line.text());
+    }
 
-// The version in its three numbers.
-fn print_version(out: &mut Out, name: &[u8]) {
-    let n = version::number() as u64;
-    let mut line = [0u8; 64];
-    let mut at = put(&mut line, 0, name);
-    at = put(&mut line, at, b" ");
-    at = put_number(&mut line, at, n / 10_000);
-    at = put(&mut line, at, b".");
-    at = put_number(&mut line, at, n / 100 % 100);
-    at = put(&mut line, at, b".");
-    at = put_number(&mut line, at, n % 100);
-    at = put(&mut line, at, b"\n");
-    say(out, &line[..at]);
-}
+    fn complain_unopened(&self, rt: &HostRuntime, place: usize, why: Unopened) {
+        let what: &[u8] = match why {
+            Unopened::Missing => b" could not be opened: there is no such file",
+            Unopened::Forbidden => b" could not be opened: it may not be read",
+            Unopened::NotText => b" could not be opened: its name is not UTF-8",
+            Unopened::Other => b" could not be opened",
+        };
+        self.complain_of(rt, Some(place), what);
+    }
 
-fn print_help(out: &mut Out, help: &[u8]) {
-    say(out, help);
-    say(
-        out,
-        b"
+    pub fn complain_unread(&self, rt: &HostRuntime, source: &Source, why: Failure) {
+        let place = source.place();
+        let what: &[u8] = match why {
+            Failure::Folder if place.is_some() => b" could not be read: it is a folder",
+            _ => b" could not be read to its end",
+        };
+        self.complain_of(rt, place, what);
+    }
+
+    // That something is refused.
+    pub fn refuse<D: Display + Drop>(&self, rt: &HostRuntime, refusal: D) {
+        let mut line = Line::<160>::new();
+        line.put(self.name);
+        line.put(b": ");
+        let _ = write!(line, "{refusal}");
+        self.complain_undone(rt, line);
+    }
+
+    // ---- before the work
+
+    fn print_version(&self, out: &mut Out) {
+        let n = version::number();
+        let mut line = Line::<64>::new();
+        line.put(self.name);
+        let _ = writeln!(line, " {}.{}.{}", n / 10_000, n / 100 % 100, n % 100);
+        say(out, line.text());
+    }
+
+    fn print_help(&self, out: &mut Out) {
+        say(out, self.help);
+        say(
+            out,
+            b"
 Where no FILE is named, or -, standard input is read. A FILE that begins with -
 is named with ./ before it. --help prints this text and --version the version;
 each stands alone. What goes wrong is told by a line on standard error, and
 there is no exit status.
 ",
-    );
-}
-
-// Looks at the arguments, of a program with so many names and an option or none: whether there is work to do.
-pub fn begin(
-    rt: &HostRuntime,
-    name: &[u8],
-    help: &[u8],
-    undone: &[u8],
-    option: &[u8],
-    names: usize,
-) -> bool {
-    let mut out = Out::new(rt.stdout());
-    let asked = arguments::asked_for(rt, option, names);
-    match asked {
-        Asked::Work => return true,
-        Asked::Help => print_help(&mut out, help),
-        Asked::Version => print_version(&mut out, name),
-        Asked::Unknown(i) => complain_of(rt, name, i, b" is no option here, see --help", undone),
-        Asked::Excess(i) => complain_of(rt, name, i, b" is one file too many, see --help", undone),
+        );
     }
-    end(rt, name, out, b"printed");
-    false
-}
 
-// ---- input
-
-const ENOENT: i32 = 2;
-
-const EACCES: i32 = 13;
-
-fn why_unopened(error: &Error) -> Unopened {
-    match error.raw_os_error() {
-        Some(ENOENT) => Unopened::Missing,
-        Some(EACCES) => Unopened::Forbidden,
-        _ => Unopened::Other,
+    // Looks at the arguments: whether there is work to do. Else what was asked for is printed, or what is wrong told.
+    pub fn begin(&self, rt: &HostRuntime) -> bool {
+        let mut out = Out::new(rt.stdout());
+        match arguments::asked_for(rt, self.option, self.names) {
+            Ok(Asked::Work) => return true,
+            Ok(Asked::Help) => self.print_help(&mut out),
+            Ok(Asked::Version) => self.print_version(&mut out),
+            Err(Stray::Unknown(i)) => self.complain_of(
+                rt,
+                Some(i),
+                b" is no option here, see --help",
+            ),
+            Err(Stray::Excess(i)) => self.complain_of(
+                rt,
+                Some(i),
+                b" is one file too many, see --help",
+            ),
+        }
+        self.end(rt, out, b"printed");
+        false
     }
-}
 
-// An opening that a signal interrupts is made again by std.
-fn open_path(rt: &HostRuntime, path: &[u8]) -> Result<File, Unopened> {
-    let Ok(path) = str::from_utf8(path) else {
-        return Err(Unopened::NotText);
-    };
-    match fs::open(rt, path) {
-        Ok(file) => Ok(file),
-        Err(error) => Err(why_unopened(&error)),
-    }
-}
+    // ---- input
 
-fn opened(rt: &HostRuntime, place: usize) -> Result<File, Unopened> {
-    let mut path = [0u8; PATH];
-    match rt.arg(place, &mut path) {
-        Ok(n) => open_path(rt, &path[..n]),
-        Err(_) => Err(Unopened::Other),
-    }
-}
-
-// Place 0 and `-` stand for standard input.
-pub fn standard(rt: &HostRuntime, place: usize) -> bool {
-    place == 0 || arguments::is(rt, place, b"-")
-}
-
-// What argument `place` names.
-pub fn open(rt: &HostRuntime, name: &[u8], place: usize, undone: &[u8]) -> Source {
-    if standard(rt, place) {
-        return Source::Open {
-            from: Reader::Standard(rt.stdin()),
-            place: 0,
+    // What an argument names; where it could not be opened, that is told.
+    pub fn open(&self, rt: &HostRuntime, place: Option<usize>) -> Option<Source> {
+        let Some(place) = named(rt, place) else {
+            return Some(Source::Standard(rt.stdin()));
         };
-    }
-    match opened(rt, place) {
-        Ok(file) => Source::Open {
-            from: Reader::Named(file),
-            place,
-        },
-        Err(why) => {
-            complain_unopened(rt, name, place, why, undone);
-            Source::Nothing
+        match opened(rt, place) {
+            Ok(file) => Some(Source::Named(file, place)),
+            Err(why) => {
+                self.complain_unopened(rt, place, why);
+                None
+            }
         }
     }
-}
 
-// All that argument `place` names.
-pub fn read(rt: &HostRuntime, name: &[u8], place: usize, undone: &[u8], buf: &mut [u8]) -> Given
-    ensures { IsPrefixLen result.size buf.new }
-{
-    let Source::Open { mut from, place } = open(rt, name, place, undone) else {
-        return NOTHING;
-    };
-    match read_input(&mut from, buf) {
-        Input::Whole(size) => Given { work: true, size },
-        Input::Failed(why) => {
-            complain_unread(rt, name, place, why, undone);
-            NOTHING
+    // All that an argument names, at the start of the buffer; where it could not be read, that is told.
+    pub fn read<'b>(
+        &self,
+        rt: &HostRuntime,
+        place: Option<usize>,
+        buf: &'b mut [u8],
+    ) -> Option<&'b [u8]>
+        ensures { IfSome result (λ bytes. length bytes.now ≤ length buf.old) }
+    {
+        let mut source = self.open(rt, place)?;
+        match read_input(&mut source, buf) {
+            Ok(size) => Some(&buf[..size]),
+            Err(why) => {
+                self.complain_unread(rt, &source, why);
+                None
+            }
         }
     }
-}
 
-// The input of a program that takes one file, or standard input, and no option.
-pub fn input(rt: &HostRuntime, name: &[u8], help: &[u8], undone: &[u8], buf: &mut [u8]) -> Given
-    ensures { IsPrefixLen result.size buf.new }
-{
-    if !begin(rt, name, help, undone, b"", 1) {
-        return NOTHING;
+    // The input of a program that takes one file, or standard input; none where there is no work, or something went wrong.
+    pub fn input<'b>(&self, rt: &HostRuntime, buf: &'b mut [u8]) -> Option<&'b [u8]>
+        ensures { IfSome result (λ bytes. length bytes.now ≤ length buf.old) }
+    {
+        if !self.begin(rt) {
+            return None;
+        }
+        self.read(rt, arguments::name(rt, 0), buf)
     }
-    read(rt, name, arguments::name(rt, 0), undone, buf)
-}
 
-// ---- behind the work
+    // ---- output
 
-// What was `done`, printed or written, is told not to be whole unless all of it was.
-pub fn end(rt: &HostRuntime, name: &[u8], out: Out, done: &[u8]) {
-    if out.is_whole() {
-        return;
+    // Prints what `work` makes of the input.
+    pub fn print<F: FnOnce(&mut Out, &[u8]) + Drop>(
+        &self,
+        rt: &HostRuntime,
+        buf: &mut [u8],
+        work: F,
+    )
+        requires { F.IsAlwaysCallable work }
+    {
+        let Some(input) = self.input(rt, buf) else {
+            return;
+        };
+        let mut out = Out::new(rt.stdout());
+        work(&mut out, input);
+        self.end(rt, out, b"printed");
     }
-    let mut line = [0u8; 256];
-    let mut at = put(&mut line, 0, name);
-    at = put(
-        &mut line,
-        at,
-        b": standard output could not be written to its end; what was ",
-    );
-    at = put(&mut line, at, done);
-    at = put(&mut line, at, b" is not whole\n");
-    complain(rt, &line[..at]);
+
+    // Writes these bytes, which are all the output.
+    pub fn write(&self, rt: &HostRuntime, bytes: &[u8]) {
+        let mut out = Out::new(rt.stdout());
+        say(&mut out, bytes);
+        self.end(rt, out, b"written");
+    }
+
+    // What was `done`, printed or written, is told not to be whole unless all of it was.
+    pub fn end(&self, rt: &HostRuntime, out: Out, done: &[u8]) {
+        if out.is_whole() {
+            return;
+        }
+        let mut line = Line::<256>::new();
+        line.put(self.name);
+        line.put(b": standard output could not be written to its end; what was ");
+        line.put(done);
+        line.put(b" is not whole\n");
+        complain(rt, line.text());
+    }
 }

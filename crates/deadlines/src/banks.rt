@@ -8,11 +8,5 @@ use crate::places::OPENED;
 pub fn all_idle(d: &Deadlines) -> bool
     ensures { result ≡ all_idle d.now }
 {
-    'banks: for i in 0..4 {
-        if d[OPENED + i] == 0 {
-            continue 'banks;
-        }
-        return false;
-    }
-    true
+    d[OPENED..OPENED + 4].iter().all(|opened| *opened == 0)
 }

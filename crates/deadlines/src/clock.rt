@@ -26,14 +26,14 @@ pub fn overdue_after(s: &Settings, t: u32, due: u64) -> u64
 fn nine_after(t: u32, refi: u32) -> u64
     ensures { result ≡ t + 9 * refi }
 {
-    (t as u64) + 9 * (refi as u64)
+    u64::from(t) + 9 * u64::from(refi)
 }
 
 fn put_off(t: u32, refi: u32, due: u64) -> u64
     ensures { result ≡ cond (leb due (t + 8 * refi)) (due + refi) due }
 {
-    if due <= (t as u64) + 8 * (refi as u64) {
-        return due + (refi as u64);
+    if due <= u64::from(t) + 8 * u64::from(refi) {
+        return due + u64::from(refi);
     }
     due
 }

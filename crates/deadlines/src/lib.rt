@@ -6,7 +6,8 @@ pub mod clock;
 pub mod places;
 pub mod sums;
 
-// How many there are, and all of them.
+// How many there are, and all of them. An array and no struct: the definitions of specs/Deadlines and the theorems about them read
+// the deadlines as one list.
 pub const KEPT: usize = 39;
 
 pub type Deadlines = [u64; KEPT];

@@ -9,44 +9,46 @@ use settings::mode;
 pub fn past(deadline: u64, t: u32) -> bool
     ensures { result ≡ leb deadline t }
 {
-    deadline <= (t as u64)
+    deadline <= u64::from(t)
 }
 
+// A function for each number of times: over a slice or an array of them the sum needs a proof of its own that it fits, and a call
+// is no plainer.
 pub fn after(t: u32, a: u32) -> u64
     ensures { result ≡ t + a }
 {
-    (t as u64) + (a as u64)
+    u64::from(t) + u64::from(a)
 }
 
 pub fn after2(t: u32, a: u32, b: u32) -> u64
     ensures { result ≡ t + a + b }
 {
-    (t as u64) + (a as u64) + (b as u64)
+    u64::from(t) + u64::from(a) + u64::from(b)
 }
 
 // One cycle more, as a write's data begins.
 pub fn data_after(t: u32, a: u32, b: u32) -> u64
     ensures { result ≡ t + 1 + a + b }
 {
-    (t as u64) + 1 + (a as u64) + (b as u64)
+    u64::from(t) + 1 + u64::from(a) + u64::from(b)
 }
 
 pub fn data_after2(t: u32, a: u32, b: u32, c: u32) -> u64
     ensures { result ≡ t + 1 + a + b + c }
 {
-    (t as u64) + 1 + (a as u64) + (b as u64) + (c as u64)
+    u64::from(t) + 1 + u64::from(a) + u64::from(b) + u64::from(c)
 }
 
 pub fn least(a: u64, b: u64) -> u64
     ensures { result ≡ lesser a b }
 {
-    pick(a <= b, a, b)
+    a.min(b)
 }
 
 pub fn latest(a: u64, b: u64) -> u64
     ensures { result ≡ later a b }
 {
-    pick(a <= b, b, a)
+    a.max(b)
 }
 
 pub fn pick(c: bool, a: u64, b: u64) -> u64

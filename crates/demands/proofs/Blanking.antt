@@ -12,17 +12,13 @@ use Rattle.reading.specs.Blank.{names_column, names_row, OnlyAddressesDiffer, bl
 use Rattle.capture.proofs.Outcome as outcome
 use Rattle.capture.proofs.Outcome.{Wrote, too_long, lacking, fits, refused-meets, leaves-refused}
 use Rattle.capture.proofs.Accepted.{accepted-rest, refused-rest, refused-in, answered-in}
-use Rattle.judge.specs.declared.Verdict.{Verdict}
+use Rattle.std.specs.Prelude.{Ok}
 use Rattle.alike.proofs.Captures.{same-accepted, judged-alike}
 use Rattle.alike.proofs.Pins.{as-made}
 use Rattle.alike.proofs.Blanked.{same-blanked, blanked-length, blanked-pins, blanked-differs, differ-blanked}
 use Rattle.words.proofs.Bytes.{Bytes}
 use Rattle.alike.proofs.Bytes.{front_bytes, cycle-bytes, pin-bytes, blanked-bytes}
-use Rattle.hidden.specs.declared.Blanked.{Blanked}
-use Rattle.hidden.specs.declared.Blanked.TheVariants.{Refused, Written}
-use Rattle.hidden.specs.Meaning.{means}
-use Rattle.hidden.proofs.Unique as one-blank
-use Rattle.demands.specs.Allowed.{Judges, Blanks}
+use Rattle.demands.specs.Allowed.{Judged, Counted, Refuses, Judges, Blanks}
 use Rattle.demands.specs.Refused.{opened, Accepted, BlankRefused, unopened, scant}
 use Rattle.demands.proofs.Judging.{one_answer}
 use Rattle.demands.proofs.Opening.{capture-refused-exactly}
@@ -30,7 +26,7 @@ use Rattle.demands.proofs.Opening.{capture-refused-exactly}
 -- ---- two captures that differ only in addresses
 
 -- Whatever the judge may say of the one it says of the other: verdict, rule, event, cycle and judged count, or the refusal.
-pub judged-same : (a b : List ℕ) → OnlyAddressesDiffer a b → (r q : Verdict) → Judges a r → Judges b q → r ≡ q
+pub judged-same : (a b : List ℕ) → OnlyAddressesDiffer a b → (r q : Judged) → Judges a r → Judges b q → r ≡ q
 judged-same a b only r q x y = one_answer b r q (x ∙ judged-alike a b only) y
 
 -- If one is accepted, so is the other.
@@ -55,7 +51,7 @@ pub blanked-accepted : (capture : List ℕ) → Accepted capture → Accepted (b
 blanked-accepted capture open-to = accepted-same capture (blanked capture) (blanked-related capture open-to) open-to
 
 -- So it is judged alike.
-pub blanked-judged : (capture : List ℕ) → Accepted capture → (r q : Verdict) → Judges capture r → Judges (blanked capture) q → r ≡ q
+pub blanked-judged : (capture : List ℕ) → Accepted capture → (r q : Judged) → Judges capture r → Judges (blanked capture) q → r ≡ q
 blanked-judged capture open-to = judged-same capture (blanked capture) (blanked-related capture open-to)
 
 -- To blank it once more changes nothing.
@@ -109,22 +105,22 @@ module _ (capture out : List ℕ) where
       ∙ (λ i. refused (sym n i) ((sym (blanked-length capture h) ∙ sym p) i)))
       ).0
 
-pub blank-refused-exactly : (capture out : List ℕ) (r : Blanked) (left : List ℕ) → Blanks capture out r left → (number place : ℕ) →
-    r ≡ Refused number place ↔ BlankRefused capture out number place
+pub blank-refused-exactly : (capture out : List ℕ) (r : Counted) (left : List ℕ) → Blanks capture out r left → (number place : ℕ) →
+    Refuses r number place ↔ BlankRefused capture out number place
 blank-refused-exactly capture out r left a number place = (
-  λ e. case-of capture out number place (sym a.0 ∙ ap means e),
-  λ c. one-blank.one_answer r (Refused number place) (a.0 ∙ of-case capture out number place c),
+  λ e. case-of capture out number place (sym a.0 ∙ e),
+  λ c. a.0 ∙ of-case capture out number place c,
 )
 
 -- A refused call leaves the buffer.
-pub blank-refused : (capture out left : List ℕ) (number place : ℕ) → Blanks capture out (Refused number place) left → left ≡ out
+pub blank-refused : (capture out left : List ℕ) (number place : ℕ) (r : Counted) → Refuses r number place → Blanks capture out r left → left ≡ out
 unfolding blank_outcome
-blank-refused capture out left number place a =
-    a.1 ∙ (leaves-refused (accepted capture (fitting out (blanked capture))) out (sym a.0)).1
+blank-refused capture out left number place r e a =
+    a.1 ∙ (leaves-refused (accepted capture (fitting out (blanked capture))) out (sym a.0 ∙ e)).1
 
 -- ---- what `blank` wrote
 
-module _ (capture out left : List ℕ) (n : ℕ) (a : Blanks capture out (Written n) left) where
+module _ (capture out left : List ℕ) (n : ℕ) (a : Blanks capture out (Ok n) left) where
   abbrev answer : Answer (List ℕ)
   answer = accepted capture (fitting out (blanked capture))
 
@@ -138,36 +134,36 @@ module _ (capture out left : List ℕ) (n : ℕ) (a : Blanks capture out (Writte
       (h, (fits out (blanked capture) e).0)
 
 -- The capture was accepted, and its bytes, blanked, are what stands at the front of the buffer; bytes behind them stay.
-pub written-opened : (capture out left : List ℕ) (n : ℕ) → Blanks capture out (Written n) left → Accepted capture
+pub written-opened : (capture out left : List ℕ) (n : ℕ) → Blanks capture out (Ok n) left → Accepted capture
 written-opened capture out left n a = (is-blanked capture out left n a).0
 
-pub written_is : (capture out left : List ℕ) (n : ℕ) → Blanks capture out (Written n) left → take n left ≡ blanked capture
+pub written_is : (capture out left : List ℕ) (n : ℕ) → Blanks capture out (Ok n) left → take n left ≡ blanked capture
 unfolding blank_outcome
 written_is capture out left n a = ap (take n) a.1 ∙ (wrote capture out left n a).front ∙ sym (is-blanked capture out left n a).1
 
-pub written-long : (capture out left : List ℕ) (n : ℕ) → Blanks capture out (Written n) left → n ≡ length capture
+pub written-long : (capture out left : List ℕ) (n : ℕ) → Blanks capture out (Ok n) left → n ≡ length capture
 written-long capture out left n a =
     let (h, e) = is-blanked capture out left n a in (wrote capture out left n a).count ∙ sym (ap length e) ∙ sym (blanked-length capture h)
 
-pub behind-stays : (capture out left : List ℕ) (n : ℕ) → Blanks capture out (Written n) left → drop n left ≡ drop n out
+pub behind-stays : (capture out left : List ℕ) (n : ℕ) → Blanks capture out (Ok n) left → drop n left ≡ drop n out
 unfolding blank_outcome
 behind-stays capture out left n a = ap (drop n) a.1 ∙ (wrote capture out left n a).behind
 
 -- What was written is accepted, differs only in addresses from what was given, and so is judged alike.
-pub written-accepted : (capture out left : List ℕ) (n : ℕ) → Blanks capture out (Written n) left → Accepted (take n left)
+pub written-accepted : (capture out left : List ℕ) (n : ℕ) → Blanks capture out (Ok n) left → Accepted (take n left)
 written-accepted capture out left n a =
     subst Accepted (sym (written_is capture out left n a)) (blanked-accepted capture (written-opened capture out left n a))
 
-pub written-related : (capture out left : List ℕ) (n : ℕ) → Blanks capture out (Written n) left → OnlyAddressesDiffer capture (take n left)
+pub written-related : (capture out left : List ℕ) (n : ℕ) → Blanks capture out (Ok n) left → OnlyAddressesDiffer capture (take n left)
 written-related capture out left n a =
     subst (OnlyAddressesDiffer capture) (sym (written_is capture out left n a)) (blanked-related capture (written-opened capture out left n a))
 
-pub written-judged : (capture out left : List ℕ) (n : ℕ) → Blanks capture out (Written n) left →
-    (r q : Verdict) → Judges capture r → Judges (take n left) q → r ≡ q
+pub written-judged : (capture out left : List ℕ) (n : ℕ) → Blanks capture out (Ok n) left →
+    (r q : Judged) → Judges capture r → Judges (take n left) q → r ≡ q
 written-judged capture out left n a = judged-same capture (take n left) (written-related capture out left n a)
 
 -- Of two captures that differ only in addresses the same bytes are written.
 pub written_same : (a b : List ℕ) → OnlyAddressesDiffer a b → (out other left rest : List ℕ) (n m : ℕ) →
-    Blanks a out (Written n) left → Blanks b other (Written m) rest → take n left ≡ take m rest
+    Blanks a out (Ok n) left → Blanks b other (Ok m) rest → take n left ≡ take m rest
 written_same a b only out other left rest n m x y =
     written_is a out left n x ∙ blanked-same a b only ∙ sym (written_is b other rest m y)

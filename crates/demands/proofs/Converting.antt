@@ -19,14 +19,10 @@ use Rattle.reading.proofs.Laws.{not-given}
 use Rattle.capture.proofs.Outcome.{refused-by, too_long, lacking, refused-meets, leaves-refused}
 use Rattle.capture.proofs.Accepted.{accepted-rest, refused-rest, refused-in}
 use Rattle.capture.proofs.Whole as whole
-use Rattle.exports.specs.declared.Converted.{Converted}
-use Rattle.exports.specs.declared.Converted.TheVariants.{Refused}
-use Rattle.exports.specs.Meaning.{means, too_far}
-use Rattle.exports.proofs.Unique as one
 use Rattle.exports.proofs.Incoming.{records-count}
 use Rattle.exports.proofs.Bridges.{export-length}
-use Rattle.demands.specs.Allowed.{ReadsExport, WritesExport}
-use Rattle.demands.specs.Refused.{opened, Accepted, Fine}
+use Rattle.demands.specs.Allowed.{Counted, Refuses, ReadsExport, WritesExport}
+use Rattle.demands.specs.Refused.{opened, Accepted}
 use Rattle.demands.specs.Exports.{Known, ReadRefused, Exportable, WriteRefused}
 use Rattle.demands.specs.Exports as case
 use Rattle.demands.proofs.Opening.{capture-refused-exactly}
@@ -168,17 +164,17 @@ module _ (x ws : List ℕ) (edition : ℕ) (out : List ℕ) where
         (too_long out capture (omega (arith, size, q, l)) ∙ (λ i. refused (sym n i) ((size ∙ sym q) i)))
 
 -- Reading is refused exactly in the cases that are written out in specs/Exports, with their place.
-pub read-refused-exactly : (x ws : List ℕ) (edition : ℕ) (out : List ℕ) (r : Converted) (left : List ℕ) → ReadsExport x ws edition out r left →
-    (number place : ℕ) → r ≡ Refused number place ↔ ReadRefused x ws edition out number place
+pub read-refused-exactly : (x ws : List ℕ) (edition : ℕ) (out : List ℕ) (r : Counted) (left : List ℕ) → ReadsExport x ws edition out r left →
+    (number place : ℕ) → Refuses r number place ↔ ReadRefused x ws edition out number place
 read-refused-exactly x ws edition out r left a number place = (
-  λ e. read-case x ws edition out number place (sym a.0 ∙ ap means e),
-  λ c. one.one_answer r (Refused number place) (a.0 ∙ case-read x ws edition out number place c),
+  λ e. read-case x ws edition out number place (sym a.0 ∙ e),
+  λ c. a.0 ∙ case-read x ws edition out number place c,
 )
 
 -- A refused call leaves the buffer.
-pub read-refused : (x ws : List ℕ) (edition : ℕ) (out left : List ℕ) (number place : ℕ) → ReadsExport x ws edition out (Refused number place) left → left ≡ out
+pub read-refused : (x ws : List ℕ) (edition : ℕ) (out left : List ℕ) (number place : ℕ) (r : Counted) → Refuses r number place → ReadsExport x ws edition out r left → left ≡ out
 unfolding read_outcome
-read-refused x ws edition out left number place a = a.1 ∙ (leaves-refused (read_answer x ws edition out) out (sym a.0)).1
+read-refused x ws edition out left number place r e a = a.1 ∙ (leaves-refused (read_answer x ws edition out) out (sym a.0 ∙ e)).1
 
 -- ---- writing
 
@@ -287,13 +283,13 @@ module _ (c out : List ℕ) where
         so h false (exportable w) (too_long out export (omega (arith, size, q, l)) ∙ (λ i. refused (sym n i) ((size ∙ sym q) i)))
 
 -- Writing is refused exactly in the cases that are written out in specs/Exports, with their place.
-pub write-refused-exactly : (c out : List ℕ) (r : Converted) (left : List ℕ) → WritesExport c out r left → (number place : ℕ) →
-    r ≡ Refused number place ↔ WriteRefused c out number place
+pub write-refused-exactly : (c out : List ℕ) (r : Counted) (left : List ℕ) → WritesExport c out r left → (number place : ℕ) →
+    Refuses r number place ↔ WriteRefused c out number place
 write-refused-exactly c out r left a number place = (
-  λ e. write-case c out number place (sym a.0 ∙ ap means e),
-  λ k. one.one_answer r (Refused number place) (a.0 ∙ case-write c out number place k),
+  λ e. write-case c out number place (sym a.0 ∙ e),
+  λ k. a.0 ∙ case-write c out number place k,
 )
 
-pub write-refused : (c out left : List ℕ) (number place : ℕ) → WritesExport c out (Refused number place) left → left ≡ out
+pub write-refused : (c out left : List ℕ) (number place : ℕ) (r : Counted) → Refuses r number place → WritesExport c out r left → left ≡ out
 unfolding write_outcome
-write-refused c out left number place a = a.1 ∙ (leaves-refused (accepted c (rest c out)) out (sym a.0)).1
+write-refused c out left number place r e a = a.1 ∙ (leaves-refused (accepted c (rest c out)) out (sym a.0 ∙ e)).1

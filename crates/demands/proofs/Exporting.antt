@@ -1,9 +1,9 @@
 -- Exports: what was read is a capture of the records, and what was written is read back as the capture with its NOPs.
-use Prim.Native.Nat.{ℕ, zero, suc, ◌+◌, ◌-◌, ◌*◌, ◌^◌, ◌≤◌, ◌<◌}
-use mathlib.Core.Bool.{Bool, true, false}
+use Prim.Native.Nat.{ℕ, ◌+◌, ◌-◌, ◌*◌, ◌^◌, ◌≤◌, ◌<◌}
+use mathlib.Core.Bool.{Bool, true}
 use mathlib.Core.List.{List, [], ◌∷◌}
 use mathlib.Core.Logic.{◌⊎◌, inl, inr}
-use mathlib.Core.Option.{Option, none, some}
+use mathlib.Core.Option.{none}
 use mathlib.Core.Path.{◌≡◌, refl, sym, ap, ◌∙◌, subst}
 use native.Mathlib.Omega.{arith}
 use lib.ListN.{length, take, drop}
@@ -17,7 +17,7 @@ use Rattle.reading.specs.Rules.{rule14}
 use Rattle.reading.specs.Search as search
 use Rattle.reading.specs.Verdict as is
 use Rattle.reading.specs.Schedule.{capture_in}
-use Rattle.reading.specs.Answers.{Answer, Report, refused, answered, unless, accepted, settings_in, judge_answer, fitting, leaves}
+use Rattle.reading.specs.Answers.{Answer, Report, answered, unless, accepted, settings_in, judge_answer, fitting, leaves}
 use Rattle.reading.specs.Export.{record_count, records_of, bad_export, bad_pins, read_outcome, between, nop, bridged_from, bridged, added_from, added_before, last_before, export_of, first_cycle, unwritable, write_outcome, late_nop, late_or}
 use Rattle.reading.proofs.Meaning.{event_of, part_before, verdict-clean, verdict-broken}
 use Rattle.reading.proofs.Laws.{not-given}
@@ -26,27 +26,21 @@ use Rattle.reading.proofs.Nops.{High}
 use Rattle.words.proofs.Bytes.{Bytes}
 use Rattle.capture.proofs.Outcome as outcome
 use Rattle.capture.proofs.Outcome.{Wrote, passed, fits, room, lacking, leaves-refused}
-use Rattle.capture.proofs.Accepted.{accepted-sound, accepted-rest, answered-in, words_count}
+use Rattle.capture.proofs.Accepted.{answered-in, words_count}
 use Rattle.capture.proofs.Rising.{Rises, Low}
 use Rattle.capture.proofs.Whole as whole
 use Rattle.capture.proofs.Whole.{Orderly}
 use Rattle.plan.proofs.Awake.{cke-high}
-use Rattle.judge.specs.declared.Verdict.{Verdict}
-use Rattle.judge.specs.declared.Verdict.TheVariants.{Clean, Broken}
-use Rattle.judge.specs.Meaning as judged
-use Rattle.exports.specs.declared.Converted.{Converted}
-use Rattle.exports.specs.declared.Converted.TheVariants.{Refused, Written}
-use Rattle.exports.specs.Meaning.{means}
-use Rattle.exports.proofs.Unique as one
-use Rattle.exports.proofs.Incoming as incoming
 use Rattle.exports.proofs.Incoming.{whole-records, records-count}
 use Rattle.exports.proofs.Bridges.{bridged-length, export-length}
 use Rattle.exports.proofs.Records as records
 use Rattle.exports.proofs.Back.{Near, points-rise, points-low, near-bridged, bridged-near, all-rise, bridged-low, records-back, export-fine, pins-fine, near-orderly}
-use Rattle.demands.specs.Allowed.{Judges, ReadsExport, WritesExport}
-use Rattle.demands.specs.Refused.{Accepted, Fine}
+use Rattle.std.specs.Prelude.{Ok}
+use Rattle.refusal.proofs.Unique.{one_count}
+use Rattle.demands.specs.Allowed.{Judged, Counted, says, tells_clean, tells_broken, Refuses, Judges, ReadsExport, WritesExport}
+use Rattle.demands.specs.Refused.{Accepted}
 use Rattle.demands.specs.Exports.{Known, Exportable, with_nops, events_with_nops}
-use Rattle.demands.proofs.Judging.{one_answer, clean-means-clean, broken-means-broken}
+use Rattle.demands.proofs.Judging.{clean-means-clean, broken-means-broken}
 use Rattle.demands.proofs.Converting.{read_answer, right, right_is, rest, writable, exportable}
 
 -- what a call wrote stands in front
@@ -63,7 +57,7 @@ record Read (x ws : List ℕ) (edition : ℕ) (out left : List ℕ) (n : ℕ) : 
   long : n ≡ capture_size 14 (record_count x)
   behind : drop n left ≡ drop n out
 
-module _ (x ws : List ℕ) (edition : ℕ) (out left : List ℕ) (n : ℕ) (a : ReadsExport x ws edition out (Written n) left) where
+module _ (x ws : List ℕ) (edition : ℕ) (out left : List ℕ) (n : ℕ) (a : ReadsExport x ws edition out (Ok n) left) where
   was_read : Read x ws edition out left n
   unfolding read_outcome
   was_read =
@@ -86,15 +80,15 @@ module _ (x ws : List ℕ) (edition : ℕ) (out left : List ℕ) (n : ℕ) (a : 
       }
 
 -- What is read is the records as a capture of those settings and that edition, byte for byte.
-pub read_whole : (x ws : List ℕ) (edition : ℕ) (out left : List ℕ) (n : ℕ) → ReadsExport x ws edition out (Written n) left →
+pub read_whole : (x ws : List ℕ) (edition : ℕ) (out left : List ℕ) (n : ℕ) → ReadsExport x ws edition out (Ok n) left →
     (take n left ≡ capture_in edition ws (records_of x)) × (n ≡ capture_size 14 (record_count x))
 read_whole x ws edition out left n a = let r = was_read x ws edition out left n a in (r.is, r.long)
 
 -- Bytes of the buffer behind what was read stay.
-pub read_behind : (x ws : List ℕ) (edition : ℕ) (out left : List ℕ) (n : ℕ) → ReadsExport x ws edition out (Written n) left → drop n left ≡ drop n out
+pub read_behind : (x ws : List ℕ) (edition : ℕ) (out left : List ℕ) (n : ℕ) → ReadsExport x ws edition out (Ok n) left → drop n left ≡ drop n out
 read_behind x ws edition out left n a = (was_read x ws edition out left n a).behind
 
-module _ (x ws : List ℕ) (edition : ℕ) (out left : List ℕ) (n : ℕ) (a : ReadsExport x ws edition out (Written n) left) (bytes : Bytes x) where
+module _ (x ws : List ℕ) (edition : ℕ) (out left : List ℕ) (n : ℕ) (a : ReadsExport x ws edition out (Ok n) left) (bytes : Bytes x) where
   read : Read x ws edition out left n
   read = was_read x ws edition out left n a
 
@@ -107,20 +101,20 @@ module _ (x ws : List ℕ) (edition : ℕ) (out left : List ℕ) (n : ℕ) (a : 
   captured-read rest = ap (λ (c : List ℕ). accepted c rest) read.is ∙ whole.captured made rest
 
 -- What is read is accepted; its events are the records, its settings and edition those that were given.
-pub read-accepted : (x ws : List ℕ) (edition : ℕ) (out left : List ℕ) (n : ℕ) → ReadsExport x ws edition out (Written n) left → Bytes x →
+pub read-accepted : (x ws : List ℕ) (edition : ℕ) (out left : List ℕ) (n : ℕ) → ReadsExport x ws edition out (Ok n) left → Bytes x →
     Accepted (take n left)
 read-accepted x ws edition out left n a b = captured-read x ws edition out left n a b (answered tt)
 
-pub read-events : (x ws : List ℕ) (edition : ℕ) (out left : List ℕ) (n : ℕ) → ReadsExport x ws edition out (Written n) left → Bytes x →
+pub read-events : (x ws : List ℕ) (edition : ℕ) (out left : List ℕ) (n : ℕ) → ReadsExport x ws edition out (Ok n) left → Bytes x →
     events_of (take n left) ≡ records_of x
 read-events x ws edition out left n a b = ap events_of (read x ws edition out left n a b).is ∙ whole.events-back (made x ws edition out left n a b)
 
-pub read-settings : (x ws : List ℕ) (edition : ℕ) (out left : List ℕ) (n : ℕ) → ReadsExport x ws edition out (Written n) left → Bytes x →
+pub read-settings : (x ws : List ℕ) (edition : ℕ) (out left : List ℕ) (n : ℕ) → ReadsExport x ws edition out (Ok n) left → Bytes x →
     settings_in (take n left) ≡ in_edition edition (settings_of ws)
 read-settings x ws edition out left n a b =
     ap settings_in (read x ws edition out left n a b).is ∙ whole.captured-settings (made x ws edition out left n a b)
 
-pub read-given : (x ws : List ℕ) (edition : ℕ) (out left : List ℕ) (n : ℕ) → ReadsExport x ws edition out (Written n) left → Bytes x →
+pub read-given : (x ws : List ℕ) (edition : ℕ) (out left : List ℕ) (n : ℕ) → ReadsExport x ws edition out (Ok n) left → Bytes x →
     (setting_words (take n left) ≡ ws) × (edition_in (take n left) ≡ edition)
 read-given x ws edition out left n a b =
     let same = (read x ws edition out left n a b).is in (
@@ -137,7 +131,7 @@ record Exported (c out left : List ℕ) (n : ℕ) : Type 0 where
   long : n ≡ 6 * events_with_nops c
   behind : drop n left ≡ drop n out
 
-module _ (c out left : List ℕ) (n : ℕ) (a : WritesExport c out (Written n) left) where
+module _ (c out left : List ℕ) (n : ℕ) (a : WritesExport c out (Ok n) left) where
   was-written : Exported c out left n
   unfolding write_outcome
   was-written =
@@ -154,12 +148,12 @@ module _ (c out left : List ℕ) (n : ℕ) (a : WritesExport c out (Written n) l
       }
 
 -- What is written is the events and those NOPs as records, byte for byte.
-pub write-whole : (c out left : List ℕ) (n : ℕ) → WritesExport c out (Written n) left →
+pub write-whole : (c out left : List ℕ) (n : ℕ) → WritesExport c out (Ok n) left →
     (take n left ≡ export_of (bridged (events_of c))) × (n ≡ 6 * events_with_nops c)
 write-whole c out left n a = let w = was-written c out left n a in (w.is, w.long)
 
 -- Bytes of the buffer behind what was written stay.
-pub write-behind : (c out left : List ℕ) (n : ℕ) → WritesExport c out (Written n) left → drop n left ≡ drop n out
+pub write-behind : (c out left : List ℕ) (n : ℕ) → WritesExport c out (Ok n) left → drop n left ≡ drop n out
 write-behind c out left n a = (was-written c out left n a).behind
 
 -- ---- the events with their NOPs
@@ -238,7 +232,7 @@ module _ (c : List ℕ) (open-to : Accepted c) (may : Exportable c) where
 
 -- ---- written, then read back under the capture's own settings and edition
 
-module _ (c out left : List ℕ) (n : ℕ) (a : WritesExport c out (Written n) left) (lent back : List ℕ) (r : Converted)
+module _ (c out left : List ℕ) (n : ℕ) (a : WritesExport c out (Ok n) left) (lent back : List ℕ) (r : Counted)
     (b : ReadsExport (take n left) (setting_words c) (edition_in c) lent r back) where
   exported : Exported c out left n
   exported = was-written c out left n a
@@ -253,34 +247,34 @@ module _ (c out left : List ℕ) (n : ℕ) (a : WritesExport c out (Written n) l
   full_is = size c exported.open-to exported.may
 
 -- Reading back what was written is refused by number 7 alone.
-pub read-back-refused : (c out left : List ℕ) (n : ℕ) → WritesExport c out (Written n) left → (lent back : List ℕ) (r : Converted) →
-    ReadsExport (take n left) (setting_words c) (edition_in c) lent r back → (number place : ℕ) → r ≡ Refused number place →
+pub read-back-refused : (c out left : List ℕ) (n : ℕ) → WritesExport c out (Ok n) left → (lent back : List ℕ) (r : Counted) →
+    ReadsExport (take n left) (setting_words c) (edition_in c) lent r back → (number place : ℕ) → Refuses r number place →
     (number ≡ 7) × (place ≡ capture_size 14 (events_with_nops c)) × (length lent < place)
 read-back-refused c out left n a lent back r b number place e =
     let full = full_is c out left n a lent back r b in
-    let told = sym (ap (λ o. o.answer) (outcome-is c out left n a lent back r b)) ∙ sym b.0 ∙ ap means e in
+    let told = sym (ap (λ o. o.answer) (outcome-is c out left n a lent back r b)) ∙ sym b.0 ∙ e in
     let (k, p, l) = lacking lent (with_nops c) (leaves-refused (fitting lent (with_nops c)) lent told).0 in
     (k, p ∙ full, omega arith)
 
 -- Else it gives the capture with those NOPs.
-pub read_back : (c out left : List ℕ) (n : ℕ) → WritesExport c out (Written n) left → (lent back : List ℕ) (r : Converted) →
+pub read_back : (c out left : List ℕ) (n : ℕ) → WritesExport c out (Ok n) left → (lent back : List ℕ) (r : Counted) →
     ReadsExport (take n left) (setting_words c) (edition_in c) lent r back → capture_size 14 (events_with_nops c) ≤ length lent →
-    (r ≡ Written (capture_size 14 (events_with_nops c))) × (take (capture_size 14 (events_with_nops c)) back ≡ with_nops c)
+    (r ≡ Ok (capture_size 14 (events_with_nops c))) × (take (capture_size 14 (events_with_nops c)) back ≡ with_nops c)
 read_back c out left n a lent back r b l =
     let full = full_is c out left n a lent back r b in
     let whole_is = outcome-is c out left n a lent back r b ∙ ap (λ (x : Answer (List ℕ)). leaves x lent) (room lent (with_nops c) (omega (arith, full))) in (
-      one.one_answer r (Written (capture_size 14 (events_with_nops c))) (b.0 ∙ ap (λ o. o.answer) whole_is ∙ ap answered full),
+      one_count r (Ok (capture_size 14 (events_with_nops c))) (b.0 ∙ ap (λ o. o.answer) whole_is ∙ ap answered full),
       ap (take (capture_size 14 (events_with_nops c))) (b.1 ∙ ap (λ o. o.buffer) whole_is) ∙ written-front (with_nops c) lent (sym full),
     )
 
 -- Where no NOP was needed it gives the very bytes.
-pub read-back-same : (c out left : List ℕ) (n : ℕ) → WritesExport c out (Written n) left → Bytes c → bridged (events_of c) ≡ events_of c → with_nops c ≡ c
+pub read-back-same : (c out left : List ℕ) (n : ℕ) → WritesExport c out (Ok n) left → Bytes c → bridged (events_of c) ≡ events_of c → with_nops c ≡ c
 read-back-same c out left n a bytes e =
     ap (capture_in (edition_in c) (setting_words c)) e ∙ whole.whole_again c (was-written c out left n a).open-to bytes
 
 -- ---- the verdict on a capture that was written, with its NOPs
 
-module _ (c out left : List ℕ) (n : ℕ) (a : WritesExport c out (Written n) left) where
+module _ (c out left : List ℕ) (n : ℕ) (a : WritesExport c out (Ok n) left) where
   w : Exported c out left n
   w = was-written c out left n a
 
@@ -300,7 +294,7 @@ module _ (c out left : List ℕ) (n : ℕ) (a : WritesExport c out (Written n) l
   saying v e = whole.captured-judged made-now ∙ ap report e
 
 -- It is accepted, with the same settings and edition.
-pub nops-accepted : (c out left : List ℕ) (n : ℕ) → WritesExport c out (Written n) left → Accepted (with_nops c)
+pub nops-accepted : (c out left : List ℕ) (n : ℕ) → WritesExport c out (Ok n) left → Accepted (with_nops c)
 nops-accepted c out left n a = whole.captured (made-now c out left n a) (answered tt)
 
 -- It has as many events more as NOPs were put between them.
@@ -308,22 +302,20 @@ pub nops-more : (c : List ℕ) → events_with_nops c ≡ length (events_of c) +
 nops-more c = added-all 0 (events_of c)
 
 -- Clean stays clean.
-pub clean-stays : (c out left : List ℕ) (n : ℕ) → WritesExport c out (Written n) left → Judges c (Clean (event_count c) (event_count c)) →
-    (q : Verdict) → Judges (with_nops c) q → q ≡ Clean (events_with_nops c) (events_with_nops c)
-clean-stays c out left n a j q k =
+pub clean-stays : (c out left : List ℕ) (n : ℕ) → WritesExport c out (Ok n) left →
+    (p : Judged) → Judges c p → says p ≡ tells_clean (event_count c) (event_count c) →
+    (q : Judged) → Judges (with_nops c) q → says q ≡ tells_clean (events_with_nops c) (events_with_nops c)
+clean-stays c out left n a p o j q k =
     let h = w c out left n a in
-    let kept = (clean-means-clean c h.open-to (Clean (event_count c) (event_count c)) j).0 refl in
-    one_answer (with_nops c) q (Clean (events_with_nops c) (events_with_nops c)) k
-    (sym
-    (saying c out left n a is.clean
-    (nops.still-clean (settings_in c) (events_of c) (high-now c out left n a) ((verdict-clean (settings_in c) (events_of c)).1 kept))))
+    let kept = (clean-means-clean c h.open-to p o).0 j in
+    k ∙ saying c out left n a is.clean
+    (nops.still-clean (settings_in c) (events_of c) (high-now c out left n a) ((verdict-clean (settings_in c) (events_of c)).1 kept))
 
-module _ (c out left : List ℕ) (n : ℕ) (a : WritesExport c out (Written n) left) (rule event cycle : ℕ)
-    (j : Judges c (Broken (event_count c) event rule event cycle)) where
+module _ (c out left : List ℕ) (n : ℕ) (a : WritesExport c out (Ok n) left) (rule event cycle : ℕ)
+    (p : Judged) (o : Judges c p) (j : says p ≡ tells_broken (event_count c) event rule event cycle) where
   reported : is.verdict_of (settings_in c) (events_of c) ≡ is.broken rule event cycle
   reported =
-      let r = Broken (event_count c) event rule event cycle in
-      let b = (broken-means-broken c (w c out left n a).open-to r j rule event cycle).0 refl in
+      let b = (broken-means-broken c (w c out left n a).open-to p o rule event cycle).0 j in
       (verdict-broken (settings_in c) (events_of c) rule event cycle).1 b
 
   abbrev up : ℕ
@@ -337,72 +329,72 @@ module _ (c out left : List ℕ) (n : ℕ) (a : WritesExport c out (Written n) l
 
 -- A broken event that keeps rule 14 is reported with the same rule and cycle; event and judged count are moved up by the NOPs
 -- before it.
-pub broken-moves-up : (c out left : List ℕ) (n : ℕ) → WritesExport c out (Written n) left → (rule event cycle : ℕ) →
-    Judges c (Broken (event_count c) event rule event cycle) →
+pub broken-moves-up : (c out left : List ℕ) (n : ℕ) → WritesExport c out (Ok n) left → (rule event cycle : ℕ) →
+    (p : Judged) → Judges c p → says p ≡ tells_broken (event_count c) event rule event cycle →
     rule14 (settings_in c) (part_before (settings_in c) (start (settings_in c)) (events_of c) event) cycle (command_of (event_of (events_of c) event).pins) ≡ true →
-    (q : Verdict) → Judges (with_nops c) q →
-    q ≡ Broken (events_with_nops c) (event + added_before (events_of c) event) rule (event + added_before (events_of c) event) cycle
-broken-moves-up c out left n a rule event cycle j kept q k =
+    (q : Judged) → Judges (with_nops c) q →
+    says q ≡ tells_broken (events_with_nops c) (event + added_before (events_of c) event) rule (event + added_before (events_of c) event) cycle
+broken-moves-up c out left n a rule event cycle p o j kept q k =
     let moved =
-    nops.moved_up (settings_in c) (events_of c) (high-now c out left n a) rule event cycle (reported c out left n a rule event cycle j) kept in
-    one_answer (with_nops c) q (Broken (events_with_nops c) _ rule _ cycle) k (sym (saying c out left n a _ moved))
+    nops.moved_up (settings_in c) (events_of c) (high-now c out left n a) rule event cycle (reported c out left n a rule event cycle p o j) kept in
+    k ∙ saying c out left n a _ moved
 
 -- Exactly what is reported, whichever rules it breaks: the first NOP between it and the event before at which more than eight
 -- refreshes are owed, with rule 14; or else the event.
-pub broken-exactly : (c out left : List ℕ) (n : ℕ) (a : WritesExport c out (Written n) left) (rule event cycle : ℕ) →
-    (j : Judges c (Broken (event_count c) event rule event cycle)) →
+pub broken-exactly : (c out left : List ℕ) (n : ℕ) (a : WritesExport c out (Ok n) left) (rule event cycle : ℕ) →
+    (p : Judged) (o : Judges c p) (j : says p ≡ tells_broken (event_count c) event rule event cycle) →
     is.verdict_of (settings_in (with_nops c)) (events_of (with_nops c)) ≡
-    late_or (late_nop (settings_in c) (clock c out left n a rule event cycle j) (before c out left n a rule event cycle j) cycle)
-    (before c out left n a rule event cycle j)
-    (up c out left n a rule event cycle j - between (before c out left n a rule event cycle j) cycle)
-    (is.broken rule (up c out left n a rule event cycle j) cycle)
-broken-exactly c out left n a rule event cycle j =
+    late_or (late_nop (settings_in c) (clock c out left n a rule event cycle p o j) (before c out left n a rule event cycle p o j) cycle)
+    (before c out left n a rule event cycle p o j)
+    (up c out left n a rule event cycle p o j - between (before c out left n a rule event cycle p o j) cycle)
+    (is.broken rule (up c out left n a rule event cycle p o j) cycle)
+broken-exactly c out left n a rule event cycle p o j =
     let made = made-now c out left n a in
     (λ i. is.verdict_of (whole.captured-settings made i) (whole.events-back made i))
-    ∙ nops.moved (settings_in c) (events_of c) (high-now c out left n a) rule event cycle (reported c out left n a rule event cycle j)
+    ∙ nops.moved (settings_in c) (events_of c) (high-now c out left n a) rule event cycle (reported c out left n a rule event cycle p o j)
 
 -- The judge says so, whatever it may answer.
-pub broken-told : (c out left : List ℕ) (n : ℕ) (a : WritesExport c out (Written n) left) (rule event cycle : ℕ)
-    (j : Judges c (Broken (event_count c) event rule event cycle)) (q : Verdict) → Judges (with_nops c) q →
-    judged.means q ≡
+pub broken-told : (c out left : List ℕ) (n : ℕ) (a : WritesExport c out (Ok n) left) (rule event cycle : ℕ)
+    (p : Judged) (o : Judges c p) (j : says p ≡ tells_broken (event_count c) event rule event cycle) (q : Judged) → Judges (with_nops c) q →
+    says q ≡
     report c out left n a
-    (late_or (late_nop (settings_in c) (clock c out left n a rule event cycle j) (before c out left n a rule event cycle j) cycle)
-    (before c out left n a rule event cycle j)
-    (up c out left n a rule event cycle j - between (before c out left n a rule event cycle j) cycle)
-    (is.broken rule (up c out left n a rule event cycle j) cycle))
-broken-told c out left n a rule event cycle j q k =
+    (late_or (late_nop (settings_in c) (clock c out left n a rule event cycle p o j) (before c out left n a rule event cycle p o j) cycle)
+    (before c out left n a rule event cycle p o j)
+    (up c out left n a rule event cycle p o j - between (before c out left n a rule event cycle p o j) cycle)
+    (is.broken rule (up c out left n a rule event cycle p o j) cycle))
+broken-told c out left n a rule event cycle p o j q k =
     k
     ∙ saying c out left n a _
-    (nops.moved (settings_in c) (events_of c) (high-now c out left n a) rule event cycle (reported c out left n a rule event cycle j))
+    (nops.moved (settings_in c) (events_of c) (high-now c out left n a) rule event cycle (reported c out left n a rule event cycle p o j))
 
 -- So it is reported, moved up; or one of the NOPs between it and the event before is, with rule 14.
-pub moved-or-late : (c out left : List ℕ) (n : ℕ) → WritesExport c out (Written n) left → (rule event cycle : ℕ) →
-    Judges c (Broken (event_count c) event rule event cycle) → (q : Verdict) → Judges (with_nops c) q →
-    (q ≡ Broken (events_with_nops c) (event + added_before (events_of c) event) rule (event + added_before (events_of c) event) cycle)
+pub moved-or-late : (c out left : List ℕ) (n : ℕ) → WritesExport c out (Ok n) left → (rule event cycle : ℕ) →
+    (p : Judged) → Judges c p → says p ≡ tells_broken (event_count c) event rule event cycle → (q : Judged) → Judges (with_nops c) q →
+    (says q ≡ tells_broken (events_with_nops c) (event + added_before (events_of c) event) rule (event + added_before (events_of c) event) cycle)
     ⊎ ((k : ℕ) × (k < between (last_before 0 (events_of c) event) cycle) ×
     (let at = event + added_before (events_of c) event - between (last_before 0 (events_of c) event) cycle + k in
-    q ≡ Broken (events_with_nops c) at 14 at (nop (last_before 0 (events_of c) event) k).cycle))
-moved-or-late c out left n a rule event cycle j q k =
+    says q ≡ tells_broken (events_with_nops c) at 14 at (nop (last_before 0 (events_of c) event) k).cycle))
+moved-or-late c out left n a rule event cycle p o j q k =
     go
-    (nops.moved-or-late (settings_in c) (events_of c) (high-now c out left n a) rule event cycle (reported c out left n a rule event cycle j))
+    (nops.moved-or-late (settings_in c) (events_of c) (high-now c out left n a) rule event cycle (reported c out left n a rule event cycle p o j))
   where
-    told : {v : is.Verdict} → is.verdict_of (settings_in c) (bridged (events_of c)) ≡ v → (p : Verdict) → judged.means p ≡ report c out left n a v → q ≡ p
-    told {v} e p f = one_answer (with_nops c) q p k (f ∙ sym (saying c out left n a v e))
+    told : {v : is.Verdict} → is.verdict_of (settings_in c) (bridged (events_of c)) ≡ v → says q ≡ report c out left n a v
+    told {v} e = k ∙ saying c out left n a v e
 
     go : (is.verdict_of (settings_in c) (bridged (events_of c)) ≡ is.broken rule (event + added_before (events_of c) event) cycle)
         ⊎ ((k : ℕ) × (k < between (last_before 0 (events_of c) event) cycle) ×
         (is.verdict_of (settings_in c) (bridged (events_of c)) ≡
         is.broken 14 (event + added_before (events_of c) event - between (last_before 0 (events_of c) event) cycle + k) (nop (last_before 0 (events_of c) event) k).cycle)) →
-        (q ≡ Broken (events_with_nops c) (event + added_before (events_of c) event) rule (event + added_before (events_of c) event) cycle)
+        (says q ≡ tells_broken (events_with_nops c) (event + added_before (events_of c) event) rule (event + added_before (events_of c) event) cycle)
         ⊎ ((k : ℕ) × (k < between (last_before 0 (events_of c) event) cycle) ×
         (let at = event + added_before (events_of c) event - between (last_before 0 (events_of c) event) cycle + k in
-        q ≡ Broken (events_with_nops c) at 14 at (nop (last_before 0 (events_of c) event) k).cycle))
-    go (inl e) = inl (told e _ refl)
-    go (inr (i, l, e)) = inr (i, l, told e _ refl)
+        says q ≡ tells_broken (events_with_nops c) at 14 at (nop (last_before 0 (events_of c) event) k).cycle))
+    go (inl e) = inl (told e)
+    go (inr (i, l, e)) = inr (i, l, told e)
 
 -- ---- read, then written
 
-module _ (x ws : List ℕ) (edition : ℕ) (out left : List ℕ) (n : ℕ) (a : ReadsExport x ws edition out (Written n) left) (bytes : Bytes x) where
+module _ (x ws : List ℕ) (edition : ℕ) (out left : List ℕ) (n : ℕ) (a : ReadsExport x ws edition out (Ok n) left) (bytes : Bytes x) where
   was : Read x ws edition out left n
   was = was_read x ws edition out left n a
 
@@ -438,20 +430,20 @@ module _ (x ws : List ℕ) (edition : ℕ) (out left : List ℕ) (n : ℕ) (a : 
       ∙ ap (fitting lent) export_is))
 
 -- Writing what was read gives every export back.
-pub write-back : (x ws : List ℕ) (edition : ℕ) (out left : List ℕ) (n : ℕ) → ReadsExport x ws edition out (Written n) left → Bytes x →
-    (lent back : List ℕ) (r : Converted) → WritesExport (take n left) lent r back → length x ≤ length lent →
-    (r ≡ Written (length x)) × (take (length x) back ≡ x)
+pub write-back : (x ws : List ℕ) (edition : ℕ) (out left : List ℕ) (n : ℕ) → ReadsExport x ws edition out (Ok n) left → Bytes x →
+    (lent back : List ℕ) (r : Counted) → WritesExport (take n left) lent r back → length x ≤ length lent →
+    (r ≡ Ok (length x)) × (take (length x) back ≡ x)
 write-back x ws edition out left n a bytes lent back r b l =
     let whole_is = writes-to x ws edition out left n a bytes lent ∙ ap (λ (y : Answer (List ℕ)). leaves y lent) (room lent x l) in (
-      one.one_answer r (Written (length x)) (b.0 ∙ ap (λ o. o.answer) whole_is),
+      one_count r (Ok (length x)) (b.0 ∙ ap (λ o. o.answer) whole_is),
       ap (take (length x)) (b.1 ∙ ap (λ o. o.buffer) whole_is) ∙ written-front x lent refl,
     )
 
 -- It is refused by number 7 alone, never by 12.
-pub write-back-refused : (x ws : List ℕ) (edition : ℕ) (out left : List ℕ) (n : ℕ) → ReadsExport x ws edition out (Written n) left → Bytes x →
-    (lent back : List ℕ) (r : Converted) → WritesExport (take n left) lent r back → (number place : ℕ) → r ≡ Refused number place →
+pub write-back-refused : (x ws : List ℕ) (edition : ℕ) (out left : List ℕ) (n : ℕ) → ReadsExport x ws edition out (Ok n) left → Bytes x →
+    (lent back : List ℕ) (r : Counted) → WritesExport (take n left) lent r back → (number place : ℕ) → Refuses r number place →
     (number ≡ 7) × (place ≡ length x) × (length lent < place)
 write-back-refused x ws edition out left n a bytes lent back r b number place e =
-    let told = sym (ap (λ o. o.answer) (writes-to x ws edition out left n a bytes lent)) ∙ sym b.0 ∙ ap means e in
+    let told = sym (ap (λ o. o.answer) (writes-to x ws edition out left n a bytes lent)) ∙ sym b.0 ∙ e in
     let (k, p, l) = lacking lent x (leaves-refused (fitting lent x) lent told).0 in
     (k, p, omega arith)

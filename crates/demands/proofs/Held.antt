@@ -1,8 +1,8 @@
 -- The public functions that hold a reference to a struct or a struct with one: what each
 -- contract ensures is one fact, an equation for the result and for each lent buffer as it is left. So any two results, and any
 -- two contents of a buffer, that it allows for the same arguments are equal.
-use Prim.Native.Nat.{ℕ, ◌+◌}
-use mathlib.Core.List.{List, map}
+use Prim.Native.Nat.{◌+◌}
+use mathlib.Core.List.{map}
 use mathlib.Core.Path.{◌≡◌, refl}
 use lib.ListN.{length}
 use seplogic.Ra.Ura.{Ura}
@@ -20,7 +20,6 @@ use Rattle.morgazell.specs.Packing.{packed, row_told}
 use Rattle.browser.specs.contracts.start as browser-start
 use Rattle.browser.specs.contracts.next as browser-next
 use Rattle.browser.specs.contracts.onward as browser-onward
-use Rattle.browser.specs.contracts.look as browser-look
 use Rattle.rows.specs.contracts.count as rows-count
 use Rattle.banks.specs.contracts.fill as banks-fill
 use Rattle.morgazell.specs.contracts.morgazell_open_row as morgazell-morgazell-open-row
@@ -38,17 +37,13 @@ module _ {M : Type 1} {𝓤 : Ura M} (𝓛 : Logic 𝓤) (mem : Memory → SProp
       (browser-onward.clauses 𝓛 mem run κs a).ensures g z e ≡ fact 𝓤 ((z.capture ≡ a.0.capture) × (z.at ≡ a.0.at + 1))
   browser-onward-says κs a g z e = refl
 
-  pub browser-look-says : (κs : _) (a : _) (g : _) (z : _) (e : _) →
-      (browser-look.clauses 𝓛 mem run κs a).ensures g z e ≡ fact 𝓤 (z ≡ seen_at a.0.now a.1.0)
-  browser-look-says κs a g z e = refl
-
   pub rows-count-says : (κs : _) (a : _) (g : _) (z : _) (e : _) →
       (rows-count.clauses 𝓛 mem run κs a).ensures g z e ≡ fact 𝓤 (z ≡ tallied_from a.0.now none_yet 0 a.1.0)
   rows-count-says κs a g z e = refl
 
   pub banks-fill-says : (κs : _) (a : _) (g : _) (z : _) (e : _) →
       (banks-fill.clauses 𝓛 mem run κs a).ensures g z e ≡
-      fact 𝓤 (e.0.now ≡ filled_from a.1.0 a.0.now 0 (lesser (length a.0.now) 4))
+      fact 𝓤 (e.0.now ≡ filled_from a.1.0.now a.0.now 0 (lesser (length a.0.now) 4))
   banks-fill-says κs a g z e = refl
 
   pub morgazell-morgazell-open-row-says : (κs : _) (a : _) (g : _) (z : _) (e : _) →

@@ -2,7 +2,7 @@
 -- asked about those of a broken one. With fourteen settings and with sixteen, of either edition.
 use Prim.Native.Nat.{ℕ, ◌≤◌, ◌<◌}
 use mathlib.Core.List.{List}
-use mathlib.Core.Path.{◌≡◌, refl, sym, ap, ◌∙◌}
+use mathlib.Core.Path.{◌≡◌, ap, ◌∙◌}
 use native.Mathlib.Omega.{arith}
 use lib.ListN.{length, take, length-take}
 use lib.Seq.{get_or-take, take-take, take-length}
@@ -16,12 +16,10 @@ use Rattle.reading.proofs.Meaning.{Unbroken, verdict-clean}
 use Rattle.words.proofs.Bytes.{Bytes}
 use Rattle.capture.proofs.Whole as whole
 use Rattle.capture.proofs.Whole.{Whole}
-use Rattle.judge.specs.declared.Verdict.{Verdict}
-use Rattle.judge.specs.declared.Verdict.TheVariants.{Clean, Broken}
-use Rattle.demands.specs.Allowed.{Judges}
+use Rattle.demands.specs.Allowed.{Judged, says, tells_clean, tells_broken, Judges}
 use Rattle.demands.specs.Refused.{Accepted}
 use Rattle.demands.specs.Judged.{first_events}
-use Rattle.demands.proofs.Judging.{one_answer, broken-means-broken}
+use Rattle.demands.proofs.Judging.{broken-means-broken}
 
 -- events that break no rule break none by themselves
 first-unbroken : (s : Settings) (es : List Event) (k : ℕ) → k ≤ length es → Unbroken s (start s) es k → is.verdict_of s (take k es) ≡ is.clean
@@ -38,14 +36,12 @@ module _ (capture : List ℕ) (open-to : Accepted capture) (k : ℕ) (l : k ≤ 
       let w = whole.accepted-whole capture open-to in
       record { known = w.known; all = w.all; right = w.right; orderly = whole.first-orderly k (events_of capture) l w.orderly }
 
-  first-judged : Unbroken (settings_in capture) (start (settings_in capture)) (events_of capture) k → (q : Verdict) → Judges (first_events k capture) q →
-      q ≡ Clean k k
+  first-judged : Unbroken (settings_in capture) (start (settings_in capture)) (events_of capture) k → (q : Judged) → Judges (first_events k capture) q →
+      says q ≡ tells_clean k k
   first-judged u q a =
-      one_answer (first_events k capture) q (Clean k k) a
-      (sym
-      (whole.captured-judged first-whole
+      a ∙ whole.captured-judged first-whole
       ∙ ap (λ (v : is.Verdict). report (length (take k (events_of capture))) v) (first-unbroken (settings_in capture) (events_of capture) k l u)
-      ∙ ap (λ (n : ℕ). report n is.clean) size))
+      ∙ ap (λ (n : ℕ). report n is.clean) size
     where
       report : ℕ → is.Verdict → Answer Report
       report n v = answered (record { events = n; judged = is.judged_of n v; verdict = v })
@@ -66,22 +62,23 @@ pub first-events : (capture : List ℕ) → Accepted capture → (k : ℕ) → k
 first-events capture open-to k l = whole.events-back (first-whole capture open-to k l)
 
 module _ (capture : List ℕ) (open-to : Accepted capture) (rule event cycle : ℕ)
-    (broken : Judges capture (Broken (event_count capture) event rule event cycle)) where
+    (r : Judged) (allowed : Judges capture r) (broken : says r ≡ tells_broken (event_count capture) event rule event cycle) where
   before : Unbroken (settings_in capture) (start (settings_in capture)) (events_of capture) event × (event ≤ length (events_of capture))
   before =
-      let b = (broken-means-broken capture open-to (Broken (event_count capture) event rule event cycle) broken rule event cycle).0 refl in
+      let b = (broken-means-broken capture open-to r allowed rule event cycle).0 broken in
       (b.before, omega (arith, b.there))
 
 -- The judged events of a broken capture, as a capture of their own, are accepted and clean, every one of them judged.
 pub judged-accepted : (capture : List ℕ) → Accepted capture → (rule event cycle : ℕ) →
-    Judges capture (Broken (event_count capture) event rule event cycle) → Accepted (first_events event capture)
-judged-accepted capture open-to rule event cycle broken =
-    first-accepted capture open-to event (before capture open-to rule event cycle broken).1
+    (r : Judged) → Judges capture r → says r ≡ tells_broken (event_count capture) event rule event cycle → Accepted (first_events event capture)
+judged-accepted capture open-to rule event cycle r allowed broken =
+    first-accepted capture open-to event (before capture open-to rule event cycle r allowed broken).1
 
 pub judged-are-clean : (capture : List ℕ) → Accepted capture → (rule event cycle : ℕ) →
-    Judges capture (Broken (event_count capture) event rule event cycle) → (q : Verdict) → Judges (first_events event capture) q → q ≡ Clean event event
-judged-are-clean capture open-to rule event cycle broken =
-    let (none, few) = before capture open-to rule event cycle broken in first-judged capture open-to event few none
+    (r : Judged) → Judges capture r → says r ≡ tells_broken (event_count capture) event rule event cycle →
+    (q : Judged) → Judges (first_events event capture) q → says q ≡ tells_clean event event
+judged-are-clean capture open-to rule event cycle r allowed broken =
+    let (none, few) = before capture open-to rule event cycle r allowed broken in first-judged capture open-to event few none
 
 -- All events of an accepted capture are the capture itself.
 pub all-events : (capture : List ℕ) → Bytes capture → Accepted capture → first_events (length (events_of capture)) capture ≡ capture

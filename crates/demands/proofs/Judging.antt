@@ -23,42 +23,24 @@ use Rattle.words.proofs.Counting.{at_count}
 use Rattle.capture.specs.Calls.{AcceptedTo, Accepted}
 use Rattle.capture.proofs.Accepted.{rest-to, answered-in, accepted-sound, length-count}
 use Rattle.plan.proofs.Awake.{cke-high, awake-allowed, awake-stays}
-use Rattle.judge.specs.declared.Verdict.{Verdict}
-use Rattle.judge.specs.declared.Verdict.TheVariants as said
-use Rattle.judge.specs.Meaning.{means}
-use Rattle.demands.specs.Allowed.{JudgesTo, Judges}
+use Rattle.judge.proofs.Unique.{one_verdict}
+use Rattle.demands.specs.Allowed.{Judged, says, tells_clean, tells_broken, JudgesTo, Judges}
 use Rattle.demands.specs.Refused.{Clean, Broken}
 
--- the result that an answer of document 01 comes from
-report_of : Answer Report → Verdict
-report_of (refused number place) = said.Refused number place
-report_of (answered r) = found r.verdict
-  where
-    found : is.Verdict → Verdict
-    found is.clean = said.Clean r.events r.judged
-    found (is.broken rule event cycle) = said.Broken r.events r.judged rule event cycle
-
-back : (r : Verdict) → report_of (means r) ≡ r
-unfolding report_of
-back (said.Refused number place) = refl
-back (said.Clean events judged) = refl
-back (said.Broken events judged rule event cycle) = refl
-
 -- where there may be any number of events
-pub one-answer-to : (most : ℕ) (capture : List ℕ) (r q : Verdict) → JudgesTo most capture r → JudgesTo most capture q → r ≡ q
-one-answer-to most capture r q a b = sym (back r) ∙ ap report_of (a ∙ sym b) ∙ back q
+pub one-answer-to : (most : ℕ) (capture : List ℕ) (r q : Judged) → JudgesTo most capture r → JudgesTo most capture q → r ≡ q
+one-answer-to most capture r q a b = one_verdict r q (a ∙ sym b)
 
 -- Demand 1: one answer for every byte string. Any two results that the contract allows are equal.
-pub one_answer : (capture : List ℕ) (r q : Verdict) → Judges capture r → Judges capture q → r ≡ q
+pub one_answer : (capture : List ℕ) (r q : Judged) → Judges capture r → Judges capture q → r ≡ q
 one_answer = one-answer-to most_events
 
 -- a capture whose every event was judged and kept the rules, of however many events
-pub judged-clean : (capture : List ℕ) (n : ℕ) (r : Verdict) → Judges capture r →
-    judge_answer capture ≡ answered (record { events = n; judged = n; verdict = is.clean }) →
-    r ≡ said.Clean (event_count capture) (event_count capture)
+pub judged-clean : (capture : List ℕ) (n : ℕ) (r : Judged) → Judges capture r → judge_answer capture ≡ tells_clean n n →
+    says r ≡ tells_clean (event_count capture) (event_count capture)
 unfolding judge_answer_to
 judged-clean capture n r a h =
-    one_answer capture r (said.Clean n n) a (sym h) ∙ ap (λ (k : ℕ). said.Clean k k) (sym (ap events_of_answer (answered-in most_events capture _ h).1))
+    a ∙ h ∙ ap (λ (k : ℕ). tells_clean k k) (sym (ap events_of_answer (answered-in most_events capture _ h).1))
   where
     events_of_answer : Answer Report → ℕ
     events_of_answer (refused number place) = 0
@@ -68,7 +50,7 @@ verdict_of_answer : Answer Report → is.Verdict
 verdict_of_answer (refused number place) = is.clean
 verdict_of_answer (answered r) = r.verdict
 
-module _ (most : ℕ) (capture : List ℕ) (open-to : AcceptedTo most capture) (r : Verdict) (allowed : JudgesTo most capture r) where
+module _ (most : ℕ) (capture : List ℕ) (open-to : AcceptedTo most capture) (r : Judged) (allowed : JudgesTo most capture r) where
   abbrev s : Settings
   s = settings_in capture
 
@@ -79,54 +61,47 @@ module _ (most : ℕ) (capture : List ℕ) (open-to : AcceptedTo most capture) (
   report v = answered (record { events = event_count capture; judged = is.judged_of (event_count capture) v; verdict = v })
 
   -- what is reported is the verdict on the events
-  reported : means r ≡ report (is.verdict_of s es)
+  reported : says r ≡ report (is.verdict_of s es)
   unfolding judge_answer_to verdict_in
   reported = allowed ∙ rest-to most capture _ open-to
 
-  verdict-is : (v : is.Verdict) → means r ≡ report v ↔ is.verdict_of s es ≡ v
+  verdict-is : (v : is.Verdict) → says r ≡ report v ↔ is.verdict_of s es ≡ v
   unfolding verdict_of_answer
   verdict-is v = (λ e. ap verdict_of_answer (sym reported ∙ e), λ e. reported ∙ ap report e)
-
-  saying : (v : is.Verdict) (q : Verdict) → means q ≡ report v → r ≡ q ↔ is.verdict_of s es ≡ v
-  saying v q h = (
-    λ e. (verdict-is v).0 (ap means e ∙ h),
-    λ e. one-answer-to most capture r q allowed (h ∙ sym ((verdict-is v).1 e) ∙ allowed),
-  )
 
 pub through : {A B C : Type 0} → A ↔ B → B ↔ C → A ↔ C
 through p q = (λ a. q.0 (p.0 a), λ c. p.1 (q.1 c))
 
-pub clean-to : (most : ℕ) (capture : List ℕ) → AcceptedTo most capture → (r : Verdict) → JudgesTo most capture r →
-    r ≡ said.Clean (event_count capture) (event_count capture) ↔ Clean capture
+pub clean-to : (most : ℕ) (capture : List ℕ) → AcceptedTo most capture → (r : Judged) → JudgesTo most capture r →
+    says r ≡ tells_clean (event_count capture) (event_count capture) ↔ Clean capture
 clean-to most capture open-to r allowed =
-    through (saying most capture open-to r allowed is.clean (said.Clean (event_count capture) (event_count capture)) refl)
-    (verdict-clean (settings_in capture) (events_of capture))
+    through (verdict-is most capture open-to r allowed is.clean) (verdict-clean (settings_in capture) (events_of capture))
 
-pub broken-to : (most : ℕ) (capture : List ℕ) → AcceptedTo most capture → (r : Verdict) → JudgesTo most capture r → (rule event cycle : ℕ) →
-    r ≡ said.Broken (event_count capture) event rule event cycle ↔ Broken capture rule event cycle
+pub broken-to : (most : ℕ) (capture : List ℕ) → AcceptedTo most capture → (r : Judged) → JudgesTo most capture r → (rule event cycle : ℕ) →
+    says r ≡ tells_broken (event_count capture) event rule event cycle ↔ Broken capture rule event cycle
 broken-to most capture open-to r allowed rule event cycle =
-    through (saying most capture open-to r allowed (is.broken rule event cycle) (said.Broken (event_count capture) event rule event cycle) refl)
+    through (verdict-is most capture open-to r allowed (is.broken rule event cycle))
     (verdict-broken (settings_in capture) (events_of capture) rule event cycle)
 
 -- Demand 2: clean exactly when every event, after the events before it, breaks no rule; and then all were judged.
-pub clean-means-clean : (capture : List ℕ) → Accepted capture → (r : Verdict) → Judges capture r →
-    r ≡ said.Clean (event_count capture) (event_count capture) ↔ Clean capture
+pub clean-means-clean : (capture : List ℕ) → Accepted capture → (r : Judged) → Judges capture r →
+    says r ≡ tells_clean (event_count capture) (event_count capture) ↔ Clean capture
 clean-means-clean = clean-to most_events
 
 -- Demand 2: else the first event that breaks a rule, the lowest rule that it breaks, its cycle, and as many judged as stand before it.
-pub broken-means-broken : (capture : List ℕ) → Accepted capture → (r : Verdict) → Judges capture r → (rule event cycle : ℕ) →
-    r ≡ said.Broken (event_count capture) event rule event cycle ↔ Broken capture rule event cycle
+pub broken-means-broken : (capture : List ℕ) → Accepted capture → (r : Judged) → Judges capture r → (rule event cycle : ℕ) →
+    says r ≡ tells_broken (event_count capture) event rule event cycle ↔ Broken capture rule event cycle
 broken-means-broken = broken-to most_events
 
 -- ---- rules that are never told
 
 -- what is told of an event is so, whatever is told of the counts
-told-broken : (most : ℕ) (capture : List ℕ) → AcceptedTo most capture → {events judged rule event cycle : ℕ} →
-    JudgesTo most capture (said.Broken events judged rule event cycle) → Broken capture rule event cycle
+told-broken : (most : ℕ) (capture : List ℕ) → AcceptedTo most capture → (r : Judged) → JudgesTo most capture r →
+    {events judged rule event cycle : ℕ} → says r ≡ tells_broken events judged rule event cycle → Broken capture rule event cycle
 unfolding verdict_of_answer
-told-broken most capture open-to {events} {judged} {rule} {event} {cycle} a =
+told-broken most capture open-to r a {events} {judged} {rule} {event} {cycle} e =
     (verdict-broken (settings_in capture) (events_of capture) rule event cycle).0
-    (sym (ap verdict_of_answer (reported most capture open-to (said.Broken events judged rule event cycle) a)))
+    (ap verdict_of_answer (sym (reported most capture open-to r a) ∙ e))
 
 among : {r : ℕ} (f : ℕ → Bool) (rs : List ℕ) → every f rs ≡ true → Memᴰ r rs → f r ≡ true
 among f [] e m = absurd (Memᴰ.not-nil m)
@@ -136,15 +111,15 @@ among {r} f (x ∷ xs) e m = let (first, rest) = (and-eq-true_iff (f x) (every f
     go first ih (inl p) = ap f p ∙ first
     go first ih (inr n) = ih n
 
-pub never-6-to : (most : ℕ) (capture : List ℕ) → AcceptedTo most capture → (events judged event cycle : ℕ) →
-    JudgesTo most capture (said.Broken events judged 6 event cycle) → ⊥
-never-6-to most capture open-to events judged event cycle a =
-    let z : not (eqb 6 6) ≡ true = among (λ (x : ℕ). not (eqb x 6)) rules refl (told-broken most capture open-to a).breaks.rule in
+pub never-6-to : (most : ℕ) (capture : List ℕ) → AcceptedTo most capture → (r : Judged) → JudgesTo most capture r →
+    (events judged event cycle : ℕ) → says r ≡ tells_broken events judged 6 event cycle → ⊥
+never-6-to most capture open-to r a events judged event cycle b =
+    let z : not (eqb 6 6) ≡ true = among (λ (x : ℕ). not (eqb x 6)) rules refl (told-broken most capture open-to r a b).breaks.rule in
     let n : ◌≡◌ {A = ℕ} 0 1 = cc in absurd (omega arith)
 
 -- No accepted capture is told to break rule 6.
-pub never-rule-6 : (capture : List ℕ) → Accepted capture → (events judged event cycle : ℕ) →
-    Judges capture (said.Broken events judged 6 event cycle) → ⊥
+pub never-rule-6 : (capture : List ℕ) → Accepted capture → (r : Judged) → Judges capture r →
+    (events judged event cycle : ℕ) → says r ≡ tells_broken events judged 6 event cycle → ⊥
 never-rule-6 = never-6-to most_events
 
 -- a part that never slept stays awake through events with CKE high
@@ -167,10 +142,10 @@ pins-below most capture open-to e j l =
     let limit : pin_limit capture ≡ 2 ^ 20 = ap (λ (k : ℕ). cond (eqb k 16) (2 ^ 21) (2 ^ 20)) e in
     rw (there, ← limit) ((accepted-sound capture open-to).pins j within)
 
-pub never-15-to : (most : ℕ) (capture : List ℕ) → AcceptedTo most capture → header_word capture 1 ≡ 14 → (events judged event cycle : ℕ) →
-    JudgesTo most capture (said.Broken events judged 15 event cycle) → ⊥
-never-15-to most capture open-to fourteen events judged event cycle a =
-    let b = told-broken most capture open-to a in
+pub never-15-to : (most : ℕ) (capture : List ℕ) → AcceptedTo most capture → header_word capture 1 ≡ 14 → (r : Judged) → JudgesTo most capture r →
+    (events judged event cycle : ℕ) → says r ≡ tells_broken events judged 15 event cycle → ⊥
+never-15-to most capture open-to fourteen r a events judged event cycle e =
+    let b = told-broken most capture open-to r a e in
     let s = settings_in capture in
     let es = events_of capture in
     let pins = pins-below most capture open-to fourteen in
@@ -182,6 +157,6 @@ never-15-to most capture open-to fourteen events judged event cycle a =
     let n : ◌≡◌ {A = ℕ} 0 1 = cc in absurd (omega arith)
 
 -- With fourteen settings no accepted capture is told to break rule 15.
-pub never-rule-15 : (capture : List ℕ) → Accepted capture → header_word capture 1 ≡ 14 → (events judged event cycle : ℕ) →
-    Judges capture (said.Broken events judged 15 event cycle) → ⊥
+pub never-rule-15 : (capture : List ℕ) → Accepted capture → header_word capture 1 ≡ 14 → (r : Judged) → Judges capture r →
+    (events judged event cycle : ℕ) → says r ≡ tells_broken events judged 15 event cycle → ⊥
 never-rule-15 = never-15-to most_events

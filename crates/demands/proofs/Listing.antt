@@ -1,6 +1,6 @@
 -- Demand 2, for `cells::burst_cells`: the cells of every burst of a clean capture, and their order.
 use Prim.Native.Nat.{ℕ, ◌+◌, ◌*◌, ◌/◌, ◌%◌, ◌≤◌, ◌<◌}
-use mathlib.Core.List.{List, [], ◌∷◌, ◌++◌, append_assoc}
+use mathlib.Core.List.{List, ◌∷◌, ◌++◌, append_assoc}
 use mathlib.Core.Path.{◌≡◌, sym, ap, ◌∙◌}
 use native.Mathlib.Nat.{zero-add}
 use native.Mathlib.Omega.{arith}
@@ -17,12 +17,11 @@ use Rattle.reading.proofs.Tables.{table_row, row-published}
 use Rattle.reading.proofs.Beats.{cells-append}
 use Rattle.capture.proofs.Outcome as outcomes
 use Rattle.capture.proofs.Accepted.{accepted-rest}
-use Rattle.cells.specs.declared.Listed.{Listed}
-use Rattle.cells.specs.declared.Listed.TheVariants as listed
 use Rattle.beats.proofs.Sums.{burst-length, cells-length}
-use Rattle.cells.proofs.Unique.{one_answer}
+use Rattle.std.specs.Prelude.{Ok}
+use Rattle.refusal.proofs.Unique.{one_count}
 use Rattle.words.proofs.Counting.{at_count}
-use Rattle.demands.specs.Allowed.{Lists}
+use Rattle.demands.specs.Allowed.{Counted, Lists}
 use Rattle.demands.specs.Refused.{Accepted, Clean}
 
 -- ---- the cells of bursts
@@ -64,20 +63,20 @@ module _ (capture out : List ℕ) (accepted : Accepted capture) (clean : Clean c
 
 -- A clean capture, with room for its cells: as many are written as there are kept beats.
 pub cells-counted : (capture out : List ℕ) → Accepted capture → Clean capture → length (cells_in capture) ≤ length out →
-    (r : Listed) (left : List ℕ) → Lists capture out r left → r ≡ listed.Written (beats_of (bursts_of (settings_in capture) (events_of capture)))
+    (r : Counted) (left : List ℕ) → Lists capture out r left → r ≡ Ok (beats_of (bursts_of (settings_in capture) (events_of capture)))
 unfolding cells_in
 cells-counted capture out accepted clean room r left allowed =
-    one_answer r (listed.Written (length (cells_in capture))) (allowed.0 ∙ ap (λ (o : Outcome). o.answer) (outcome capture out accepted clean room))
-    ∙ ap listed.Written (cells-length (settings_in capture) (bursts_of (settings_in capture) (events_of capture)))
+    one_count r (Ok (length (cells_in capture))) (allowed.0 ∙ ap (λ (o : Outcome). o.answer) (outcome capture out accepted clean room))
+    ∙ ap Ok (cells-length (settings_in capture) (bursts_of (settings_in capture) (events_of capture)))
 
 -- They stand from the front of the buffer on; what lies behind them stays.
 pub cells-there : (capture out : List ℕ) → Accepted capture → Clean capture → length (cells_in capture) ≤ length out →
-    (r : Listed) (left : List ℕ) → Lists capture out r left → left ≡ cells_in capture ++ drop (length (cells_in capture)) out
+    (r : Counted) (left : List ℕ) → Lists capture out r left → left ≡ cells_in capture ++ drop (length (cells_in capture)) out
 cells-there capture out accepted clean room r left allowed = allowed.1 ∙ ap (λ (o : Outcome). o.buffer) (outcome capture out accepted clean room)
 
 -- Beat j of a burst stands behind the kept beats of the bursts given before it, and is the cell of that beat.
 pub beat-listed : (capture out : List ℕ) → Accepted capture → Clean capture → length (cells_in capture) ≤ length out →
-    (r : Listed) (left : List ℕ) → Lists capture out r left →
+    (r : Counted) (left : List ℕ) → Lists capture out r left →
     (xs : List Burst) (x : Burst) (ys : List Burst) → bursts_of (settings_in capture) (events_of capture) ≡ xs ++ x ∷ ys → (j : ℕ) → j < 2 * x.n →
     get_or left (beats_of xs + j) 0 ≡ beat_cell (settings_in capture) x j
 unfolding cells_in

@@ -9,10 +9,10 @@ use lib.ListN.{length, take}
 use Rattle.reading.specs.Capture.{header_word}
 use Rattle.reading.specs.Month as month
 use Rattle.reading.specs.Month.{line_of, totals_of, events_told, judged_told, ends_stream, behind, month_from, month_of}
-use Rattle.cells.specs.declared.Listed.TheVariants as listed
 use Rattle.monthly.specs.declared.Line.{Line}
 use Rattle.monthly.specs.declared.Totals.{Totals}
 use Rattle.monthly.specs.Meaning.{line_means, totals_mean, read_of, left_of}
+use Rattle.std.specs.Prelude.{Ok}
 use Rattle.monthly.proofs.Unique as unique
 use Rattle.monthly.proofs.Sums.{added_all, added-one, added-all}
 use Rattle.monthly.proofs.Listed.{beats-listed}
@@ -25,7 +25,7 @@ pub line-settled : (capture : List ℕ) (r q : Line) → TellsLine capture r →
 line-settled capture r q a b = unique.one_line r q (a ∙ sym b)
 
 -- Beats read and written of a clean capture together are as many as its burst list is long.
-pub beats-are-listed : (capture out : List ℕ) (r : Line) → TellsLine capture r → (n : ℕ) (left : List ℕ) → Lists capture out (listed.Written n) left →
+pub beats-are-listed : (capture out : List ℕ) (r : Line) → TellsLine capture r → (n : ℕ) (left : List ℕ) → Lists capture out (Ok n) left →
     r.read + r.written ≡ n
 beats-are-listed capture out r told n left allowed =
     ap (λ (x : month.Line). x.read + x.written) told ∙ beats-listed capture out allowed.0

@@ -5,7 +5,7 @@ use Prim.Native.Nat.{ℕ, ◌≤◌, ◌<◌}
 use mathlib.Core.Bool.{Bool, true, false, not, ◌&&◌}
 use mathlib.Core.List.{List, [], ◌∷◌, ◌++◌, map}
 use mathlib.Core.Logic.{◌↔◌}
-use mathlib.Core.Option.{Option, none, some}
+use mathlib.Core.Option.{Option, none}
 use mathlib.Core.Path.{◌≡◌, refl, sym, ap, ◌∙◌, subst}
 use native.Mathlib.Omega.{arith}
 use borrow.Author.Tests.{le-leb, leb-true, leb-false, lt-ltb, ltb-true, le-ltb, ltb-false}
@@ -15,7 +15,7 @@ use Rattle.reading.specs.Search.{count, given}
 use Rattle.reading.specs.Capture.{event_count, event_bytes, event_at, events_of}
 use Rattle.reading.specs.Verdict as is
 use Rattle.reading.specs.Answers.{Answer, refused, answered, unless, settings_in, verdict_in, not_clean}
-use Rattle.reading.specs.Openings.{Record, openings_of, index_of, records_of, row_after}
+use Rattle.reading.specs.Openings.{openings_of}
 use Rattle.reading.specs.OpenRow.{RowOutcome, openings_in, index_in, records_in, row_in, question_fits, open_row_answer, open_row_outcome, over, looked_up}
 use Rattle.reading.specs.Part.{start}
 use Rattle.reading.proofs.Meaning.{BrokenAt, verdict-clean, verdict-broken}

@@ -1,9 +1,9 @@
 -- Plays, of whatever `player::play` may answer: refused exactly so, and then both buffers stay; else window and words read are
 -- those of the reading's replay, whatever the rest of the part holds; a schedule that is played is the plain memory; and with
 -- lane code 1 the upper halves stay.
-use Prim.Native.Nat.{ℕ, ◌+◌, ◌-◌, ◌/◌, ◌^◌, ◌≤◌, ◌<◌}
+use Prim.Native.Nat.{ℕ, ◌+◌, ◌-◌, ◌/◌, ◌^◌, ◌<◌}
 use mathlib.Core.Bool.{Bool, true, false, not}
-use mathlib.Core.List.{List, [], ◌++◌, map}
+use mathlib.Core.List.{List, ◌++◌, map}
 use mathlib.Core.Logic.{◌↔◌, ◌⊎◌, inl, inr}
 use mathlib.Core.Option
 use mathlib.Core.Option.{Option, none, some}
@@ -19,21 +19,17 @@ use Rattle.reading.specs.Capture.{Event, most_events, events_of}
 use Rattle.reading.specs.Bursts.{Burst, cell_number}
 use Rattle.reading.specs.Cells.{bursts_of}
 use Rattle.reading.specs.Verdict as is
-use Rattle.reading.specs.Memory.{Contents, Run, replay_bursts, replay, plain}
+use Rattle.reading.specs.Memory.{Contents, Run, replay, plain}
 use Rattle.reading.specs.Answers.{Answer, refused, answered, unless, accepted, settings_in, verdict_in, not_clean}
-use Rattle.reading.specs.Player.{most_window, window_fits, in_window, windowed, data_of, unplayable, event_of_burst, played_on, playing, plays, PlayOutcome, play_outcome}
+use Rattle.reading.specs.Player.{most_window, window_fits, in_window, windowed, data_of, event_of_burst, played_on, playing, plays, PlayOutcome, play_outcome}
 use Rattle.reading.proofs.Laws.{both}
 use Rattle.reading.proofs.Meaning.{verdict-clean, verdict-broken}
 use Rattle.words.proofs.Counting.{at_count}
 use Rattle.capture.proofs.Outcome.{not-refused, not-answered, passed}
 use Rattle.capture.proofs.Accepted.{accepted-rest, refused-rest, refused-in, answered-in}
-use Rattle.player.specs.declared.Played.{Played}
-use Rattle.player.specs.declared.Played.TheVariants as played
-use Rattle.player.specs.Playing.{means}
-use Rattle.player.proofs.Unique as one-play
 use Rattle.player.proofs.Window.{inside}
-use Rattle.schedule.specs.declared.Scheduled.TheVariants as said
-use Rattle.demands.specs.Allowed.{Plays, Schedules}
+use Rattle.std.specs.Prelude.{Ok}
+use Rattle.demands.specs.Allowed.{Counted, Refuses, Plays, Schedules}
 use Rattle.demands.specs.Refused.{opened, Accepted, Clean}
 use Rattle.demands.specs.Played.{Within, needed, first_bad, PlayRefused, unopened, unsound, outside, unplayed, unread, starting, Shows}
 use Rattle.demands.proofs.Opening.{capture-refused-exactly}
@@ -157,27 +153,27 @@ module _ (capture : List ℕ) (first : ℕ) (window writes reads : List ℕ) whe
         refuses
         (of-clean h c (within-fits s first (length window) w) g (lt-ltb (length reads) most (omega (arith, p, l))) ∙ (λ i. refused (sym n i) (sym p i)))
 
-pub play-refused-exactly : (capture : List ℕ) (first : ℕ) (window writes reads : List ℕ) (q : Played) (left words : List ℕ) →
+pub play-refused-exactly : (capture : List ℕ) (first : ℕ) (window writes reads : List ℕ) (q : Counted) (left words : List ℕ) →
     Plays capture first window writes reads q left words → (number place : ℕ) →
-    q ≡ played.Refused number place ↔ PlayRefused capture first window writes reads number place
+    Refuses q number place ↔ PlayRefused capture first window writes reads number place
 play-refused-exactly capture first window writes reads q left words a number place = (
-  λ e. play-case capture first window writes reads number place (sym a.0 ∙ ap means e),
-  λ c. one-play.one_answer q (played.Refused number place) (a.0 ∙ case-play capture first window writes reads number place c),
+  λ e. play-case capture first window writes reads number place (sym a.0 ∙ e),
+  λ c. a.0 ∙ case-play capture first window writes reads number place c,
 )
 
 -- Refused, it leaves the window and the words read as they were.
 pub play-refused : (capture : List ℕ) (first : ℕ) (window writes reads left words : List ℕ) (number place : ℕ) →
-    Plays capture first window writes reads (played.Refused number place) left words → (left ≡ window) × (words ≡ reads)
-play-refused capture first window writes reads left words number place a =
+    (q : Counted) → Refuses q number place → Plays capture first window writes reads q left words → (left ≡ window) × (words ≡ reads)
+play-refused capture first window writes reads left words number place q e a =
     let is = outcome-is capture first window writes reads in
     let kept = (plays-refused capture first window writes reads (accepted capture (rest capture first window writes reads))
-    (ap (λ (o : PlayOutcome). o.answer) (sym is) ∙ sym a.0)).1 in
+    (ap (λ (o : PlayOutcome). o.answer) (sym is) ∙ sym a.0 ∙ e)).1 in
     (a.1.0 ∙ ap (λ (o : PlayOutcome). o.window) is ∙ kept.0, a.1.1 ∙ ap (λ (o : PlayOutcome). o.reads) is ∙ kept.1)
 
 -- ---- what was played
 
 module _ (capture : List ℕ) (first : ℕ) (window writes reads left words : List ℕ) (k : ℕ)
-    (a : Plays capture first window writes reads (played.Words k) left words) where
+    (a : Plays capture first window writes reads (Ok k) left words) where
   abbrev run : Run
   run = r capture first window writes reads
 
@@ -277,13 +273,13 @@ module _ (capture : List ℕ) (first : ℕ) (window writes reads left words : Li
 
 -- For any contents that agree with the window, window and words read are those of the replay; cells outside and words behind stay.
 pub play-replays : (capture : List ℕ) (first : ℕ) (window writes reads left words : List ℕ) (k : ℕ) →
-    Plays capture first window writes reads (played.Words k) left words → (m : Contents) → ((i : ℕ) → i < length window → m (first + i) ≡ get_or window i 0) →
+    Plays capture first window writes reads (Ok k) left words → (m : Contents) → ((i : ℕ) → i < length window → m (first + i) ≡ get_or window i 0) →
     Shows first window reads left words k m (replay (settings_in capture) (events_of capture) (starting m writes))
 play-replays capture first window writes reads left words k a m agrees = replays-so capture first window writes reads left words k a m agrees
 
 -- A schedule, by either policy, played with the requests' words is the plain memory on the window.
-pub play-of-schedule : (ws qs : List ℕ) (policy : ℕ) (out bytes : List ℕ) (n : ℕ) → Schedules ws qs policy out (said.Written n) bytes →
-    (first : ℕ) (window writes reads left words : List ℕ) (k : ℕ) → Plays (take n bytes) first window writes reads (played.Words k) left words →
+pub play-of-schedule : (ws qs : List ℕ) (policy : ℕ) (out bytes : List ℕ) (n : ℕ) → Schedules ws qs policy out (Ok n) bytes →
+    (first : ℕ) (window writes reads left words : List ℕ) (k : ℕ) → Plays (take n bytes) first window writes reads (Ok k) left words →
     (m : Contents) → ((i : ℕ) → i < length window → m (first + i) ≡ get_or window i 0) →
     Shows first window reads left words k m (plain (settings_of ws) qs (starting m writes))
 play-of-schedule ws qs policy out bytes n scheduled first window writes reads left words k a m agrees =
@@ -291,6 +287,6 @@ play-of-schedule ws qs policy out bytes n scheduled first window writes reads le
 
 -- With lane code 1 the upper half of every word of the window stays, and every word read has zeros there.
 pub upper-half : (capture : List ℕ) (first : ℕ) (window writes reads left words : List ℕ) (k : ℕ) →
-    Plays capture first window writes reads (played.Words k) left words → (settings_in capture).lane ≡ 1 →
+    Plays capture first window writes reads (Ok k) left words → (settings_in capture).lane ≡ 1 →
     ((i : ℕ) → i < length window → get_or left i 0 / 2 ^ 16 ≡ get_or window i 0 / 2 ^ 16) × ((i : ℕ) → i < k → get_or words i 0 < 2 ^ 16)
 upper-half capture first window writes reads left words k a e = (upper-so capture first window writes reads left words k a e, low-so capture first window writes reads left words k a e)

@@ -21,9 +21,7 @@ use Rattle.words.proofs.Words.{word_fits}
 use Rattle.capture.specs.Calls.{opened_to, AcceptedTo, Accepted}
 use Rattle.capture.proofs.Outcome.{not-refused}
 use Rattle.capture.proofs.Accepted.{count-range, stated, accepted-sound}
-use Rattle.judge.specs.declared.Verdict.{Verdict}
-use Rattle.judge.specs.declared.Verdict.TheVariants as said
-use Rattle.demands.specs.Allowed.{Judges, Records}
+use Rattle.demands.specs.Allowed.{Judged, says, tells_clean, tells_broken, Judges, Records}
 use Rattle.demands.specs.Captures.{RecordingRefused}
 use Rattle.demands.specs.Refused.{Clean, Broken}
 use Rattle.demands.specs.Limit.{limited_accepted, limited_judge_answer, limited_cells_outcome, limited_blank_outcome}
@@ -34,12 +32,12 @@ use Rattle.demands.proofs.Refusing.{judge-refused-to}
 -- ---- demands 1 and 2
 
 -- One answer for every byte string.
-pub recording-one-answer : (recording : List ℕ) (r q : Verdict) → Records recording r → Records recording q → r ≡ q
+pub recording-one-answer : (recording : List ℕ) (r q : Judged) → Records recording r → Records recording q → r ≡ q
 recording-one-answer = one-answer-to most_recorded
 
 -- Refused exactly with the number and the place of refusals 1 to 4, which are asked of the whole recording before it is judged.
-pub recording-refused : (recording : List ℕ) (r : Verdict) → Records recording r → (number place : ℕ) →
-    r ≡ said.Refused number place ↔ RecordingRefused recording number place
+pub recording-refused : (recording : List ℕ) (r : Judged) → Records recording r → (number place : ℕ) →
+    says r ≡ refused number place ↔ RecordingRefused recording number place
 recording-refused recording r a number place =
     through (judge-refused-to most_recorded recording r a number place) (refused-exactly-to most_recorded recording number place)
 
@@ -48,22 +46,22 @@ pub recording-accepted : (recording : List ℕ) → AcceptedTo most_recorded rec
 recording-accepted = accepted-exactly-to most_recorded
 
 -- Clean exactly when every event, after the events before it, breaks no rule; and then all were judged.
-pub recording-clean : (recording : List ℕ) → AcceptedTo most_recorded recording → (r : Verdict) → Records recording r →
-    r ≡ said.Clean (event_count recording) (event_count recording) ↔ Clean recording
+pub recording-clean : (recording : List ℕ) → AcceptedTo most_recorded recording → (r : Judged) → Records recording r →
+    says r ≡ tells_clean (event_count recording) (event_count recording) ↔ Clean recording
 recording-clean = clean-to most_recorded
 
 -- Else the first event that breaks a rule, the lowest rule that it breaks, its cycle, and as many judged as stand before it.
-pub recording-broken : (recording : List ℕ) → AcceptedTo most_recorded recording → (r : Verdict) → Records recording r → (rule event cycle : ℕ) →
-    r ≡ said.Broken (event_count recording) event rule event cycle ↔ Broken recording rule event cycle
+pub recording-broken : (recording : List ℕ) → AcceptedTo most_recorded recording → (r : Judged) → Records recording r → (rule event cycle : ℕ) →
+    says r ≡ tells_broken (event_count recording) event rule event cycle ↔ Broken recording rule event cycle
 recording-broken = broken-to most_recorded
 
 -- None is told to break rule 6, nor, with fourteen settings, rule 15.
-pub recording-never-6 : (recording : List ℕ) → AcceptedTo most_recorded recording → (events judged event cycle : ℕ) →
-    Records recording (said.Broken events judged 6 event cycle) → ⊥
+pub recording-never-6 : (recording : List ℕ) → AcceptedTo most_recorded recording → (r : Judged) → Records recording r →
+    (events judged event cycle : ℕ) → says r ≡ tells_broken events judged 6 event cycle → ⊥
 recording-never-6 = never-6-to most_recorded
 
-pub recording-never-15 : (recording : List ℕ) → AcceptedTo most_recorded recording → header_word recording 1 ≡ 14 → (events judged event cycle : ℕ) →
-    Records recording (said.Broken events judged 15 event cycle) → ⊥
+pub recording-never-15 : (recording : List ℕ) → AcceptedTo most_recorded recording → header_word recording 1 ≡ 14 → (r : Judged) → Records recording r →
+    (events judged event cycle : ℕ) → says r ≡ tells_broken events judged 15 event cycle → ⊥
 recording-never-15 = never-15-to most_recorded
 
 -- ---- limits, one above the other
@@ -119,12 +117,12 @@ module _ (most more : ℕ) (wider : most ≤ more) (capture : List ℕ) (within 
   answers-same = same-accepted _
 
 -- Every byte string that is no longer than a capture may be gets from both calls the same answer: verdict or refusal.
-pub same_answer : (capture : List ℕ) → length capture ≤ capture_size (count_in capture) most_events → (r q : Verdict) → Judges capture r → Records capture q → r ≡ q
+pub same_answer : (capture : List ℕ) → length capture ≤ capture_size (count_in capture) most_events → (r q : Judged) → Judges capture r → Records capture q → r ≡ q
 same_answer capture within r q a b =
     recording-one-answer capture r q (a ∙ answers-same most_events most_recorded (omega arith) capture within) b
 
 -- So does every accepted capture.
-pub accepted-same-answer : (capture : List ℕ) → Accepted capture → (r q : Verdict) → Judges capture r → Records capture q → r ≡ q
+pub accepted-same-answer : (capture : List ℕ) → Accepted capture → (r q : Judged) → Judges capture r → Records capture q → r ≡ q
 accepted-same-answer capture open-to =
     let x = (accepted-sound capture open-to).sized in
     same_answer capture (omega (arith, x.size, x.few))

@@ -19,36 +19,25 @@ use Rattle.reading.proofs.Meaning.{verdict-clean, verdict-broken}
 use Rattle.capture.specs.Calls.{opened_to}
 use Rattle.capture.proofs.Outcome.{too_long, lacking, refused-meets, leaves-refused}
 use Rattle.capture.proofs.Accepted.{accepted-rest, refused-rest, refused-to, refused-in, refused-only}
-use Rattle.judge.specs.declared.Verdict.{Verdict}
-use Rattle.judge.specs.declared.Verdict.TheVariants as judged
-use Rattle.judge.specs.Meaning as judge
-use Rattle.cells.specs.declared.Listed.{Listed}
-use Rattle.cells.specs.declared.Listed.TheVariants as listed
-use Rattle.cells.specs.Meaning as list
-use Rattle.cells.proofs.Unique as one_list
-use Rattle.schedule.specs.declared.Scheduled.{Scheduled}
-use Rattle.schedule.specs.declared.Scheduled.TheVariants as scheduled
-use Rattle.schedule.specs.Meaning as schedule
-use Rattle.schedule.proofs.Unique as one-schedule
-use Rattle.demands.specs.Allowed.{JudgesTo, Judges, Lists, Schedules}
+use Rattle.demands.specs.Allowed.{Judged, Counted, says, Refuses, JudgesTo, Judges, Lists, Schedules}
 use Rattle.demands.specs.Captures.{CaptureRefused}
 use Rattle.demands.specs.Refused.{opened, Accepted, ListRefused, unaccepted, unclean, ScheduleRefused}
 use Rattle.demands.specs.Refused as case
-use Rattle.demands.proofs.Judging.{one-answer-to, through}
+use Rattle.demands.proofs.Judging.{through}
 use Rattle.demands.proofs.Opening.{capture-refused-exactly}
 
 -- ---- the judge
 
-pub judge-refused-to : (most : ℕ) (capture : List ℕ) (r : Verdict) → JudgesTo most capture r → (number place : ℕ) →
-    r ≡ judged.Refused number place ↔ opened_to most capture ≡ refused number place
+pub judge-refused-to : (most : ℕ) (capture : List ℕ) (r : Judged) → JudgesTo most capture r → (number place : ℕ) →
+    says r ≡ refused number place ↔ opened_to most capture ≡ refused number place
 unfolding judge_answer_to
 judge-refused-to most capture r a number place = (
-  λ e. refused-only most capture _ refl (sym a ∙ ap judge.means e),
-  λ h. one-answer-to most capture r (judged.Refused number place) a (sym (refused-to most capture _ h)),
+  λ e. refused-only most capture _ refl (sym a ∙ e),
+  λ h. a ∙ refused-to most capture _ h,
 )
 
-pub judge-refused : (capture : List ℕ) (r : Verdict) → Judges capture r → (number place : ℕ) →
-    r ≡ judged.Refused number place ↔ CaptureRefused capture number place
+pub judge-refused : (capture : List ℕ) (r : Judged) → Judges capture r → (number place : ℕ) →
+    says r ≡ refused number place ↔ CaptureRefused capture number place
 judge-refused capture r a number place =
     through (judge-refused-to most_events capture r a number place) (capture-refused-exactly capture number place)
 
@@ -95,17 +84,17 @@ module _ (capture out : List ℕ) where
       (judged-as is.clean ((verdict-clean (settings_in capture) (events_of capture)).1 c) h ∙ too_long out (cells_in capture) (omega (arith, p, l))
       ∙ (λ i. refused (sym n i) (sym p i)))
 
-pub list-refused-exactly : (capture out : List ℕ) (r : Listed) (left : List ℕ) → Lists capture out r left → (number place : ℕ) →
-    r ≡ listed.Refused number place ↔ ListRefused capture out number place
+pub list-refused-exactly : (capture out : List ℕ) (r : Counted) (left : List ℕ) → Lists capture out r left → (number place : ℕ) →
+    Refuses r number place ↔ ListRefused capture out number place
 list-refused-exactly capture out r left a number place = (
-  λ e. list-case capture out number place (sym a.0 ∙ ap list.means e),
-  λ c. one_list.one_answer r (listed.Refused number place) (a.0 ∙ case-list capture out number place c),
+  λ e. list-case capture out number place (sym a.0 ∙ e),
+  λ c. a.0 ∙ case-list capture out number place c,
 )
 
-pub list-refused : (capture out left : List ℕ) (number place : ℕ) → Lists capture out (listed.Refused number place) left → left ≡ out
+pub list-refused : (capture out left : List ℕ) (number place : ℕ) (r : Counted) → Refuses r number place → Lists capture out r left → left ≡ out
 unfolding cells_outcome
-list-refused capture out left number place a =
-    a.1 ∙ (leaves-refused (accepted capture (unless 8 (not_clean (verdict_in capture)) (fitting out (cells_in capture)))) out (sym a.0)).1
+list-refused capture out left number place r e a =
+    a.1 ∙ (leaves-refused (accepted capture (unless 8 (not_clean (verdict_in capture)) (fitting out (cells_in capture)))) out (sym a.0 ∙ e)).1
 
 -- ---- schedules
 
@@ -185,13 +174,14 @@ module _ (ws qs : List ℕ) (policy : ℕ) (out : List ℕ) where
     case-schedule (case.ScheduleRefused.short f m b es e n p l) =
         (tested (counted f.count) f.each (known m) b e).1 (too_long out (capture_of ws es) (omega (arith, p, l)) ∙ (λ i. refused (sym n i) (sym p i)))
 
-pub schedule-refused-exactly : (ws qs : List ℕ) (policy : ℕ) (out : List ℕ) (r : Scheduled) (left : List ℕ) → Schedules ws qs policy out r left → (number place : ℕ) →
-    r ≡ scheduled.Refused number place ↔ ScheduleRefused ws qs policy out number place
+pub schedule-refused-exactly : (ws qs : List ℕ) (policy : ℕ) (out : List ℕ) (r : Counted) (left : List ℕ) → Schedules ws qs policy out r left → (number place : ℕ) →
+    Refuses r number place ↔ ScheduleRefused ws qs policy out number place
 schedule-refused-exactly ws qs policy out r left a number place = (
-  λ e. schedule-case ws qs policy out number place (sym a.0 ∙ ap schedule.means e),
-  λ c. one-schedule.one_answer r (scheduled.Refused number place) (a.0 ∙ case-schedule ws qs policy out number place c),
+  λ e. schedule-case ws qs policy out number place (sym a.0 ∙ e),
+  λ c. a.0 ∙ case-schedule ws qs policy out number place c,
 )
 
-pub schedule-refused : (ws qs : List ℕ) (policy : ℕ) (out left : List ℕ) (number place : ℕ) → Schedules ws qs policy out (scheduled.Refused number place) left → left ≡ out
+pub schedule-refused : (ws qs : List ℕ) (policy : ℕ) (out left : List ℕ) (number place : ℕ) (r : Counted) → Refuses r number place →
+    Schedules ws qs policy out r left → left ≡ out
 unfolding schedule_outcome
-schedule-refused ws qs policy out left number place a = a.1 ∙ (leaves-refused (answer ws qs policy out) out (sym a.0)).1
+schedule-refused ws qs policy out left number place r e a = a.1 ∙ (leaves-refused (answer ws qs policy out) out (sym a.0 ∙ e)).1

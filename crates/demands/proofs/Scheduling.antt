@@ -21,9 +21,6 @@ use Rattle.reading.specs.Memory.{Run, play, replay_bursts, replay, requested, pl
 use Rattle.reading.specs.Answers.{Answer, answered, leaves, fitting, when_planned, settings_in, judge_answer, schedule_outcome}
 use Rattle.reading.proofs.Laws.{not-given}
 use Rattle.capture.proofs.Outcome.{Wrote, not-answered, passed, fits, wrote}
-use Rattle.judge.specs.declared.Verdict.{Verdict}
-use Rattle.judge.specs.declared.Verdict.TheVariants.{Clean}
-use Rattle.schedule.specs.declared.Scheduled.TheVariants as said
 use Rattle.memory.specs.Serving.{Sized, Serves, Each, nil, cons}
 use Rattle.memory.specs.ClosedRows.{ruled, ruled_request, ruled_refresh, ruled_in_time, ruled_served, closed_from, closed_rows}
 use Rattle.memory.proofs.Closed.{closed-as-before}
@@ -31,7 +28,8 @@ use Rattle.memory.proofs.Play.{serves-play}
 use Rattle.plan.proofs.Ranged.{fourteen-old, ranged}
 use Rattle.plan.proofs.Ready.{Planned, few-requests, requests-fit, schedule-is-plain}
 use Rattle.plan.proofs.Captured.{all_clean, settings-fit, captured-settings, events-back, schedule-fits, schedule-clean}
-use Rattle.demands.specs.Allowed.{Judges, Schedules}
+use Rattle.std.specs.Prelude.{Ok}
+use Rattle.demands.specs.Allowed.{Judged, says, tells_clean, Judges, Schedules}
 use Rattle.demands.specs.Reads.{Played, silent, reads_of, joined, kept_beats, part_reads, all_beats, plain_reads}
 use Rattle.demands.proofs.Judging.{judged-clean}
 
@@ -206,8 +204,8 @@ module _ (ws qs : List ℕ) (policy : ℕ) (out : List ℕ) (n : ℕ) (e : (sche
   outcome-awake = rw outcome-events y.never-sleeps.high
 
 -- Demand 3: what was written is a capture that the judge calls clean, with every event judged.
-pub schedule-is-clean : (ws qs : List ℕ) (policy : ℕ) (out left : List ℕ) (n : ℕ) → Schedules ws qs policy out (said.Written n) left →
-    (r : Verdict) → Judges (take n left) r → r ≡ Clean (event_count (take n left)) (event_count (take n left))
+pub schedule-is-clean : (ws qs : List ℕ) (policy : ℕ) (out left : List ℕ) (n : ℕ) → Schedules ws qs policy out (Ok n) left →
+    (r : Judged) → Judges (take n left) r → says r ≡ tells_clean (event_count (take n left)) (event_count (take n left))
 schedule-is-clean ws qs policy out left n allowed r a =
     let e = sym allowed.0 in
     judged-clean (take n left) (length (written ws qs policy out n e).events) r a
@@ -215,26 +213,26 @@ schedule-is-clean ws qs policy out left n allowed r a =
 
 -- Demand 3: for any starting contents, any words and masks, a part run by what was written returns the words, and ends
 -- with the contents, of a plain memory that does the requests one after another.
-pub schedule-is-memory : (ws qs : List ℕ) (policy : ℕ) (out left : List ℕ) (n : ℕ) → Schedules ws qs policy out (said.Written n) left →
+pub schedule-is-memory : (ws qs : List ℕ) (policy : ℕ) (out left : List ℕ) (n : ℕ) → Schedules ws qs policy out (Ok n) left →
     (r : Run) → replay (settings_in (take n left)) (events_of (take n left)) r ≡ plain (settings_of ws) qs r
 schedule-is-memory ws qs policy out left n allowed r =
     ap (λ b. replay (settings_in (take n b)) (events_of (take n b)) r) allowed.1 ∙ outcome-memory ws qs policy out n (sym allowed.0) r
 
 -- Read by read: it has as many reads as the plain memory, and the words of the i-th are those of the plain memory's i-th.
-pub schedule-reads-alike : (ws qs : List ℕ) (policy : ℕ) (out left : List ℕ) (n : ℕ) → Schedules ws qs policy out (said.Written n) left →
+pub schedule-reads-alike : (ws qs : List ℕ) (policy : ℕ) (out left : List ℕ) (n : ℕ) → Schedules ws qs policy out (Ok n) left →
     (r : Run) → part_reads (settings_in (take n left)) (events_of (take n left)) r ≡ plain_reads (settings_of ws) qs r
 schedule-reads-alike ws qs policy out left n allowed r =
     ap (λ b. part_reads (settings_in (take n b)) (events_of (take n b)) r) allowed.1 ∙ outcome-reads ws qs policy out n (sym allowed.0) r
 
 -- A schedule has at most four events a request.
-pub schedule-is-short : (ws qs : List ℕ) (policy : ℕ) (out left : List ℕ) (n : ℕ) → Schedules ws qs policy out (said.Written n) left →
+pub schedule-is-short : (ws qs : List ℕ) (policy : ℕ) (out left : List ℕ) (n : ℕ) → Schedules ws qs policy out (Ok n) left →
     length (events_of (take n left)) ≤ 4 * length qs
 schedule-is-short ws qs policy out left n allowed =
     let e = sym allowed.0 in
     rw (allowed.1, outcome-events ws qs policy out n e) (y ws qs policy out n e).few
 
 -- With closed rows it has at most three.
-pub closed-is-shorter : (ws qs out left : List ℕ) (n : ℕ) → Schedules ws qs 1 out (said.Written n) left →
+pub closed-is-shorter : (ws qs out left : List ℕ) (n : ℕ) → Schedules ws qs 1 out (Ok n) left →
     length (events_of (take n left)) ≤ 3 * length qs
 unfolding closed_rows
 closed-is-shorter ws qs out left n allowed =
@@ -248,12 +246,12 @@ closed-is-shorter ws qs out left n allowed =
     rw (allowed.1, outcome-events ws qs 1 out n e) few
 
 -- A schedule never sleeps: CKE is high at each of its events.
-pub schedule-never-sleeps : (ws qs : List ℕ) (policy : ℕ) (out left : List ℕ) (n : ℕ) → Schedules ws qs policy out (said.Written n) left →
+pub schedule-never-sleeps : (ws qs : List ℕ) (policy : ℕ) (out left : List ℕ) (n : ℕ) → Schedules ws qs policy out (Ok n) left →
     every (λ x. not (command_of x.pins).low) (events_of (take n left)) ≡ true
 schedule-never-sleeps ws qs policy out left n allowed =
     ap (λ b. every (λ x. not (command_of x.pins).low) (events_of (take n b))) allowed.1 ∙ outcome-awake ws qs policy out n (sym allowed.0)
 
 -- Bytes of the buffer behind the schedule stay.
-pub bytes-behind-stay : (ws qs : List ℕ) (policy : ℕ) (out left : List ℕ) (n : ℕ) → Schedules ws qs policy out (said.Written n) left →
+pub bytes-behind-stay : (ws qs : List ℕ) (policy : ℕ) (out left : List ℕ) (n : ℕ) → Schedules ws qs policy out (Ok n) left →
     drop n left ≡ drop n out
 bytes-behind-stay ws qs policy out left n allowed = ap (drop n) allowed.1 ∙ (written ws qs policy out n (sym allowed.0)).behind

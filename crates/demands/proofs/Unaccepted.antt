@@ -2,18 +2,14 @@
 use Prim.Native.Nat.{ℕ, ◌+◌, ◌*◌, ◌≤◌, ◌<◌}
 use mathlib.Core.Bool.{Bool, true, false, cond}
 use mathlib.Core.List.{List}
-use mathlib.Core.Path.{◌≡◌, refl, ap, subst}
+use mathlib.Core.Path.{◌≡◌, refl, ap}
 use native.Mathlib.Decide.{dec_lt}
 use native.Mathlib.Omega.{arith}
 use borrow.Author.Tests.{ne_eqb}
 use lib.Dec.{eqb}
 use lib.ListN.{length}
 use Rattle.reading.specs.Capture.{header_word}
-use Rattle.cells.specs.declared.Listed.{Listed}
-use Rattle.hidden.specs.declared.Blanked.{Blanked}
-use Rattle.exports.specs.declared.Converted.{Converted}
-use Rattle.player.specs.declared.Played.{Played}
-use Rattle.demands.specs.Allowed.{Lists, Blanks, WritesExport, Plays, RefusedByAll}
+use Rattle.demands.specs.Allowed.{RefusedByAll}
 use Rattle.demands.specs.Captures.{least_bytes, BadLength, CaptureRefused}
 use Rattle.demands.specs.Captures as case
 use Rattle.demands.specs.Refused.{Accepted, unaccepted, unopened}
@@ -33,19 +29,19 @@ refused-by-all capture number place c =
       list =
           λ out r left a.
           let e = (list-refused-exactly capture out r left a number place).1 (unaccepted c) in
-          (e, list-refused capture out left number place (subst (λ (x : Listed). Lists capture out x left) e a));
+          (e, list-refused capture out left number place r e a);
       export =
           λ out r left a.
           let e = (write-refused-exactly capture out r left a number place).1 (exports.WriteRefused.unopened c) in
-          (e, write-refused capture out left number place (subst (λ (x : Converted). WritesExport capture out x left) e a));
+          (e, write-refused capture out left number place r e a);
       blank =
           λ out r left a.
           let e = (blank-refused-exactly capture out r left a number place).1 (unopened c) in
-          (e, blank-refused capture out left number place (subst (λ (x : Blanked). Blanks capture out x left) e a));
+          (e, blank-refused capture out left number place r e a);
       play =
           λ first window writes reads r left words a.
           let e = (play-refused-exactly capture first window writes reads r left words a number place).1 (play.unopened c) in
-          (e, play-refused capture first window writes reads left words number place (subst (λ (x : Played). Plays capture first window writes reads x left words) e a));
+          (e, play-refused capture first window writes reads left words number place r e a);
     }
 
 -- ---- the length

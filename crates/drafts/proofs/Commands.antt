@@ -2,8 +2,8 @@
 use Prim.Native.Nat.{ℕ, ◌+◌, ◌*◌}
 use mathlib.Core.Bool.{Bool, true, false, cond}
 use mathlib.Core.List.{List, [], ◌∷◌}
-use mathlib.Core.Path.{◌≡◌, ap, ◌∙◌}
-use lib.ListN.{set}
+use mathlib.Core.Path.{◌≡◌, sym, ap, ◌∙◌}
+use lib.ListN.{length, set}
 use lib.Seq.{sets}
 use Rattle.reading.specs.Settings.{Settings}
 use Rattle.reading.specs.Commands.{ACTIVE, PRECHARGE, pins_of}
@@ -11,59 +11,64 @@ use Rattle.reading.specs.Schedule.{close_all_pins, refresh_pins}
 use Rattle.deadlines.specs.Deadlines.{PAIRS, at, pace_of, active_after, read_after, write_after, close_after, close_all_after, refresh_after}
 use Rattle.plan.specs.Behind.{ROW, READ-END, WRITE-END, FREE, EVENTS}
 use Rattle.plan.specs.Soonest.{active_soonest, burst_soonest, close_soonest, close_all_soonest, refresh_soonest}
-use Rattle.plan.specs.Draft.{Draft, cycle_for, noted, placed_at, end_of, burst_after, burst_ends, activating, closing_bank, bursting, closing_all, refresh_at, refreshing_idle}
+use Rattle.plan.specs.Draft.{cycle_for, noted, placed_at, end_of, burst_after, burst_ends, activating, closing_bank, bursting, closing_all, refresh_at, refreshing_idle}
+use Rattle.soonest.specs.declared.State.{State}
+use Rattle.soonest.specs.Standing.{standing}
+use Rattle.soonest.proofs.Places.{free-is, events-are}
 use Rattle.drafts.specs.Room.{draft}
 
-module _ (x : Draft) {t soonest : ℕ} (at-cycle : t ≡ cycle_for (at x.standing FREE) soonest) {pins : ℕ} {k₁ k w : List ℕ}
-    (k-is : k ≡ set (set k₁ FREE (t + 1)) EVENTS (at x.standing EVENTS + 1)) (w-is : w ≡ sets x.words (2 * at x.standing EVENTS) (t ∷ pins ∷ [])) where
-  noted-as : (due told : ℕ) → soonest ≡ due → pins ≡ told → (D K : ℕ → List ℕ) → {d : List ℕ} → d ≡ D t → k₁ ≡ K t →
-      draft d k w ≡ noted x (placed_at x due) told (D (placed_at x due)) (K (placed_at x due))
+-- a command's cycle is worked out in x, its effect makes y of x, and it is noted in z
+module _ (x : State) (w₀ : List ℕ) (four : length x.rows ≡ 4) {t soonest : ℕ} (at-cycle : t ≡ cycle_for x.free soonest) {pins : ℕ} {d k : List ℕ} {n : ℕ} (n-is : n ≡ x.events)
+    (z : State) {w : List ℕ} (d-is : z.deadlines ≡ d) (k-is : standing z ≡ set (set k FREE (t + 1)) EVENTS (n + 1)) (w-is : w ≡ sets w₀ (2 * n) (t ∷ pins ∷ [])) where
+  noted-as : (due told : ℕ) → soonest ≡ due → pins ≡ told → (D K : ℕ → List ℕ) → d ≡ D t → k ≡ K t →
+      draft z w ≡ noted (draft x w₀) (placed_at (draft x w₀) due) told (D (placed_at (draft x w₀) due)) (K (placed_at (draft x w₀) due))
   unfolding noted
   noted-as due told ss pp D K dd kk =
-      let tt : t ≡ placed_at x due = at-cycle ∙ ap (cycle_for (at x.standing FREE)) ss in
+      let tt : t ≡ placed_at (draft x w₀) due = at-cycle ∙ ap (λ (f : ℕ). cycle_for f soonest) (sym (free-is x four)) ∙ ap (cycle_for (at (standing x) FREE)) ss in
+      let count : n ≡ at (standing x) EVENTS = n-is ∙ sym (events-are x four) in
       λ i.
       record {
-        deadlines = (dd ∙ ap D tt) i;
-        standing = (k-is ∙ (λ j. set (set ((kk ∙ ap K tt) j) FREE (tt j + 1)) EVENTS (at x.standing EVENTS + 1))) i;
-        words = (w-is ∙ (λ j. sets x.words (2 * at x.standing EVENTS) (tt j ∷ pp j ∷ []))) i;
+        deadlines = (d-is ∙ dd ∙ ap D tt) i;
+        standing = (k-is ∙ (λ j. set (set ((kk ∙ ap K tt) j) FREE (tt j + 1)) EVENTS (count j + 1))) i;
+        words = (w-is ∙ (λ j. sets w₀ (2 * count j) (tt j ∷ pp j ∷ []))) i;
       }
 
   module _ (s : Settings) where
     module _ (b : ℕ) where
-      pub activated : (row : ℕ) → soonest ≡ active_soonest x.deadlines b → pins ≡ pins_of ACTIVE b row → {d : List ℕ} → d ≡ active_after s x.deadlines t b →
-          k₁ ≡ set x.standing (ROW + b) row → draft d k w ≡ activating s b row x
+      pub activated : (row : ℕ) → soonest ≡ active_soonest x.deadlines b → pins ≡ pins_of ACTIVE b row → d ≡ active_after s x.deadlines t b →
+          k ≡ set (standing x) (ROW + b) row → draft z w ≡ activating s b row (draft x w₀)
       unfolding activating
       activated row ss pp dd kk =
           noted-as (active_soonest x.deadlines b) (pins_of ACTIVE b row) ss pp
-          (λ u. active_after s x.deadlines u b) (λ u. set x.standing (ROW + b) row) dd kk
+          (λ u. active_after s x.deadlines u b) (λ u. set (standing x) (ROW + b) row) dd kk
 
-      pub closed : {m : List ℕ} → m ≡ pace_of s.mode → soonest ≡ close_soonest x.deadlines x.standing b → pins ≡ pins_of PRECHARGE b 0 →
-          {d : List ℕ} → d ≡ close_after s x.deadlines m t b → k₁ ≡ x.standing → draft d k w ≡ closing_bank s b x
+      pub closed : {m : List ℕ} → m ≡ pace_of s.mode → soonest ≡ close_soonest x.deadlines (standing x) b → pins ≡ pins_of PRECHARGE b 0 →
+          d ≡ close_after s x.deadlines m t b → k ≡ standing x → draft z w ≡ closing_bank s b (draft x w₀)
       unfolding closing_bank
       closed mm ss pp dd kk =
-          noted-as (close_soonest x.deadlines x.standing b) (pins_of PRECHARGE b 0) ss pp
-          (λ u. close_after s x.deadlines (pace_of s.mode) u b) (λ u. x.standing) (dd ∙ (λ i. close_after s x.deadlines (mm i) t b)) kk
+          noted-as (close_soonest x.deadlines (standing x) b) (pins_of PRECHARGE b 0) ss pp
+          (λ u. close_after s x.deadlines (pace_of s.mode) u b) (λ u. standing x) (dd ∙ (λ i. close_after s x.deadlines (mm i) t b)) kk
 
-      pub burst : (closed write : Bool) (told : ℕ) → soonest ≡ burst_soonest write x.deadlines x.standing b → pins ≡ told →
-          {d : List ℕ} → d ≡ burst_after closed write s x.deadlines t b → k₁ ≡ burst_ends closed write s x.standing t →
-          draft d k w ≡ bursting s closed write b told x
+      pub burst : (closed write : Bool) (told : ℕ) → soonest ≡ burst_soonest write x.deadlines (standing x) b → pins ≡ told →
+          d ≡ burst_after closed write s x.deadlines t b → k ≡ burst_ends closed write s (standing x) t →
+          draft z w ≡ bursting s closed write b told (draft x w₀)
       unfolding bursting
       burst closed write told ss pp dd kk =
-          noted-as (burst_soonest write x.deadlines x.standing b) told ss pp
-          (λ u. burst_after closed write s x.deadlines u b) (λ u. burst_ends closed write s x.standing u) dd kk
+          noted-as (burst_soonest write x.deadlines (standing x) b) told ss pp
+          (λ u. burst_after closed write s x.deadlines u b) (λ u. burst_ends closed write s (standing x) u) dd kk
 
-    pub all_closed : {m : List ℕ} → m ≡ pace_of s.mode → soonest ≡ close_all_soonest x.deadlines x.standing → pins ≡ close_all_pins →
-        {d : List ℕ} → d ≡ close_all_after s x.deadlines m t → k₁ ≡ x.standing → draft d k w ≡ closing_all s x
+    pub all_closed : {m : List ℕ} → m ≡ pace_of s.mode → soonest ≡ close_all_soonest x.deadlines (standing x) → pins ≡ close_all_pins →
+        d ≡ close_all_after s x.deadlines m t → k ≡ standing x → draft z w ≡ closing_all s (draft x w₀)
     unfolding closing_all
     all_closed mm ss pp dd kk =
-        noted-as (close_all_soonest x.deadlines x.standing) close_all_pins ss pp
-        (λ u. close_all_after s x.deadlines (pace_of s.mode) u) (λ u. x.standing) (dd ∙ (λ i. close_all_after s x.deadlines (mm i) t)) kk
+        noted-as (close_all_soonest x.deadlines (standing x)) close_all_pins ss pp
+        (λ u. close_all_after s x.deadlines (pace_of s.mode) u) (λ u. standing x) (dd ∙ (λ i. close_all_after s x.deadlines (mm i) t)) kk
 
-    pub refreshed : soonest ≡ refresh_soonest x.deadlines → pins ≡ refresh_pins → {d : List ℕ} → d ≡ refresh_after s x.deadlines t →
-        k₁ ≡ x.standing → draft d k w ≡ refreshing_idle s x
+    pub refreshed : soonest ≡ refresh_soonest x.deadlines → pins ≡ refresh_pins → d ≡ refresh_after s x.deadlines t →
+        k ≡ standing x → draft z w ≡ refreshing_idle s (draft x w₀)
     unfolding refreshing_idle refresh_at
     refreshed ss pp dd kk =
-        noted-as (refresh_soonest x.deadlines) refresh_pins ss pp (λ u. refresh_after s x.deadlines u) (λ u. x.standing) dd kk
+        noted-as (refresh_soonest x.deadlines) refresh_pins ss pp (λ u. refresh_after s x.deadlines u) (λ u. standing x) dd kk
 
 -- ---- READ or WRITE: what is given by it
 

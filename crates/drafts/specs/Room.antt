@@ -3,10 +3,12 @@ use Rattle.std.specs.Prelude.{ℕ, ◌+◌, ◌*◌, ◌≤◌, List, length}
 use Rattle.deadlines.specs.Deadlines.{at}
 use Rattle.plan.specs.Behind.{EVENTS}
 use Rattle.plan.specs.Draft.{Draft}
+use Rattle.soonest.specs.declared.State.{State}
+use Rattle.soonest.specs.Standing.{standing}
 
-abbrev pub draft : List ℕ → List ℕ → List ℕ → Draft
-draft d k w = record { deadlines = d; standing = k; words = w }
+abbrev pub draft : State → List ℕ → Draft
+draft x w = record { deadlines = x.deadlines; standing = standing x; words = w }
 
 -- so many events more have their words
-pub record Room (k words : List ℕ) (n : ℕ) : Type 0 where
-  pub more : 2 * at k EVENTS + 2 * n ≤ length words
+pub record Room (x : State) (words : List ℕ) (n : ℕ) : Type 0 where
+  pub more : 2 * at (standing x) EVENTS + 2 * n ≤ length words

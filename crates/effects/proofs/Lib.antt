@@ -1,2 +1,3 @@
 -- The steps of this crate's own proofs.
+mod Resting
 mod Writing

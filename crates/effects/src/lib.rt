@@ -16,6 +16,7 @@ use settings::places::{
     EDITION, T_MRD, T_RAS, T_RCD, T_RFC, T_RP, T_RRD, T_WR, T_WTR, T_XP, T_XSR,
 };
 
+#[tactic(auto, unfolding(deadlines::specs::Deadlines::active_after))]
 pub fn active_after(s: &Settings, d: &mut Deadlines, t: u32, b: usize)
     requires { b < 4 }
     ensures { d.new ≡ is.active_after (settings_of s.now) d.old t b }
@@ -29,6 +30,7 @@ pub fn active_after(s: &Settings, d: &mut Deadlines, t: u32, b: usize)
 }
 
 // The bank of a burst with auto precharge is idle, and is let open again from a cycle on that is at least `from`.
+#[tactic(auto, unfolding(deadlines::specs::Deadlines::auto_after))]
 fn auto_after(d: &mut Deadlines, b: usize, from: u64)
     requires { b < 4 }
     ensures { d.new ≡ is.auto_after d.old b from }
@@ -63,6 +65,7 @@ fn cut_write(s: &Settings, d: &mut Deadlines, t: u32, b: usize)
     d[WRITTEN + o] = least(d[WRITTEN + o], data_after(t, 0, s[T_WR]));
 }
 
+#[tactic(auto, unfolding(deadlines::specs::Deadlines::new_write))]
 fn new_write(s: &Settings, d: &mut Deadlines, t: u32, pairs: u32, b: usize)
     requires { b < 4 }
     ensures { d.new ≡ is.new_write (settings_of s.now) d.old t pairs b }
@@ -77,6 +80,7 @@ fn plain_write(s: &Settings, d: &mut Deadlines, t: u32, b: usize)
     requires { b < 4 }
     ensures { d.new ≡ is.plain_write (settings_of s.now) d.old t b }
 {
+    // A cast: u64 has no From of usize.
     d[WRITER] = b as u64;
     if s[EDITION] != 1 {
         return;
@@ -85,6 +89,7 @@ fn plain_write(s: &Settings, d: &mut Deadlines, t: u32, b: usize)
     d[END] = after2(t, 2, s[T_WTR]);
 }
 
+#[tactic(auto, unfolding(deadlines::specs::Deadlines::auto_write))]
 fn auto_write(s: &Settings, d: &mut Deadlines, t: u32, pairs: u32, b: usize)
     requires { b < 4 }
     ensures { d.new ≡ is.auto_write (settings_of s.now) d.old t pairs b }
@@ -108,12 +113,14 @@ pub fn write_after(s: &Settings, d: &mut Deadlines, pace: &Pace, t: u32, b: usiz
     plain_write(s, d, t, b);
 }
 
+#[tactic(auto, unfolding(deadlines::specs::Deadlines::cut_read))]
 pub fn cut_read(d: &mut Deadlines, pace: &Pace, t: u32, cut: bool)
     ensures { d.new ≡ is.cut_read d.old pace.now t cut }
 {
     d[BUS] = pick(cut, least(d[BUS], after(t, pace[LATENCY])), d[BUS]);
 }
 
+#[tactic(auto, unfolding(deadlines::specs::Deadlines::rest_after))]
 fn rest_after(d: &mut Deadlines, b: usize, from: u64)
     requires { b < 4 }
     ensures { d.new ≡ is.rest_after d.old b from }
@@ -122,6 +129,7 @@ fn rest_after(d: &mut Deadlines, b: usize, from: u64)
     d[OPENED + b] = 0;
 }
 
+#[tactic(auto, unfolding(deadlines::specs::Deadlines::close_after))]
 pub fn close_after(s: &Settings, d: &mut Deadlines, pace: &Pace, t: u32, b: usize)
     requires { b < 4 }
     ensures { d.new ≡ is.close_after (settings_of s.now) d.old pace.now t b }
@@ -134,12 +142,12 @@ pub fn close_after(s: &Settings, d: &mut Deadlines, pace: &Pace, t: u32, b: usiz
 fn rest_all(d: &mut Deadlines, from: u64)
     ensures { d.new ≡ is.rest_all d.old from }
 {
-    rest_after(d, 0, from);
-    rest_after(d, 1, from);
-    rest_after(d, 2, from);
-    rest_after(d, 3, from);
+    'banks: for b in 0..4 {
+        rest_after(d, b, from);
+    }
 }
 
+#[tactic(auto, unfolding(deadlines::specs::Deadlines::close_all_after))]
 pub fn close_all_after(s: &Settings, d: &mut Deadlines, pace: &Pace, t: u32)
     ensures { d.new ≡ is.close_all_after (settings_of s.now) d.old pace.now t }
 {
@@ -148,6 +156,7 @@ pub fn close_all_after(s: &Settings, d: &mut Deadlines, pace: &Pace, t: u32)
     cut_read(d, pace, t, cut);
 }
 
+#[tactic(auto, unfolding(deadlines::specs::Deadlines::refresh_after))]
 pub fn refresh_after(s: &Settings, d: &mut Deadlines, t: u32)
     ensures { d.new ≡ is.refresh_after (settings_of s.now) d.old t }
 {
@@ -155,6 +164,7 @@ pub fn refresh_after(s: &Settings, d: &mut Deadlines, t: u32)
     d[OVERDUE] = clock::overdue_after(s, t, d[OVERDUE]);
 }
 
+#[tactic(auto, unfolding(deadlines::specs::Deadlines::mode_set_after))]
 pub fn mode_set_after(s: &Settings, d: &mut Deadlines, t: u32)
     ensures { d.new ≡ is.mode_set_after (settings_of s.now) d.old t }
 {
@@ -162,6 +172,7 @@ pub fn mode_set_after(s: &Settings, d: &mut Deadlines, t: u32)
 }
 
 // Power-down: the refresh clock runs on.
+#[tactic(auto, unfolding(deadlines::specs::Deadlines::enter_after))]
 pub fn enter_after(d: &mut Deadlines)
     ensures { d.new ≡ is.enter_after d.old }
 {
@@ -171,6 +182,7 @@ pub fn enter_after(d: &mut Deadlines)
 }
 
 // Self refresh: it stands still.
+#[tactic(auto, unfolding(deadlines::specs::Deadlines::self_after))]
 pub fn self_after(d: &mut Deadlines)
     ensures { d.new ≡ is.self_after d.old }
 {
@@ -180,6 +192,7 @@ pub fn self_after(d: &mut Deadlines)
     d[SELF] = 1;
 }
 
+#[tactic(auto, unfolding(deadlines::specs::Deadlines::power_up_after))]
 fn power_up_after(s: &Settings, d: &mut Deadlines, t: u32)
     ensures { d.new ≡ is.power_up_after (settings_of s.now) d.old t }
 {
@@ -188,6 +201,7 @@ fn power_up_after(s: &Settings, d: &mut Deadlines, t: u32)
     d[ASLEEP] = 0;
 }
 
+#[tactic(auto, unfolding(deadlines::specs::Deadlines::wake_after))]
 fn wake_after(s: &Settings, d: &mut Deadlines, t: u32)
     ensures { d.new ≡ is.wake_after (settings_of s.now) d.old t }
 {
@@ -208,6 +222,7 @@ pub fn leave_after(s: &Settings, d: &mut Deadlines, t: u32)
 }
 
 // The deadlines of a part at the start: nothing has happened, and nine AUTO REFRESHes are owed after nine times tREFI.
+#[tactic(auto, unfolding(deadlines::specs::Deadlines::start_of))]
 pub fn start(s: &Settings) -> Deadlines
     ensures { result ≡ is.start_of (settings_of s.now) }
 {
@@ -215,9 +230,6 @@ pub fn start(s: &Settings) -> Deadlines
     d[OVERDUE] = clock::overdue_from(s, 0);
     d[LAST] = 4;
     let locked = after(s[T_RAS], s[T_RP]);
-    d[LOCKED] = locked;
-    d[LOCKED + 1] = locked;
-    d[LOCKED + 2] = locked;
-    d[LOCKED + 3] = locked;
+    d[LOCKED..LOCKED + 4].fill(locked);
     d
 }

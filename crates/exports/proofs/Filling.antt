@@ -10,7 +10,8 @@ use Rattle.reading.specs.Export.{stamp_at, record_pins, apart, cycle_of}
 use Rattle.words.proofs.Runs.{sets-append}
 use Rattle.words.proofs.Search.{one_less, none_left}
 use Rattle.words.proofs.Words.{bytes_of-length}
-use Rattle.exports.specs.declared.Converted.TheVariants.{Refused, Written}
+use Rattle.std.specs.Prelude.{Ok, Err}
+use Rattle.refusal.specs.declared.Refusal.TheVariants.{Room}
 use Rattle.exports.specs.Meaning.{records_from, records_in, filled, filling}
 use Rattle.exports.proofs.Stamps.{from, behind, cycle-is}
 
@@ -73,7 +74,7 @@ module _ {records out₀ out : List ℕ} {n cycle before i : ℕ} (x : Reading r
 -- ---- behind the front of a capture
 
 module _ (records settings : List ℕ) (edition n : ℕ) (out : List ℕ) {bytes : ℕ} (is-size : bytes ≡ capture_size settings_count n) where
-  pub too_short : length out < bytes → (Refused 7 bytes ≡ filled out n) × (out ≡ filling records settings edition n out)
+  pub too_short : length out < bytes → (Err (Room bytes) ≡ filled out n) × (out ≡ filling records settings edition n out)
   unfolding filled filling
   too_short l = rw (is-size, lt-ltb (length out) (capture_size settings_count n) (omega arith)) (refl, refl)
 
@@ -87,6 +88,6 @@ module _ (records settings : List ℕ) (edition n : ℕ) (out : List ℕ) {bytes
         omega (arith, bytes_of-length (header ++ settings), length-append header settings) in
         b ∙ (λ i. sets (a i) (place i) (records_in records n)) ∙ sets-append out 0 (bytes_of (header ++ settings)) (records_in records n)
 
-    pub wrote : (Written bytes ≡ filled out n) × (o₂ ≡ filling records settings edition n out)
+    pub wrote : (Ok bytes ≡ filled out n) × (o₂ ≡ filling records settings edition n out)
     unfolding filled filling
     wrote = rw (is-size, le-ltb (length out) (capture_size settings_count n) (omega arith)) (refl, both_stored)

@@ -1,7 +1,7 @@
 -- What reading an export answers, and what it leaves in the buffer, at each place where it ends.
 use Rattle.std.proofs.Common.{◌≡◌, ℕ, ◌*◌, ◌%◌, ◌<◌, ◌≤◌, Bool, true, false, cond, not, ◌||◌, eqb, ltb, List, ◌++◌, length, sym, refl, ap, ◌∙◌, arith, ltb-false, le-ltb, lt-ltb, eqb-true}
 use mathlib.Core.Bool.{or-true, or-false}
-use mathlib.Core.Option.{Option, none}
+use mathlib.Core.Option.{Option, none, some}
 use lib.ListN.{length-map}
 use lib.Seq.{sets}
 use Rattle.reading.specs.Search.{given, or_else, count, lowest}
@@ -13,25 +13,24 @@ use Rattle.reading.specs.Answers.{Answer, answered, unless, Outcome, leaves, fit
 use Rattle.reading.specs.Export.{most_records, record_count, record_of, records_of, stands, bad_export, bad_pins, read_outcome}
 use Rattle.words.proofs.Runs.{front}
 use Rattle.words.proofs.Words.{bytes_of-append}
-use Rattle.words.specs.Found.{place_of}
-use Rattle.words.specs.declared.Found.{Found}
-use Rattle.words.specs.declared.Found.TheVariants.{Nothing, At}
-use Rattle.settings.specs.Meaning as settings
+use Rattle.std.specs.Prelude.{Result, Ok, Err}
+use Rattle.refusal.specs.declared.Refusal.{Refusal}
+use Rattle.refusal.specs.declared.Refusal.TheVariants.{Header, Event, Room, Export}
+use Rattle.refusal.specs.Refusal.{told, passed}
 use Rattle.settings.specs.Meaning.{checked}
-use Rattle.settings.specs.declared.Checked.{Checked}
-use Rattle.settings.specs.declared.Checked.TheVariants as check
 use Rattle.settings.proofs.Fitting as settings-fit
 use Rattle.capture.specs.Calls.{Meets}
 use Rattle.capture.proofs.Outcome.{follow, follow-unless}
 use Rattle.capture.proofs.Accepted.{length-count}
 use Rattle.capture.proofs.Whole as whole
-use Rattle.exports.specs.declared.Converted.{Converted}
-use Rattle.exports.specs.declared.Converted.TheVariants.{Refused, Written}
-use Rattle.exports.specs.Meaning.{means, Held, Fillable, too_high, records_from, records_in, filled, filling}
+use Rattle.exports.specs.Meaning.{Held, Fillable, too_high, records_from, records_in, filled, filling}
 
 -- what a call ends with is an outcome's answer and buffer
-abbrev pub Ends : Outcome → Converted → List ℕ → Type 0
-Ends o r out = Meets (means r) out o
+abbrev pub counting : Result ℕ Refusal → Answer ℕ
+counting r = told (λ n. n) r
+
+abbrev pub Ends : Outcome → Result ℕ Refusal → List ℕ → Type 0
+Ends o r out = Meets (counting r) out o
 
 -- ---- an export that is not refused by number 11
 
@@ -67,7 +66,7 @@ module _ (x : List ℕ) (ws : List ℕ) (edition : ℕ) (out : List ℕ) where
 
   -- ---- refusals 2 and 3
 
-  pub no-edition : 1 < edition → Ends (read_outcome x ws edition out) (Refused 2 0) out
+  pub no-edition : 1 < edition → Ends (read_outcome x ws edition out) (Err Header) out
   unfolding read_outcome
   no-edition l = rw (lt-ltb newest_edition edition l, or-true (not (eqb (length ws) settings_count))) (refl, refl)
 
@@ -82,76 +81,70 @@ module _ (x : List ℕ) (ws : List ℕ) (edition : ℕ) (out : List ℕ) where
         ∙ ap (λ (a : Answer (List ℕ)). leaves a out)
         (ap (unless 2 count) (follow-unless 3 (bad_setting ws) (answered tt) rest) ∙ follow-unless 2 count (unless 3 (bad_setting ws) (answered tt)) rest)
 
-    pub refuses : (r : Checked) → settings.means r ≡ checked ws → {number place : ℕ} → r ≡ check.Refused number place →
-        Ends (read_outcome x ws edition out) (Refused number place) out
-    refuses r e f = rw (tested, ← e, f) (refl, refl)
+    pub refuses : (r : Refusal) → passed {A = Unit {0}} (Err r) ≡ checked ws → Ends (read_outcome x ws edition out) (Err r) out
+    refuses r e = rw (tested, ← e) (refl, refl)
 
     -- ---- refusal 11
 
-    module _ (r : Checked) (e : settings.means r ≡ checked ws) (f : r ≡ check.Fine) where
+    module _ (right : answered tt ≡ checked ws) where
       fourteen : length ws ≡ settings_count
-      fourteen = (settings-fit.fitting ws (sym e ∙ ap settings.means f)).count
+      fourteen = (settings-fit.fitting ws (sym right)).count
 
       onward : read_outcome x ws edition out ≡ leaves rest out
-      onward = tested ∙ rw (← e, f)
+      onward = tested ∙ rw (← right)
 
-      module _ (bad : Found) (g : place_of bad ≡ bad_export x) where
-        -- ---- refusal 4
+      pub unread : {place : ℕ} → some place ≡ bad_export x → Ends (read_outcome x ws edition out) (Err (Export place)) out
+      unread k = rw (onward, ← k) (refl, refl)
 
-        module _ (k : bad ≡ Nothing) where
-          none-bad : bad_export x ≡ none
-          none-bad = sym g ∙ ap place_of k
+      -- ---- refusal 4
 
-          pub held : Held x (record_count x)
-          held = let w = whole-records x none-bad in record { few = w.few; there = omega (arith, w.size) }
+      module _ (fine : none ≡ bad_export x) where
+        pub held : Held x (record_count x)
+        held = let w = whole-records x (sym fine) in record { few = w.few; there = omega (arith, w.size) }
 
-          module _ (high : Found) (m : place_of high ≡ lowest (too_high x) (record_count x)) where
-            pub high-pins : {place : ℕ} → high ≡ At place → Ends (read_outcome x ws edition out) (Refused 4 place) out
-            unfolding bad_pins
-            high-pins q = rw (onward, none-bad, ← m, q) (refl, refl)
+        pub high-pins : {place : ℕ} → some place ≡ lowest (too_high x) (record_count x) → Ends (read_outcome x ws edition out) (Err (Event place)) out
+        unfolding bad_pins
+        high-pins m = rw (onward, ← fine, ← m) (refl, refl)
 
-            -- ---- the capture
+        -- ---- the capture
 
-            module _ (q : high ≡ Nothing) where
-              pub fillable : Fillable x ws (record_count x)
-              fillable = record { held = held; fourteen = fourteen }
+        module _ (low : none ≡ lowest (too_high x) (record_count x)) where
+          pub fillable : Fillable x ws (record_count x)
+          fillable = record { held = held; fourteen = fourteen }
 
-              abbrev n : ℕ
-              n = record_count x
+          abbrev n : ℕ
+          n = record_count x
 
-              long : length capture ≡ capture_size settings_count n
-              long = whole.size edition ws (records_of x) ∙ (λ i. capture_size (fourteen i) (records-count x i))
+          long : length capture ≡ capture_size settings_count n
+          long = whole.size edition ws (records_of x) ∙ (λ i. capture_size (fourteen i) (records-count x i))
 
-              whole_is : bytes_of (header_of edition (length ws) n ++ ws) ++ records_in x n ≡ capture
-              unfolding capture_in records_from records_of
-              whole_is =
-                  sym (bytes_of-append (header_of edition (length ws) n ++ ws) (event_words (records_of x)))
-                  ∙ ap (λ (k : ℕ). bytes_of (header_of edition (length ws) k ++ ws ++ event_words (records_of x))) (sym (records-count x))
+          whole_is : bytes_of (header_of edition (length ws) n ++ ws) ++ records_in x n ≡ capture
+          unfolding capture_in records_from records_of
+          whole_is =
+              sym (bytes_of-append (header_of edition (length ws) n ++ ws) (event_words (records_of x)))
+              ∙ ap (λ (k : ℕ). bytes_of (header_of edition (length ws) k ++ ws ++ event_words (records_of x))) (sym (records-count x))
 
-              outcome-is : read_outcome x ws edition out ≡
-                  leaves (unless 7 (given (capture_size settings_count n) (ltb (length out) (capture_size settings_count n))) (answered capture)) out
-              unfolding bad_pins
-              outcome-is =
-                  onward
-                  ∙ (λ i. leaves (unless 11 (none-bad i) (unless 4 ((sym m ∙ ap place_of q) i) (fitting out capture))) out)
-                  ∙ (λ i. leaves (unless 7 (given (long i) (ltb (length out) (long i))) (answered capture)) out)
+          outcome-is : read_outcome x ws edition out ≡
+              leaves (unless 7 (given (capture_size settings_count n) (ltb (length out) (capture_size settings_count n))) (answered capture)) out
+          unfolding bad_pins
+          outcome-is =
+              onward
+              ∙ (λ i. leaves (unless 11 (sym fine i) (unless 4 (sym low i) (fitting out capture))) out)
+              ∙ (λ i. leaves (unless 7 (given (long i) (ltb (length out) (long i))) (answered capture)) out)
 
-              final : (v : Bool) → ltb (length out) (capture_size settings_count n) ≡ v →
-                  Ends (leaves (unless 7 (given (capture_size settings_count n) v) (answered capture)) out)
-                  (cond v (Refused 7 (capture_size settings_count n)) (Written (capture_size settings_count n)))
-                  (cond v out (sets out 0 capture))
-              final true k = (refl, refl)
-              final false k =
-                  (ap answered (sym long), front capture out (omega (arith, long, ltb-false (length out) (capture_size settings_count n) k)))
+          final : (v : Bool) → ltb (length out) (capture_size settings_count n) ≡ v →
+              Ends (leaves (unless 7 (given (capture_size settings_count n) v) (answered capture)) out)
+              (cond v (Err (Room (capture_size settings_count n))) (Ok (capture_size settings_count n)))
+              (cond v out (sets out 0 capture))
+          final true k = (refl, refl)
+          final false k =
+              (ap answered (sym long), front capture out (omega (arith, long, ltb-false (length out) (capture_size settings_count n) k)))
 
-              pub ends : {r : Converted} {o : List ℕ} → r ≡ filled out n → o ≡ filling x ws edition n out → Ends (read_outcome x ws edition out) r o
-              unfolding filled filling
-              ends e f =
-                  let size = capture_size settings_count n in
-                  let fin = final (ltb (length out) size) refl in (
-                    ap means e ∙ fin.0 ∙ sym (ap (λ (z : Outcome). z.answer) outcome-is),
-                    f ∙ ap (λ (z : List ℕ). cond (ltb (length out) size) out (sets out 0 z)) whole_is ∙ fin.1 ∙ sym (ap (λ (z : Outcome). z.buffer) outcome-is),
-                  )
-
-        pub unread : {place : ℕ} → bad ≡ At place → Ends (read_outcome x ws edition out) (Refused 11 place) out
-        unread k = rw (onward, ← g, k) (refl, refl)
+          pub ends : {r : Result ℕ Refusal} {o : List ℕ} → r ≡ filled out n → o ≡ filling x ws edition n out → Ends (read_outcome x ws edition out) r o
+          unfolding filled filling
+          ends e f =
+              let size = capture_size settings_count n in
+              let fin = final (ltb (length out) size) refl in (
+                ap counting e ∙ fin.0 ∙ sym (ap (λ (z : Outcome). z.answer) outcome-is),
+                f ∙ ap (λ (z : List ℕ). cond (ltb (length out) size) out (sets out 0 z)) whole_is ∙ fin.1 ∙ sym (ap (λ (z : Outcome). z.buffer) outcome-is),
+              )

@@ -7,5 +7,4 @@ pub mod Bridges
 pub mod Outgoing
 pub mod Back
 pub mod Records
-pub mod Unique
 pub mod Within

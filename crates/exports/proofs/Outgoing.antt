@@ -7,28 +7,28 @@ use Rattle.reading.specs.Capture.{Event, most_events, header_word, count_in, eve
 use Rattle.reading.specs.Answers.{Answer, answered, unless, Outcome, leaves, fitting}
 use Rattle.reading.specs.Export.{most_records, reach, bridged, export_of, first_cycle, unwritable, write_outcome}
 use Rattle.words.proofs.Runs.{front}
-use Rattle.settings.specs.Meaning as settings
-use Rattle.settings.specs.declared.Checked.{Checked}
-use Rattle.settings.specs.declared.Checked.TheVariants as check
+use Rattle.std.specs.Prelude.{Result, Ok, Err}
+use Rattle.refusal.specs.declared.Refusal.{Refusal}
+use Rattle.refusal.specs.declared.Refusal.TheVariants.{Room, Distance}
+use Rattle.refusal.specs.Refusal.{passed}
+use Rattle.capture.specs.declared.held.Opened.{Opened}
 use Rattle.capture.specs.Calls.{opened, Accepted}
 use Rattle.capture.proofs.Outcome.{refused-meets}
-use Rattle.capture.proofs.Accepted.{Sound, accepted-sound, accepted-rest, cycle-fits}
+use Rattle.capture.proofs.Accepted.{Sound, accepted-sound, accepted-rest, refused-to, cycle-fits}
 use Rattle.capture.proofs.Opened as opening
-use Rattle.exports.specs.declared.Converted.{Converted}
-use Rattle.exports.specs.declared.Converted.TheVariants.{Refused, Written}
-use Rattle.exports.specs.Meaning.{means, Given, events_in, too_far, stored, storing}
+use Rattle.exports.specs.Meaning.{Given, events_in, too_far, stored, storing}
 use Rattle.exports.proofs.Bridges.{export-length}
-use Rattle.exports.proofs.Incoming.{Ends}
+use Rattle.exports.proofs.Incoming.{counting, Ends}
 
 -- ---- the records, if the buffer holds them
 
 module _ (es : List Event) (records : ℕ) (out : List ℕ) where
-  pub too_short : length out < 6 * records → (Refused 7 (6 * records) ≡ stored out records) × (out ≡ storing es records out)
+  pub too_short : length out < 6 * records → (Err (Room (6 * records)) ≡ stored out records) × (out ≡ storing es records out)
   unfolding stored storing
   too_short l = rw (lt-ltb (length out) (6 * records) l) (refl, refl)
 
   pub wrote : 6 * records ≤ length out → {o : List ℕ} → o ≡ sets out 0 (export_of (bridged es)) →
-      (Written (6 * records) ≡ stored out records) × (o ≡ storing es records out)
+      (Ok (6 * records) ≡ stored out records) × (o ≡ storing es records out)
   unfolding stored storing
   wrote l e = rw (le-ltb (length out) (6 * records) l) (refl, e)
 
@@ -44,14 +44,14 @@ few-records c e =
     ltb-false most_records (length (bridged (events_of c)))
     (halves (ltb reach (first_cycle (events_of c))) _ (halves (eqb (count_in c) sleeping_count) _ e))
 
-module _ (c out : List ℕ) {o : Checked} (said : settings.means o ≡ opened c) where
-  pub refused-so : {number place : ℕ} → o ≡ check.Refused number place → Ends (write_outcome c out) (Refused number place) out
+module _ (c out : List ℕ) where
+  pub refused-so : (r : Refusal) → passed {A = Opened} (Err r) ≡ opened c → Ends (write_outcome c out) (Err r) out
   unfolding write_outcome
-  refused-so e = refused-meets (opening.refused-so most_events c said _ e)
+  refused-so r e = refused-meets (refused-to most_events c _ (sym e))
 
-  module _ (fine : o ≡ check.Fine) where
+  module _ (said : answered tt ≡ opened c) where
     open-to : Accepted c
-    open-to = opening.accepted-so most_events c said fine
+    open-to = sym said
 
     sound : Sound most_events c
     sound = accepted-sound c open-to
@@ -81,7 +81,7 @@ module _ (c out : List ℕ) {o : Checked} (said : settings.means o ≡ opened c)
         go false = (λ l. absurd (omega arith), λ l. refl)
 
     module _ {start : ℕ} (told : start ≡ events_start (count_in c)) where
-      pub sleeps : events_start settings_count < start → Ends (write_outcome c out) (Refused 12 0) out
+      pub sleeps : events_start settings_count < start → Ends (write_outcome c out) (Err Distance) out
       unfolding unwritable
       sleeps l = rw (onward true (rw ((sleeping (header_word c 1)).0 (omega arith)))) (refl, refl)
 
@@ -104,7 +104,7 @@ module _ (c out : List ℕ) {o : Checked} (said : settings.means o ≡ opened c)
         far-is = rw ((sleeping (header_word c 1)).1 (omega arith)) (sym (ap too_far events-are))
 
         module _ {far : Bool} (h : far ≡ too_far (events_in bytes n)) where
-          pub too_far_lem : far ≡ true → Ends (write_outcome c out) (Refused 12 0) out
+          pub too_far_lem : far ≡ true → Ends (write_outcome c out) (Err Distance) out
           too_far_lem e = rw (onward true (far-is ∙ sym h ∙ e)) (refl, refl)
 
           -- ---- refusal 7, and the export
@@ -127,17 +127,17 @@ module _ (c out : List ℕ) {o : Checked} (said : settings.means o ≡ opened c)
                 ∙ (λ i. leaves (unless 7 (given (size_is i) (ltb (length out) (size_is i))) (answered export)) out)
 
             final : (v : Bool) → ltb (length out) (6 * records) ≡ v →
-                Ends (leaves (unless 7 (given (6 * records) v) (answered export)) out) (cond v (Refused 7 (6 * records)) (Written (6 * records)))
+                Ends (leaves (unless 7 (given (6 * records) v) (answered export)) out) (cond v (Err (Room (6 * records))) (Ok (6 * records)))
                 (cond v out (sets out 0 export))
             final true e = (refl, refl)
             final false e = (ap answered (sym size_is), front export out (omega (arith, size_is, ltb-false (length out) (6 * records) e)))
 
-            pub ends : {r : Converted} {left : List ℕ} → r ≡ stored out records → left ≡ storing (events_in bytes n) records out →
+            pub ends : {r : Result ℕ Refusal} {left : List ℕ} → r ≡ stored out records → left ≡ storing (events_in bytes n) records out →
                 Ends (write_outcome c out) r left
             unfolding stored storing
             ends p q =
                 let fin = final (ltb (length out) (6 * records)) refl in (
-                  ap means p ∙ fin.0 ∙ sym (ap (λ (z : Outcome). z.answer) outcome-is),
+                  ap counting p ∙ fin.0 ∙ sym (ap (λ (z : Outcome). z.answer) outcome-is),
                   q ∙ ap (λ (es : List Event). cond (ltb (length out) (6 * records)) out (sets out 0 (export_of (bridged es)))) events-are ∙ fin.1
                       ∙ sym (ap (λ (z : Outcome). z.buffer) outcome-is),
                 )

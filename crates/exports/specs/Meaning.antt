@@ -1,20 +1,14 @@
 -- What this crate's answers mean in the reading, and what its functions ask of each other.
-use Rattle.std.specs.Prelude.{◌≡◌, ℕ, ◌+◌, ◌-◌, ◌*◌, ◌^◌, ◌<◌, ◌≤◌, Bool, cond, not, ◌||◌, List, ◌++◌, map, length, nat_lt}
+use Rattle.std.specs.Prelude.{◌≡◌, ℕ, ◌+◌, ◌-◌, ◌*◌, ◌^◌, ◌<◌, ◌≤◌, Bool, cond, not, ◌||◌, List, ◌++◌, map, length, nat_lt, Result, Ok, Err}
 use Rattle.std.proofs.lemmas.List.Edits.{sets}
 use Rattle.reading.specs.Search.{count}
 use Rattle.reading.specs.Words.{bytes_of}
 use Rattle.reading.specs.Settings.{settings_count}
 use Rattle.reading.specs.Capture.{Event, event_at, capture_size, most_events, last_cycle}
 use Rattle.reading.specs.Schedule.{event_words, header_of}
-use Rattle.reading.specs.Answers.{Answer, refused, answered}
 use Rattle.reading.specs.Export.{record_size, most_records, record_pins, record_of, reach, bridged, export_of, first_cycle}
-use Rattle.exports.specs.declared.Converted.{Converted}
-use Rattle.exports.specs.declared.Converted.TheVariants.{Refused, Written}
-
--- number and place, or how many bytes were written
-abbrev pub means : Converted → Answer ℕ
-means (Refused number place) = refused number place
-means (Written bytes) = answered bytes
+use Rattle.refusal.specs.declared.Refusal.{Refusal}
+use Rattle.refusal.specs.declared.Refusal.TheVariants.{Room}
 
 -- ---- from an export to a capture
 
@@ -44,8 +38,8 @@ pub record Fillable (records settings : List ℕ) (n : ℕ) : Type 0 where
   pub fourteen : length settings ≡ settings_count
 
 -- the capture, if the buffer holds it
-unfoldable pub filled : List ℕ → ℕ → Converted
-filled out n = let bytes = capture_size settings_count n in cond (nat_lt (length out) bytes) (Refused 7 bytes) (Written bytes)
+unfoldable pub filled : List ℕ → ℕ → Result ℕ Refusal
+filled out n = let bytes = capture_size settings_count n in cond (nat_lt (length out) bytes) (Err (Room bytes)) (Ok bytes)
 
 unfoldable pub filling : List ℕ → List ℕ → ℕ → ℕ → List ℕ → List ℕ
 filling records settings edition n out =
@@ -82,9 +76,9 @@ abbrev pub too_far : List Event → Bool
 too_far es = nat_lt reach (first_cycle es) || nat_lt most_records (length (bridged es))
 
 -- the export, if the buffer holds it
-unfoldable pub stored : List ℕ → ℕ → Converted
+unfoldable pub stored : List ℕ → ℕ → Result ℕ Refusal
 stored out records =
-    let bytes = record_size * records in cond (nat_lt (length out) bytes) (Refused 7 bytes) (Written bytes)
+    let bytes = record_size * records in cond (nat_lt (length out) bytes) (Err (Room bytes)) (Ok bytes)
 
 unfoldable pub storing : List Event → ℕ → List ℕ → List ℕ
 storing es records out = cond (nat_lt (length out) (record_size * records)) out (sets out 0 (export_of (bridged es)))

@@ -1,25 +1,19 @@
 // Exports of the handheld analyser: read into a capture, and written from one.
 #![tactic(auto)]
 
-ghost use Rattle.std.specs.Prelude.{◌≡◌, ◌+◌, ◌*◌, ◌%◌, ◌≤◌, not, ◌++◌, map, length};
+ghost use Rattle.std.specs.Prelude.{◌≡◌, ℕ, Bool, ◌+◌, ◌*◌, ◌%◌, ◌^◌, ◌≤◌, ◌<◌, ◌++◌, map, length};
 ghost use Rattle.std.proofs.lemmas.List.Edits.{sets};
 ghost use Rattle.reading.specs.Search.{count, lowest};
 ghost use Rattle.reading.specs.Words.{word_bytes, half_bytes};
 ghost use Rattle.reading.specs.Capture.{last_cycle};
 ghost use Rattle.reading.specs.Export.{most_records, stamp_at, record_pins, around, apart, stands, bad_export, read_outcome, between, nop, bridged, export_of, write_outcome};
 ghost use Rattle.words.specs.Found.{place_of};
-ghost use Rattle.exports.specs.Meaning.{means, Held, too_high, records_in, Readable, Fillable, filled, filling, Given, events_in, Writable, Bridging, too_far, stored, storing};
+ghost use Rattle.refusal.specs.Refusal.{told};
+ghost use Rattle.exports.specs.Meaning.{too_high, records_in, Readable, Fillable, filled, filling, Given, events_in, Writable, Bridging, too_far, stored, storing};
 
 use capture::front;
-use settings::Checked;
-use words::Found;
-
-// What is said of an export, or of a capture that is to be one.
-#[derive(Clone, Copy)]
-pub enum Converted {
-    Refused { number: u32, place: u32 },
-    Written { bytes: u32 },
-}
+use capture::held::Events;
+use refusal::Refusal;
 
 const NEWEST_EDITION: u32 = 1;
 
@@ -64,57 +58,51 @@ fn record_pins(records: &[u8], i: usize) -> u32
     words::word_at(records, RECORD * i + STAMP)
 }
 
-// Its stamp is not that of the record before.
-fn moves(records: &[u8], i: usize) -> bool
+// Its stamp is that of the record before.
+fn stands(records: &[u8], i: usize) -> bool
     requires { 6 * i + 6 ≤ length records.now }
-    ensures { result ≡ not (stands records.now i) }
+    ensures { result ≡ stands records.now i }
 {
     if i == 0 {
-        return true;
+        return false;
     }
-    stamp_at(records, i) != stamp_at(records, i - 1)
+    stamp_at(records, i) == stamp_at(records, i - 1)
 }
 
-// The lowest of n records whose stamp is that of the one before.
-fn lowest_standing(records: &[u8], n: usize) -> Found
-    requires { Held records.now n }
-    ensures { place_of result ≡ lowest (stands records.now) n }
+// Its pins are none that there are.
+fn too_high(records: &[u8], i: usize) -> bool
+    requires { 6 * i + 6 ≤ length records.now }
+    ensures { result ≡ too_high records.now i }
+{
+    PINS <= record_pins(records, i)
+}
+
+// The lowest of n records that a test names, by its number.
+fn lowest<F: Fn(usize) -> bool>(n: usize, test: F) -> Option<u32>
+    requires few { n < 2 ^ 32 }
+    requires each { (i : ℕ) → i < n → F.pre test i }
+    ensures { (f : ℕ → Bool) → ((i : ℕ) (r : Bool) → i < n → F.post test i r → r ≡ f i) → place_of result ≡ lowest f n }
 {
     'records: for i in 0..n {
-        if moves(records, i) {
-            continue 'records;
+        if test(i) {
+            return Some(i as u32);
         }
-        return Found::At(i as u32);
     }
-    Found::Nothing
+    None
 }
 
 // Refusal 11.
-fn bad_export(records: &[u8]) -> Found
+fn bad_export(records: &[u8]) -> Option<u32>
     ensures { place_of result ≡ bad_export records.now }
 {
     let n = records.len() / RECORD;
     if records.len() % RECORD != 0 {
-        return Found::At(0);
+        return Some(0);
     }
     if MOST_RECORDS < n {
-        return Found::At(TOO_MANY);
+        return Some(TOO_MANY);
     }
-    lowest_standing(records, n)
-}
-
-// The lowest of n records with pins that there are not.
-fn lowest_high(records: &[u8], n: usize) -> Found
-    requires { Held records.now n }
-    ensures { place_of result ≡ lowest (too_high records.now) n }
-{
-    'records: for i in 0..n {
-        if record_pins(records, i) < PINS {
-            continue 'records;
-        }
-        return Found::At(i as u32);
-    }
-    Found::Nothing
+    lowest(n, |i| stands(records, i))
 }
 
 // The cycle of a record, from that of the record before and both stamps.
@@ -122,7 +110,7 @@ fn next_cycle(cycle: u32, before: u16, stamp: u16) -> u32
     requires { cycle ≤ last_cycle }
     ensures { result ≡ cycle + apart before stamp }
 {
-    let gone = std::num::wrapping_sub_u16(stamp, before);
+    let gone = stamp.wrapping_sub(before);
     cycle + gone as u32
 }
 
@@ -134,7 +122,7 @@ fn put_event(out: &mut [u8], at: usize, cycle: u32, pins: u32)
     words::put_word(out, at + 4, pins);
 }
 
-// Stores n records as events behind the front of a capture.
+// Stores n records as events behind the front of a capture. The walk asks for their numbers: by them it reads and stores.
 fn put_events(records: &[u8], n: usize, out: &mut [u8])
     requires { Readable records.now n out.old }
     ensures { out.new ≡ sets out.old 80 (records_in records.now n) }
@@ -149,45 +137,41 @@ fn put_events(records: &[u8], n: usize, out: &mut [u8])
     }
 }
 // The capture of n records, if the buffer holds it.
-fn fill(records: &[u8], settings: &[u32], edition: u32, n: u32, out: &mut [u8]) -> Converted
+fn fill(
+    records: &[u8],
+    settings: &[u32],
+    edition: u32,
+    n: u32,
+    out: &mut [u8],
+) -> Result<u32, Refusal>
     requires { Fillable records.now settings.now n }
     ensures value { result ≡ filled out.old n }
     ensures out_after { out.new ≡ filling records.now settings.now edition n out.old }
 {
     let bytes = front::size(n);
     if out.len() < bytes as usize {
-        return Converted::Refused {
-            number: 7,
-            place: bytes,
-        };
+        return Err(Refusal::Room(bytes));
     }
     front::put(settings, edition, n, out);
     put_events(records, n as usize, out);
-    Converted::Written { bytes }
+    Ok(bytes)
 }
+
 // These records as a capture of these settings and this edition; bytes behind it in the buffer stay.
-pub fn read(records: &[u8], settings: &[u32], edition: u32, out: &mut [u8]) -> Converted
-    ensures result_value { means result ≡ (read_outcome records.now settings.now edition out.old).answer }
+pub fn read(records: &[u8], settings: &[u32], edition: u32, out: &mut [u8]) -> Result<u32, Refusal>
+    ensures result_value { told (λ n. n) result ≡ (read_outcome records.now settings.now edition out.old).answer }
     ensures out_after { out.new ≡ (read_outcome records.now settings.now edition out.old).buffer }
 {
     if NEWEST_EDITION < edition {
-        return Converted::Refused {
-            number: 2,
-            place: 0,
-        };
+        return Err(Refusal::Header);
     }
-    let checked = settings::check(settings);
-    if let Checked::Refused { number, place } = checked {
-        return Converted::Refused { number, place };
-    }
-    let bad = bad_export(records);
-    if let Found::At(place) = bad {
-        return Converted::Refused { number: 11, place };
+    settings::check(settings)?;
+    if let Some(place) = bad_export(records) {
+        return Err(Refusal::Export(place));
     }
     let n = records.len() / RECORD;
-    let high = lowest_high(records, n);
-    if let Found::At(place) = high {
-        return Converted::Refused { number: 4, place };
+    if let Some(place) = lowest(n, |i| too_high(records, i)) {
+        return Err(Refusal::Event(place));
     }
     fill(records, settings, edition, n as u32, out)
 }
@@ -208,31 +192,31 @@ fn nops_between(last: u32, t: u32) -> u32
     apart / REACH
 }
 
-// How many records the first n events take. Each takes at most 30,519, so that their number fits.
-fn records_needed(bytes: &[u8], n: usize) -> u32
-    requires { Given bytes.now n }
-    ensures { result ≡ length (bridged (events_in bytes.now n)) }
+// How many records the events take. Each takes at most 30,519, so that their number fits. `Events` hands them out by number.
+fn records_needed(events: &Events) -> u32
+    requires { Given events.now.bytes.now events.now.count }
+    ensures { result ≡ length (bridged (events_in events.now.bytes.now events.now.count)) }
 {
     let mut needed = 0u32;
     let mut last = 0u32;
-    'events: for i in 0..n {
-        let t = capture::cycle_at(bytes, i);
+    'events: for i in 0..events.count {
+        let t = events.cycle(i);
         needed = needed + nops_between(last, t) + 1;
         last = t;
     }
     needed
 }
 
-// Refusal 12 of n events that take so many records.
-fn too_far(bytes: &[u8], n: usize, records: u32) -> bool
-    requires given { Given bytes.now n }
-    requires records_value { records ≡ length (bridged (events_in bytes.now n)) }
-    ensures { result ≡ too_far (events_in bytes.now n) }
+// Refusal 12 of events that take so many records.
+fn too_far(events: &Events, records: u32) -> bool
+    requires given { Given events.now.bytes.now events.now.count }
+    requires records_value { records ≡ length (bridged (events_in events.now.bytes.now events.now.count)) }
+    ensures { result ≡ too_far (events_in events.now.bytes.now events.now.count) }
 {
-    if n == 0 {
+    if events.count == 0 {
         return false;
     }
-    if REACH < capture::cycle_at(bytes, 0) {
+    if REACH < events.cycle(0) {
         return true;
     }
     TOO_MANY < records
@@ -246,7 +230,7 @@ fn put_record(out: &mut [u8], at: usize, cycle: u32, pins: u32)
     words::put_word(out, at + STAMP, pins);
 }
 
-// Stores k NOPs, one every 65,535 cycles behind cycle `last`.
+// Stores k NOPs, one every 65,535 cycles behind cycle `last`, each at its number's place.
 fn put_nops(out: &mut [u8], at: usize, last: u32, k: u32)
     requires { Bridging last k out.old at }
     ensures { out.new ≡ sets out.old at (export_of (map (nop last) (count 0 k))) }
@@ -258,68 +242,54 @@ fn put_nops(out: &mut [u8], at: usize, last: u32, k: u32)
     }
 }
 
-// Stores the records of n events.
-fn put_export(bytes: &[u8], n: usize, out: &mut [u8])
-    requires { Writable bytes.now n out.old }
-    ensures { out.new ≡ sets out.old 0 (export_of (bridged (events_in bytes.now n))) }
+// Stores the records of the events.
+fn put_export(events: &Events, out: &mut [u8])
+    requires { Writable events.now.bytes.now events.now.count out.old }
+    ensures { out.new ≡ sets out.old 0 (export_of (bridged (events_in events.now.bytes.now events.now.count))) }
 {
     let mut at = 0usize;
     let mut last = 0u32;
-    'events: for i in 0..n {
-        let t = capture::cycle_at(bytes, i);
+    'events: for i in 0..events.count {
+        let t = events.cycle(i);
         let k = nops_between(last, t);
         put_nops(out, at, last, k);
         let here = at + RECORD * (k as usize);
-        put_record(out, here, t, capture::pins_at(bytes, i));
+        put_record(out, here, t, events.pins(i));
         at = here + RECORD;
         last = t;
     }
 }
 
-// The export of n events that take so many records, if the buffer holds it.
-fn store(bytes: &[u8], n: usize, records: u32, out: &mut [u8]) -> Converted
-    requires given { Given bytes.now n }
-    requires records_value { records ≡ length (bridged (events_in bytes.now n)) }
+// The export of events that take so many records, if the buffer holds it.
+fn store(events: &Events, records: u32, out: &mut [u8]) -> Result<u32, Refusal>
+    requires given { Given events.now.bytes.now events.now.count }
+    requires records_value { records ≡ length (bridged (events_in events.now.bytes.now events.now.count)) }
     requires records_le_most_records { records ≤ most_records }
     ensures value { result ≡ stored out.old records }
-    ensures out_after { out.new ≡ storing (events_in bytes.now n) records out.old }
+    ensures out_after { out.new ≡ storing (events_in events.now.bytes.now events.now.count) records out.old }
 {
     let size = (RECORD as u32) * records;
     if out.len() < size as usize {
-        return Converted::Refused {
-            number: 7,
-            place: size,
-        };
+        return Err(Refusal::Room(size));
     }
-    put_export(bytes, n, out);
-    Converted::Written { bytes: size }
+    put_export(events, out);
+    Ok(size)
 }
 
 // This capture as an export, with NOPs where events are further apart than stamps can tell; bytes behind it in the buffer
 // stay.
-pub fn write(capture: &[u8], out: &mut [u8]) -> Converted
-    ensures result_value { means result ≡ (write_outcome capture.now out.old).answer }
+pub fn write(capture: &[u8], out: &mut [u8]) -> Result<u32, Refusal>
+    ensures result_value { told (λ n. n) result ≡ (write_outcome capture.now out.old).answer }
     ensures out_after { out.new ≡ (write_outcome capture.now out.old).buffer }
 {
-    let checked = capture::open(capture);
-    if let Checked::Refused { number, place } = checked {
-        return Converted::Refused { number, place };
-    }
+    let opened = capture::open(capture)?;
     // With sleep there are more settings, and events start further behind.
     if capture::EVENTS < capture::events_start(capture) as usize {
-        return Converted::Refused {
-            number: 12,
-            place: 0,
-        };
+        return Err(Refusal::Distance);
     }
-    let n = capture::event_count(capture) as usize;
-    let bytes = capture::event_bytes(capture);
-    let records = records_needed(bytes, n);
-    if too_far(bytes, n, records) {
-        return Converted::Refused {
-            number: 12,
-            place: 0,
-        };
+    let records = records_needed(&opened.events);
+    if too_far(&opened.events, records) {
+        return Err(Refusal::Distance);
     }
-    store(bytes, n, records, out)
+    store(&opened.events, records, out)
 }

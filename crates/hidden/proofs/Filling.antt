@@ -1,4 +1,4 @@
--- The buffer, filled from the front on: header and settings byte by byte, then the events.
+-- The events, written one after the other.
 use Prim.Native.Nat.{ℕ, ◌+◌, ◌-◌, ◌*◌, ◌≤◌, ◌<◌}
 use mathlib.Core.List.{List, [], ◌++◌}
 use mathlib.Core.Path.{◌≡◌, refl, sym, ap, ◌∙◌}
@@ -16,7 +16,7 @@ use Rattle.words.proofs.Runs.{sets-append, none-behind}
 use Rattle.words.proofs.Search.{one_less, none_left}
 use Rattle.hidden.specs.Meaning.{blanked_from, blanked_events}
 
--- ---- bytes as they stand
+-- ---- events, blanked
 
 pub record Copying (capture : List ℕ) (n : ℕ) (out₀ out : List ℕ) (i : ℕ) : Type 0 where
   pub within : i ≤ n

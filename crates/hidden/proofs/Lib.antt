@@ -1,5 +1,4 @@
--- A capture blanked: pin words, the buffer filled from the front on, the answer, and that there is one.
+-- A capture blanked: pin words, the events written one after the other, and the answer.
 pub mod Pins
 pub mod Filling
 pub mod Outcome
-pub mod Unique

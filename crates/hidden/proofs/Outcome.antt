@@ -3,30 +3,27 @@ use Prim.Native.Nat.{ℕ, ◌+◌, ◌≤◌, ◌<◌}
 use mathlib.Core.List.{List, ◌++◌}
 use mathlib.Core.Path.{◌≡◌, sym, ap, ◌∙◌}
 use native.Mathlib.Omega.{arith}
-use lib.ListN.{length, take, length-take}
+use lib.ListN.{length, take, drop, length-take}
 use lib.Seq.{sets, length-sets}
 use Rattle.reading.specs.Settings.{settings_of}
 use Rattle.reading.specs.Capture.{events_start, count_in, most_events}
 use Rattle.reading.specs.Answers.{refused, answered, accepted, fitting}
 use Rattle.reading.specs.Blank.{blanked, blank_outcome}
 use Rattle.words.proofs.Runs.{sets-append}
-use Rattle.settings.specs.declared.Checked.{Checked}
-use Rattle.settings.specs.declared.Checked.TheVariants as checked
-use Rattle.settings.specs.Meaning as check
+use Rattle.refusal.specs.declared.Refusal.{Refusal}
+use Rattle.refusal.specs.Refusal.{number_of, place_of}
 use Rattle.capture.specs.Calls.{opened, Accepted, Meets}
 use Rattle.capture.proofs.Outcome.{too_long, refused-meets, wrote-meets}
 use Rattle.capture.proofs.Outcome as outcome
-use Rattle.capture.proofs.Accepted.{count-range, accepted-sound, accepted-rest}
-use Rattle.capture.proofs.Opened as opening
+use Rattle.capture.proofs.Accepted.{count-range, accepted-sound, accepted-rest, refused-to}
 use Rattle.capture.proofs.Opened.{Opened, long}
 use Rattle.alike.proofs.Blanked.{blanked-length}
 use Rattle.hidden.specs.Meaning.{blanked_from, blanked_events, Writable}
 
 -- one that is not accepted
-pub refused-so : (c out : List ℕ) {o : Checked} → check.means o ≡ opened c → {number place : ℕ} → o ≡ checked.Refused number place →
-    Meets (refused number place) out (blank_outcome c out)
+pub refused-so : (c out : List ℕ) (r : Refusal) → refused (number_of r) (place_of r) ≡ opened c → Meets (refused (number_of r) (place_of r)) out (blank_outcome c out)
 unfolding blank_outcome
-refused-so c out told e = refused-meets (opening.refused-so most_events c told _ e)
+refused-so c out r e = refused-meets (refused-to most_events c _ (sym e))
 
 module _ (c : List ℕ) (open-to : Accepted c) where
   -- at most 64,088 bytes
@@ -54,11 +51,10 @@ module _ {c settings bytes : List ℕ} {n start : ℕ} (x : Opened most_events c
   copies = let l = long most_events c x.open-to in (omega arith, omega arith)
 
   module _ {o₁ : List ℕ} (first : o₁ ≡ sets out 0 head) where
-    pub writable : Writable settings bytes n o₁ start
+    pub writable : Writable settings n o₁ start
     writable =
         record {
           rows = omega (arith, x.rows);
-          there = x.there;
           room = rw (first, length-sets out 0 head) (omega (arith, x.count-is, g, (accepted-sound c x.open-to).sized.size));
         }
 

@@ -3,3 +3,5 @@ pub mod Events
 pub mod Walking
 pub mod Sounds
 pub mod Judging
+-- For the laws that its answer is settled.
+pub mod Unique

@@ -19,8 +19,9 @@ use Rattle.reading.specs.Verdict.{broken, broken_or, judge_from, verdict_of, jud
 use Rattle.reading.proofs.Found.{found-as-all}
 use Rattle.capture.proofs.Accepted.{cycle-fits, cycle-rises}
 use Rattle.deadlines.specs.Deadlines.{pace_of}
-use Rattle.part.specs.declared.Answer.{Answer}
-use Rattle.part.specs.declared.Answer.TheVariants.{Kept, Broke}
+use Rattle.std.specs.Prelude.{⊤, Result, Ok, Err}
+use Rattle.rules.specs.declared.Rule.{Rule}
+use Rattle.rules.specs.Rule.{number_of}
 use Rattle.part.specs.Means.{means}
 use Rattle.steps.specs.Steps.{rule_of, left_by, step_breaks, step_after, pace_after}
 use Rattle.bridge.specs.Summary.{Timed, laid, summary}
@@ -29,7 +30,7 @@ use Rattle.bridge.proofs.Next.{Sound}
 use Rattle.bridge.proofs.Turn.{Turned, turned-event, start-laid, start-sound}
 use Rattle.judge.specs.declared.Verdict.{Verdict}
 use Rattle.judge.specs.declared.Verdict.TheVariants.{Clean, Broken}
-use Rattle.judge.specs.Meaning.{Fit, Started, events_in, said, verdict_on, part_at, judged_part, deadlines_on, pace_on}
+use Rattle.judge.specs.Meaning.{report_of, Fit, Started, events_in, said, report_on, part_at, judged_part, deadlines_on, pace_on}
 use Rattle.judge.proofs.Events.{next_of, none_of, part-next}
 
 -- no rule has the number 0
@@ -39,7 +40,7 @@ positive s p e r q =
     eqb-false r 0 (not-true (eqb r 0) (found-as-all breaks (λ k. not (eqb k 0)) rules refl r q))
 
 -- the number that an answer stands for
-zero_of : (r : ℕ) → means Kept ≡ rule_of r → r ≡ 0
+zero_of : (r : ℕ) → none ≡ rule_of r → r ≡ 0
 zero_of r e = go (eqb r 0) refl e
   where
     go : (v : Bool) → eqb r 0 ≡ v → none ≡ cond v none (some r) → r ≡ 0
@@ -50,7 +51,7 @@ record Breaks (k r : ℕ) : Type 0 where
   pub same : k ≡ r
   pub some-rule : r ≡ 0 → ⊥
 
-broken-of : (k r : ℕ) → means (Broke k) ≡ rule_of r → Breaks k r
+broken-of : (k r : ℕ) → some k ≡ rule_of r → Breaks k r
 broken-of k r e = go (eqb r 0) refl e
   where
     go : (v : Bool) → eqb r 0 ≡ v → some k ≡ cond v none (some r) → Breaks k r
@@ -158,15 +159,15 @@ module _ (settings bytes : List ℕ) (n : ℕ) where
 
   -- where the walk ends: what it says, and what it leaves
   abbrev pub Ended : Verdict → List ℕ → List ℕ → Type 0
-  Ended v d pace = (v ≡ verdict_on s bytes n) × ((d ≡ deadlines_on s bytes n) × (pace ≡ pace_on s bytes n))
+  Ended v d pace = (report_of v ≡ report_on s bytes n) × ((d ≡ deadlines_on s bytes n) × (pace ≡ pace_on s bytes n))
 
-  ended : {d pace : List ℕ} {i : ℕ} → Before d pace i → (v : is.Verdict) → verdict_of s es ≡ v → judged_of n v ≡ i → Ended (said n v) d pace
-  unfolding verdict_on judged_part
-  ended {d} {pace} {i} b v e f =
+  ended : {d pace : List ℕ} {i : ℕ} → Before d pace i → (v : is.Verdict) → verdict_of s es ≡ v → judged_of n v ≡ i → (w : Verdict) → report_of w ≡ said n v → Ended w d pace
+  unfolding report_on judged_part
+  ended {d} {pace} {i} b v e f w g =
       let judged : judged_of n (verdict_of s es) ≡ i = ap (judged_of n) e ∙ f in
       let there : b.reached ≡ part_at s bytes (judged_of n (verdict_of s es)) =
       b.after ∙ ap (part_at s bytes) (sym judged) in (
-        sym (ap (said n) e),
+        g ∙ sym (ap (said n) e),
         (
           b.deadlines ∙ ap (λ (p : Part). laid (summary s p)) there,
           b.paced ∙ ap (λ (p : Part). pace_of p.mode) there,
@@ -177,7 +178,7 @@ module _ (settings bytes : List ℕ) (n : ℕ) where
   pub ends : {d pace : List ℕ} {i : ℕ} → Before d pace i → n ≤ i → Ended (Clean n n) d pace
   unfolding judge_by
   ends {d} {pace} {i} b l =
-      ended b is.clean (b.decides ∙ ap (judge_from s b.reached i) (none_of (event_at bytes) n i l)) (omega (arith, b.in-range))
+      ended b is.clean (b.decides ∙ ap (judge_from s b.reached i) (none_of (event_at bytes) n i l)) (omega (arith, b.in-range)) (Clean n n) refl
 
   -- by what a step answered and left
   module _ (fit : Fit settings bytes n) {d pace : List ℕ} {i cycle pins : ℕ} (b : Before d pace i) (l : i < n)
@@ -188,17 +189,18 @@ module _ (settings bytes : List ℕ) (n : ℕ) where
     there : rule ≡ step_breaks s d (event_at bytes i).cycle (event_at bytes i).pins
     there = rw (e, f)
 
-    module _ (a : Answer) {d' pace' : List ℕ} (told : means a ≡ rule_of rule)
+    module _ (a : Result ⊤ Rule) {d' pace' : List ℕ} (told : means a ≡ rule_of rule)
         (g : d' ≡ left_by rule (step_after s d pace cycle pins) d) (h : pace' ≡ left_by rule (pace_after pace pins) pace) where
-      pub kept_on : a ≡ Kept → Before d' pace' (i + 1)
+      pub kept_on : {done : ⊤} → a ≡ Ok done → Before d' pace' (i + 1)
       kept_on k =
           let z : rule ≡ 0 = zero_of rule (sym (ap means k) ∙ told) in
           rw (g ∙ moved rule z _ d, h ∙ moved rule z _ pace, e, f) (goes_on fit d pace i b l (sym there ∙ z))
 
-      pub broke-at : {named : ℕ} → a ≡ Broke named → Ended (Broken n i named i cycle) d' pace'
+      pub broke-at : {named : Rule} → a ≡ Err named → Ended (Broken n i named i cycle) d' pace'
       broke-at {named} k =
-          let z = broken-of named rule (sym (ap means k) ∙ told) in
+          let z = broken-of (number_of named) rule (sym (ap means k) ∙ told) in
           let so = stops fit d pace i b l (λ y. z.some-rule (there ∙ y)) in
-          let same : broken _ i (event_at bytes i).cycle ≡ broken named i cycle =
+          let same : broken _ i (event_at bytes i).cycle ≡ broken (number_of named) i cycle =
           λ u. broken ((sym there ∙ sym z.same) u) i (sym e u) in
-          rw (g ∙ left rule z.some-rule _ d, h ∙ left rule z.some-rule _ pace) (ended b (broken named i cycle) (so ∙ same) refl)
+          rw (g ∙ left rule z.some-rule _ d, h ∙ left rule z.some-rule _ pace)
+          (ended b (broken (number_of named) i cycle) (so ∙ same) refl (Broken n i named i cycle) refl)

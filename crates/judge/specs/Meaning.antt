@@ -6,18 +6,18 @@ use Rattle.reading.specs.Capture as capture
 use Rattle.reading.specs.Capture.{event_at, cycle_fits}
 use Rattle.reading.specs.Part.{Part, start, run}
 use Rattle.reading.specs.Verdict as is
-use Rattle.reading.specs.Answers.{Answer, refused, answered, Report}
+use Rattle.reading.specs.Answers.{Report}
 use Rattle.deadlines.specs.Deadlines.{start_of, pace_of}
 use Rattle.bridge.specs.Summary.{laid, summary}
+use Rattle.rules.specs.Rule.{number_of}
 use Rattle.judge.specs.declared.Verdict.{Verdict}
-use Rattle.judge.specs.declared.Verdict.TheVariants.{Refused, Clean, Broken}
+use Rattle.judge.specs.declared.Verdict.TheVariants.{Clean, Broken}
 
--- document 01's answer
-abbrev pub means : Verdict → Answer Report
-means (Refused number place) = refused number place
-means (Clean events judged) = answered (record { events = events; judged = judged; verdict = is.clean })
-means (Broken events judged rule event cycle) =
-    answered (record { events = events; judged = judged; verdict = is.broken rule event cycle })
+-- document 01's report
+abbrev pub report_of : Verdict → Report
+report_of (Clean events judged) = record { events = events; judged = judged; verdict = is.clean }
+report_of (Broken events judged rule event cycle) =
+    record { events = events; judged = judged; verdict = is.broken (number_of rule) event cycle }
 
 -- the first n events of the part from byte 80 on
 abbrev pub events_in : List ℕ → ℕ → List capture.Event
@@ -35,12 +35,11 @@ pub record Started (s : reading.Settings) (d pace : List ℕ) : Type 0 where
   pub deadlines : d ≡ start_of s
   pub paced : pace ≡ pace_of s.mode
 
-abbrev pub said : ℕ → is.Verdict → Verdict
-said n is.clean = Clean n n
-said n (is.broken rule event cycle) = Broken n event rule event cycle
+abbrev pub said : ℕ → is.Verdict → Report
+said n v = record { events = n; judged = is.judged_of n v; verdict = v }
 
-unfoldable pub verdict_on : reading.Settings → List ℕ → ℕ → Verdict
-verdict_on s bytes n = said n (is.verdict_of s (events_in bytes n))
+unfoldable pub report_on : reading.Settings → List ℕ → ℕ → Report
+report_on s bytes n = said n (is.verdict_of s (events_in bytes n))
 
 -- the part before event i
 abbrev pub part_at : reading.Settings → List ℕ → ℕ → Part

@@ -4,20 +4,19 @@
 ghost use Rattle.std.specs.Prelude.{◌≡◌};
 ghost use Rattle.reading.specs.Settings.{settings_of};
 ghost use Rattle.reading.specs.Answers.{judge_answer_to, judge_answer};
-ghost use Rattle.judge.specs.Meaning.{means, Fit, Started, verdict_on, deadlines_on, pace_on};
+ghost use Rattle.refusal.specs.Refusal.{told};
+ghost use Rattle.judge.specs.Meaning.{report_of, Fit, Started, report_on, deadlines_on, pace_on};
 
+use capture::held::Opened;
 use deadlines::{Deadlines, Pace, sums};
-use part::Answer;
+use refusal::Refusal;
+use rules::Rule;
+use settings::Settings;
 use settings::places::MODE;
-use settings::{Checked, Settings};
 
-// What is said of a capture.
+// What is said of the events of an accepted capture.
 #[derive(Clone, Copy)]
 pub enum Verdict {
-    Refused {
-        number: u32,
-        place: u32,
-    },
     Clean {
         events: u32,
         judged: u32,
@@ -25,7 +24,7 @@ pub enum Verdict {
     Broken {
         events: u32,
         judged: u32,
-        rule: u32,
+        rule: Rule,
         event: u32,
         cycle: u32,
     },
@@ -37,7 +36,7 @@ pub enum Verdict {
 pub fn walk(s: &Settings, d: &mut Deadlines, pace: &mut Pace, bytes: &[u8], n: u32) -> Verdict
     requires fit { Fit s.now bytes.now n }
     requires started { Started (settings_of s.now) d.old pace.old }
-    ensures value { result ≡ verdict_on (settings_of s.now) bytes.now n }
+    ensures value { report_of result ≡ report_on (settings_of s.now) bytes.now n }
     ensures d_after { d.new ≡ deadlines_on (settings_of s.now) bytes.now n }
     ensures pace_after { pace.new ≡ pace_on (settings_of s.now) bytes.now n }
 {
@@ -46,8 +45,7 @@ pub fn walk(s: &Settings, d: &mut Deadlines, pace: &mut Pace, bytes: &[u8], n: u
         let at = i as usize;
         let cycle = capture::cycle_at(bytes, at);
         let pins = capture::pins_at(bytes, at);
-        let answer = part::step(s, d, pace, cycle, pins);
-        let Answer::Broke(rule) = answer else {
+        let Err(rule) = part::step(s, d, pace, cycle, pins) else {
             i += 1;
             continue 'events;
         };
@@ -65,25 +63,31 @@ pub fn walk(s: &Settings, d: &mut Deadlines, pace: &mut Pace, bytes: &[u8], n: u
     }
 }
 
-// What is said of these bytes where there may be so many events.
-pub fn judge_to(capture: &[u8], most: u32) -> Verdict
-    ensures { means result ≡ judge_answer_to most capture.now }
+// What is said of the events of an accepted capture. Out of `judge_to`, whose frame has the capture that was opened.
+#[inline(never)]
+fn judged(opened: &Opened<'_>) -> Verdict
+    requires { Fit opened.now.settings opened.now.events.bytes.now opened.now.events.count }
+    ensures { report_of result ≡
+        report_on (settings_of opened.now.settings) opened.now.events.bytes.now opened.now.events.count }
 {
-    let checked = capture::open_to(capture, most);
-    if let Checked::Refused { number, place } = checked {
-        return Verdict::Refused { number, place };
-    }
-    let settings = capture::settings_in(capture);
-    let n = capture::event_count(capture);
-    let mut deadlines = effects::start(&settings);
+    let settings = &opened.settings;
+    let mut deadlines = effects::start(settings);
     let mut pace = sums::pace(settings[MODE]);
-    let bytes = capture::event_bytes(capture);
-    walk(&settings, &mut deadlines, &mut pace, bytes, n)
+    let (bytes, n) = (opened.events.bytes, opened.events.count);
+    walk(settings, &mut deadlines, &mut pace, bytes, n)
+}
+
+// What is said of these bytes where there may be so many events.
+pub fn judge_to(capture: &[u8], most: u32) -> Result<Verdict, Refusal>
+    ensures { told report_of result ≡ judge_answer_to most capture.now }
+{
+    let opened = capture::open_to(capture, most)?;
+    Ok(judged(&opened))
 }
 
 // What document 01 says of them as a capture.
-pub fn judge(capture: &[u8]) -> Verdict
-    ensures { means result ≡ judge_answer capture.now }
+pub fn judge(capture: &[u8]) -> Result<Verdict, Refusal>
+    ensures { told report_of result ≡ judge_answer capture.now }
 {
     judge_to(capture, capture::MOST_EVENTS)
 }

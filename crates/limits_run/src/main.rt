@@ -5,8 +5,10 @@
 
 ghost use Rattle.std.specs.Prelude.{◌<◌, ◌≤◌};
 
-use console::plain::{print, print_long, say};
-use settings::Checked;
+use console::Out;
+use refusal::Refusal;
+use std::fmt;
+use std::fmt::Display;
 use trials::{store, store_settings};
 
 // Where words of a capture stand.
@@ -64,16 +66,8 @@ const NOWHERE: u32 = 100_000;
 // The settings of 01's cases but for tRAS and tRC, so that each may be changed alone and contradict no other.
 const SETTINGS: [u32; settings::COUNT] = [1, 13, 10, 0x32, 3, 3, 10_000, 1, 2, 3, 1, 12, 2, 1000];
 
-// A number of 01's table and a place; 0 and 0 for what is accepted.
-#[derive(Clone, Copy)]
-struct Answer(u32, u32);
-
-fn of_checked(c: Checked) -> Answer {
-    match c {
-        Checked::Fine => Answer(0, 0),
-        Checked::Refused { number, place } => Answer(number, place),
-    }
-}
+// Whether what was tried is accepted.
+type Answer = Result<(), Refusal>;
 
 // ---- captures that are right but for a word or two
 
@@ -128,37 +122,59 @@ fn opened(count: u32, size: u32, at: u32, word: u32, other: u32, second: u32) ->
     store(&mut buffer, at, word);
     store(&mut buffer, other, second);
     let n = buffer.len().min(size as usize);
-    of_checked(capture::open(&buffer[..n]))
+    capture::open(&buffer[..n]).map(|_| ())
 }
 
 // ---- lines
 
-fn print_change(rt: &HostRuntime, at: u32, word: u32) {
-    if at == NOWHERE {
-        return;
-    }
-    say(rt, b", byte ");
-    print(rt, at);
-    say(rt, b" word ");
-    print(rt, word);
+// What was changed in a capture, if anything was.
+#[derive(Clone, Copy)]
+struct Change {
+    at: u32,
+    word: u32,
 }
 
-fn print_answer(rt: &HostRuntime, got: Answer, number: u32, place: u32) {
-    if got.0 == 0 {
-        say(rt, b"accepted");
-    } else {
-        say(rt, b"refused ");
-        print(rt, got.0);
-        say(rt, b" place ");
-        print(rt, got.1);
+impl Display for Change {
+    fn fmt<W: fmt::Write>(&self, f: &mut fmt::Formatter<W>) -> fmt::Result {
+        if self.at == NOWHERE {
+            return Ok(());
+        }
+        write!(f, ", byte {} word {}", self.at, self.word)
     }
-    if got.0 != number || got.1 != place {
-        say(rt, b" WRONG");
+}
+
+// What was answered, and the number and the place that 01 has, 0 and 0 of what is accepted.
+#[derive(Clone, Copy)]
+struct Told {
+    got: Answer,
+    number: u32,
+    place: u32,
+}
+
+impl Told {
+    fn is_right(&self) -> bool {
+        match self.got {
+            Ok(()) => self.number == 0 && self.place == 0,
+            Err(refusal) => refusal.number() == self.number && refusal.place() == self.place,
+        }
+    }
+}
+
+impl Display for Told {
+    fn fmt<W: fmt::Write>(&self, f: &mut fmt::Formatter<W>) -> fmt::Result {
+        match self.got {
+            Ok(()) => write!(f, "accepted")?,
+            Err(refusal) => write!(f, "{refusal}")?,
+        }
+        if !self.is_right() {
+            write!(f, " WRONG")?;
+        }
+        Ok(())
     }
 }
 
 fn twice_changed(
-    rt: &HostRuntime,
+    to: &mut Out,
     size: u32,
     at: u32,
     word: u32,
@@ -167,95 +183,99 @@ fn twice_changed(
     number: u32,
     place: u32,
 ) {
-    print(rt, size);
-    say(rt, b" bytes");
-    print_change(rt, at, word);
-    print_change(rt, other, second);
-    say(rt, b": ");
-    print_answer(rt, opened(14, size, at, word, other, second), number, place);
-    say(rt, b"\n");
+    let first = Change { at, word };
+    let then = Change {
+        at: other,
+        word: second,
+    };
+    let got = opened(14, size, at, word, other, second);
+    writeln!(
+        to,
+        "{size} bytes{first}{then}: {}",
+        Told { got, number, place }
+    );
 }
 
-fn changed(rt: &HostRuntime, size: u32, at: u32, word: u32, number: u32, place: u32) {
-    twice_changed(rt, size, at, word, NOWHERE, 0, number, place);
+fn changed(to: &mut Out, size: u32, at: u32, word: u32, number: u32, place: u32) {
+    twice_changed(to, size, at, word, NOWHERE, 0, number, place);
 }
 
-fn unchanged(rt: &HostRuntime, size: u32, number: u32, place: u32) {
-    twice_changed(rt, size, NOWHERE, 0, NOWHERE, 0, number, place);
+fn unchanged(to: &mut Out, size: u32, number: u32, place: u32) {
+    twice_changed(to, size, NOWHERE, 0, NOWHERE, 0, number, place);
 }
 
 // ---- refusal 1: "capture under 80 or over 64,080 bytes, or not of its stated total", place 0
 
-fn lengths(rt: &HostRuntime) {
-    unchanged(rt, 0, 1, 0);
-    unchanged(rt, 79, 1, 0); // states 79
-    unchanged(rt, 80, 0, 0); // no events
-    unchanged(rt, 88, 0, 0); // one event
-    unchanged(rt, 64_080, 0, 0); // 8,000 events
-    unchanged(rt, 64_081, 1, 0); // states 64,081
-    unchanged(rt, 64_088, 1, 0); // states 8,001 events too, and length is tried first
-    changed(rt, 80, TOTAL, 79, 1, 0);
-    changed(rt, 80, TOTAL, 81, 1, 0);
-    changed(rt, 80, TOTAL, 0, 1, 0);
-    changed(rt, 81, TOTAL, 80, 1, 0);
-    changed(rt, 64_080, TOTAL, 64_079, 1, 0);
+fn lengths(to: &mut Out) {
+    unchanged(to, 0, 1, 0);
+    unchanged(to, 79, 1, 0); // states 79
+    unchanged(to, 80, 0, 0); // no events
+    unchanged(to, 88, 0, 0); // one event
+    unchanged(to, 64_080, 0, 0); // 8,000 events
+    unchanged(to, 64_081, 1, 0); // states 64,081
+    unchanged(to, 64_088, 1, 0); // states 8,001 events too, and length is tried first
+    changed(to, 80, TOTAL, 79, 1, 0);
+    changed(to, 80, TOTAL, 81, 1, 0);
+    changed(to, 80, TOTAL, 0, 1, 0);
+    changed(to, 81, TOTAL, 80, 1, 0);
+    changed(to, 64_080, TOTAL, 64_079, 1, 0);
 }
 
 // ---- refusal 2: "another header word is not as above, or the total is not 80 + 8N", place 0
 
-fn header_words(rt: &HostRuntime) {
-    changed(rt, 80, SETTINGS_COUNT, 13, 2, 0);
-    changed(rt, 80, SETTINGS_COUNT, 15, 2, 0);
-    changed(rt, 80, SETTINGS_OFFSET, 23, 2, 0);
-    changed(rt, 80, SETTINGS_OFFSET, 25, 2, 0);
-    changed(rt, 80, EVENTS_OFFSET, 79, 2, 0);
-    changed(rt, 80, EVENTS_OFFSET, 81, 2, 0);
-    changed(rt, 80, EDITION, 1, 0, 0); // the newer edition
-    changed(rt, 80, EDITION, 2, 2, 0);
-    changed(rt, 80, EDITION, 0x8000_0000, 2, 0);
+fn header_words(to: &mut Out) {
+    changed(to, 80, SETTINGS_COUNT, 13, 2, 0);
+    changed(to, 80, SETTINGS_COUNT, 15, 2, 0);
+    changed(to, 80, SETTINGS_OFFSET, 23, 2, 0);
+    changed(to, 80, SETTINGS_OFFSET, 25, 2, 0);
+    changed(to, 80, EVENTS_OFFSET, 79, 2, 0);
+    changed(to, 80, EVENTS_OFFSET, 81, 2, 0);
+    changed(to, 80, EDITION, 1, 0, 0); // the newer edition
+    changed(to, 80, EDITION, 2, 2, 0);
+    changed(to, 80, EDITION, 0x8000_0000, 2, 0);
 }
 
-fn event_counts(rt: &HostRuntime) {
-    unchanged(rt, 81, 2, 0); // 81 is not 80
-    unchanged(rt, 87, 2, 0);
-    changed(rt, 80, EVENTS_COUNT, 1, 2, 0); // 80 is not 88
-    changed(rt, 88, EVENTS_COUNT, 0, 2, 0);
-    changed(rt, 64_080, EVENTS_COUNT, 7_999, 2, 0);
-    changed(rt, 64_080, EVENTS_COUNT, 8_001, 2, 0);
-    changed(rt, 80, EVENTS_COUNT, 0x2000_0000, 2, 0); // 8N is 2^32, which is 0 in 32 bits
+fn event_counts(to: &mut Out) {
+    unchanged(to, 81, 2, 0); // 81 is not 80
+    unchanged(to, 87, 2, 0);
+    changed(to, 80, EVENTS_COUNT, 1, 2, 0); // 80 is not 88
+    changed(to, 88, EVENTS_COUNT, 0, 2, 0);
+    changed(to, 64_080, EVENTS_COUNT, 7_999, 2, 0);
+    changed(to, 64_080, EVENTS_COUNT, 8_001, 2, 0);
+    changed(to, 80, EVENTS_COUNT, 0x2000_0000, 2, 0); // 8N is 2^32, which is 0 in 32 bits
 }
 
 // ---- refusal 4: "pin bits 20-31 set, or a cycle too large or not above the one before", place the lowest event.
 // Three events are at cycles 0, 10 and 20.
 
-fn pins(rt: &HostRuntime) {
-    changed(rt, 104, PINS_1, 0, 0, 0);
-    changed(rt, 104, PINS_1, 0x000F_FFFF, 0, 0); // bits 0 to 19
+fn pins(to: &mut Out) {
+    changed(to, 104, PINS_1, 0, 0, 0);
+    changed(to, 104, PINS_1, 0x000F_FFFF, 0, 0); // bits 0 to 19
     for bit in 20u32..32 {
-        changed(rt, 104, PINS_1, 1 << bit, 4, 1);
+        changed(to, 104, PINS_1, 1 << bit, 4, 1);
     }
 }
 
-fn rising_cycles(rt: &HostRuntime) {
-    changed(rt, 104, CYCLE_0, 9, 0, 0); // nothing stands before the first event
-    changed(rt, 104, CYCLE_0, 10, 4, 1); // the second is equal
-    changed(rt, 104, CYCLE_1, 1, 0, 0); // one above the first
-    changed(rt, 104, CYCLE_1, 0, 4, 1); // equal
-    changed(rt, 104, CYCLE_1, 20, 4, 2); // the third is equal
-    changed(rt, 104, CYCLE_2, 11, 0, 0);
-    changed(rt, 104, CYCLE_2, 10, 4, 2); // equal
-    changed(rt, 104, CYCLE_2, 9, 4, 2); // falling
-    twice_changed(rt, 104, CYCLE_0, 30, CYCLE_1, 40, 4, 2); // the third alone is falling
+fn rising_cycles(to: &mut Out) {
+    changed(to, 104, CYCLE_0, 9, 0, 0); // nothing stands before the first event
+    changed(to, 104, CYCLE_0, 10, 4, 1); // the second is equal
+    changed(to, 104, CYCLE_1, 1, 0, 0); // one above the first
+    changed(to, 104, CYCLE_1, 0, 4, 1); // equal
+    changed(to, 104, CYCLE_1, 20, 4, 2); // the third is equal
+    changed(to, 104, CYCLE_2, 11, 0, 0);
+    changed(to, 104, CYCLE_2, 10, 4, 2); // equal
+    changed(to, 104, CYCLE_2, 9, 4, 2); // falling
+    twice_changed(to, 104, CYCLE_0, 30, CYCLE_1, 40, 4, 2); // the third alone is falling
 }
 
-fn large_cycles(rt: &HostRuntime) {
-    changed(rt, 104, CYCLE_2, 2_000_000_000, 0, 0); // "at most 2,000,000,000"
-    changed(rt, 104, CYCLE_2, 2_000_000_001, 4, 2);
-    changed(rt, 104, CYCLE_2, 0xFFFF_FFFF, 4, 2);
-    changed(rt, 104, CYCLE_0, 2_000_000_000, 4, 1); // it fits, and the second is below it
-    changed(rt, 104, CYCLE_0, 2_000_000_001, 4, 0);
+fn large_cycles(to: &mut Out) {
+    changed(to, 104, CYCLE_2, 2_000_000_000, 0, 0); // "at most 2,000,000,000"
+    changed(to, 104, CYCLE_2, 2_000_000_001, 4, 2);
+    changed(to, 104, CYCLE_2, 0xFFFF_FFFF, 4, 2);
+    changed(to, 104, CYCLE_0, 2_000_000_000, 4, 1); // it fits, and the second is below it
+    changed(to, 104, CYCLE_0, 2_000_000_001, 4, 0);
     twice_changed(
-        rt,
+        to,
         104,
         CYCLE_1,
         1_999_999_999,
@@ -265,7 +285,7 @@ fn large_cycles(rt: &HostRuntime) {
         0,
     );
     twice_changed(
-        rt,
+        to,
         104,
         CYCLE_1,
         2_000_000_000,
@@ -276,39 +296,39 @@ fn large_cycles(rt: &HostRuntime) {
     );
 }
 
-fn first_and_last_events(rt: &HostRuntime) {
-    changed(rt, 104, PINS_0, 0x0010_0000, 4, 0);
-    changed(rt, 104, PINS_2, 0x0010_0000, 4, 2);
-    changed(rt, 64_080, PINS_7999, 0x0010_0000, 4, 7_999);
-    changed(rt, 64_080, CYCLE_7999, 79_981, 0, 0); // event 7,998 is at 79,980
-    changed(rt, 64_080, CYCLE_7999, 79_980, 4, 7_999);
+fn first_and_last_events(to: &mut Out) {
+    changed(to, 104, PINS_0, 0x0010_0000, 4, 0);
+    changed(to, 104, PINS_2, 0x0010_0000, 4, 2);
+    changed(to, 64_080, PINS_7999, 0x0010_0000, 4, 7_999);
+    changed(to, 64_080, CYCLE_7999, 79_981, 0, 0); // event 7,998 is at 79,980
+    changed(to, 64_080, CYCLE_7999, 79_980, 4, 7_999);
 }
 
 // ---- several faults: "tried in this order; the first that applies is given"
 
-fn numbers_in_order(rt: &HostRuntime) {
-    changed(rt, 79, SETTINGS_COUNT, 13, 1, 0);
-    twice_changed(rt, 80, TOTAL, 81, SETTINGS_COUNT, 13, 1, 0);
-    twice_changed(rt, 64_088, LANE, 0, PINS_0, 0x0010_0000, 1, 0);
-    twice_changed(rt, 80, EDITION, 2, LANE, 0, 2, 0);
-    twice_changed(rt, 80, EDITION, 1, LANE, 0, 3, 0);
-    twice_changed(rt, 104, EVENTS_COUNT, 2, PINS_0, 0x0010_0000, 2, 0);
-    twice_changed(rt, 104, LANE, 3, PINS_0, 0x0010_0000, 3, 0);
-    twice_changed(rt, 104, T_REFI, 0, PINS_0, 0x0010_0000, 3, 13);
+fn numbers_in_order(to: &mut Out) {
+    changed(to, 79, SETTINGS_COUNT, 13, 1, 0);
+    twice_changed(to, 80, TOTAL, 81, SETTINGS_COUNT, 13, 1, 0);
+    twice_changed(to, 64_088, LANE, 0, PINS_0, 0x0010_0000, 1, 0);
+    twice_changed(to, 80, EDITION, 2, LANE, 0, 2, 0);
+    twice_changed(to, 80, EDITION, 1, LANE, 0, 3, 0);
+    twice_changed(to, 104, EVENTS_COUNT, 2, PINS_0, 0x0010_0000, 2, 0);
+    twice_changed(to, 104, LANE, 3, PINS_0, 0x0010_0000, 3, 0);
+    twice_changed(to, 104, T_REFI, 0, PINS_0, 0x0010_0000, 3, 13);
 }
 
 // "lowest such setting", by range or by the mode word alike; "lowest event"
-fn lowest_places(rt: &HostRuntime) {
-    twice_changed(rt, 104, T_RCD, 0, LANE, 0, 3, 0);
-    twice_changed(rt, 104, T_REFI, 0, T_MRD, 0, 3, 12);
-    twice_changed(rt, 104, T_RCD, 0, MODE, 0x02, 3, 3);
-    twice_changed(rt, 104, T_RCD, 0, MODE, 0x80, 3, 3);
-    twice_changed(rt, 104, PINS_2, 0x0010_0000, PINS_0, 0x0010_0000, 4, 0);
-    twice_changed(rt, 104, PINS_2, 0x0010_0000, CYCLE_1, 0, 4, 1);
-    twice_changed(rt, 104, CYCLE_2, 9, PINS_1, 0x0010_0000, 4, 1);
-    twice_changed(rt, 104, CYCLE_2, 9, PINS_2, 0x0010_0000, 4, 2);
-    twice_changed(rt, 104, CYCLE_2, 0, CYCLE_1, 0, 4, 1);
-    twice_changed(rt, 104, CYCLE_2, 9, CYCLE_0, 2_000_000_001, 4, 0);
+fn lowest_places(to: &mut Out) {
+    twice_changed(to, 104, T_RCD, 0, LANE, 0, 3, 0);
+    twice_changed(to, 104, T_REFI, 0, T_MRD, 0, 3, 12);
+    twice_changed(to, 104, T_RCD, 0, MODE, 0x02, 3, 3);
+    twice_changed(to, 104, T_RCD, 0, MODE, 0x80, 3, 3);
+    twice_changed(to, 104, PINS_2, 0x0010_0000, PINS_0, 0x0010_0000, 4, 0);
+    twice_changed(to, 104, PINS_2, 0x0010_0000, CYCLE_1, 0, 4, 1);
+    twice_changed(to, 104, CYCLE_2, 9, PINS_1, 0x0010_0000, 4, 1);
+    twice_changed(to, 104, CYCLE_2, 9, PINS_2, 0x0010_0000, 4, 2);
+    twice_changed(to, 104, CYCLE_2, 0, CYCLE_1, 0, 4, 1);
+    twice_changed(to, 104, CYCLE_2, 9, CYCLE_0, 2_000_000_001, 4, 0);
 }
 
 // ---- refusal 3: "a setting out of range, or the mode word not valid by rule 2", place the setting;
@@ -319,157 +339,159 @@ fn checked(i: u32, word: u32) -> Answer
 {
     let mut list = SETTINGS;
     list[i as usize] = word;
-    of_checked(settings::check(&list))
+    settings::check(&list)
 }
 
-fn setting(rt: &HostRuntime, i: u32, word: u32, number: u32, place: u32)
+fn setting(to: &mut Out, i: u32, word: u32, number: u32, place: u32)
     requires { i < 14 }
 {
-    say(rt, b"setting ");
-    print(rt, i);
-    say(rt, b" is ");
-    print(rt, word);
-    say(rt, b": list ");
-    print_answer(rt, checked(i, word), number, place);
-    say(rt, b", capture ");
-    print_answer(
-        rt,
-        opened(14, 104, LANE + 4 * i, word, NOWHERE, 0),
+    let listed = Told {
+        got: checked(i, word),
         number,
         place,
+    };
+    let captured = Told {
+        got: opened(14, 104, LANE + 4 * i, word, NOWHERE, 0),
+        number,
+        place,
+    };
+    writeln!(
+        to,
+        "setting {i} is {word}: list {listed}, capture {captured}"
     );
-    say(rt, b"\n");
 }
 
 // At the limits of a row and on either side of them.
-fn row(rt: &HostRuntime, i: u32, below: u32, least: u32, most: u32, above: u32)
+fn row(to: &mut Out, i: u32, below: u32, least: u32, most: u32, above: u32)
     requires { i < 14 }
 {
-    setting(rt, i, below, 3, i);
-    setting(rt, i, least, 0, 0);
-    setting(rt, i, most, 0, 0);
-    setting(rt, i, above, 3, i);
+    setting(to, i, below, 3, i);
+    setting(to, i, least, 0, 0);
+    setting(to, i, most, 0, 0);
+    setting(to, i, above, 3, i);
 }
 
 // The table of 01 but for row 3.
-fn rows(rt: &HostRuntime) {
-    row(rt, 0, 0, 1, 2, 3);
-    row(rt, 1, 11, 12, 14, 15);
-    row(rt, 2, 7, 8, 11, 12);
+fn rows(to: &mut Out) {
+    row(to, 0, 0, 1, 2, 3);
+    row(to, 1, 11, 12, 14, 15);
+    row(to, 2, 7, 8, 11, 12);
     for i in 4..13 {
-        row(rt, i, 0, 1, 10_000, 10_001);
+        row(to, i, 0, 1, 10_000, 10_001);
     }
-    row(rt, 13, 0, 1, 1_000_000, 1_000_001);
+    row(to, 13, 0, 1, 1_000_000, 1_000_001);
 }
 
-fn mode(rt: &HostRuntime, word: u32, number: u32, place: u32) {
-    setting(rt, 3, word, number, place);
+fn mode(to: &mut Out, word: u32, number: u32, place: u32) {
+    setting(to, 3, word, number, place);
 }
 
 // Row 3: from 0 to 127, and "bits 0-2 are 1, 2, 3, 4; bit 3 is 0 sequential, 1 interleaved; bits 4-6 are 2 or 3".
-fn burst_lengths(rt: &HostRuntime) {
-    mode(rt, 0x20, 3, 3);
-    mode(rt, 0x21, 0, 0);
-    mode(rt, 0x22, 0, 0);
-    mode(rt, 0x23, 0, 0);
-    mode(rt, 0x24, 0, 0);
-    mode(rt, 0x25, 3, 3);
-    mode(rt, 0x27, 3, 3);
-    mode(rt, 0x28, 3, 3);
-    mode(rt, 0x29, 0, 0);
-    mode(rt, 0x3C, 0, 0);
+fn burst_lengths(to: &mut Out) {
+    mode(to, 0x20, 3, 3);
+    mode(to, 0x21, 0, 0);
+    mode(to, 0x22, 0, 0);
+    mode(to, 0x23, 0, 0);
+    mode(to, 0x24, 0, 0);
+    mode(to, 0x25, 3, 3);
+    mode(to, 0x27, 3, 3);
+    mode(to, 0x28, 3, 3);
+    mode(to, 0x29, 0, 0);
+    mode(to, 0x3C, 0, 0);
 }
 
-fn latencies(rt: &HostRuntime) {
-    mode(rt, 0x02, 3, 3);
-    mode(rt, 0x12, 3, 3);
-    mode(rt, 0x22, 0, 0);
-    mode(rt, 0x32, 0, 0);
-    mode(rt, 0x42, 3, 3);
-    mode(rt, 0x52, 3, 3);
-    mode(rt, 0x62, 3, 3);
-    mode(rt, 0x72, 3, 3);
+fn latencies(to: &mut Out) {
+    mode(to, 0x02, 3, 3);
+    mode(to, 0x12, 3, 3);
+    mode(to, 0x22, 0, 0);
+    mode(to, 0x32, 0, 0);
+    mode(to, 0x42, 3, 3);
+    mode(to, 0x52, 3, 3);
+    mode(to, 0x62, 3, 3);
+    mode(to, 0x72, 3, 3);
 }
 
-fn mode_range(rt: &HostRuntime) {
-    mode(rt, 0, 3, 3);
-    mode(rt, 127, 3, 3);
-    mode(rt, 128, 3, 3);
-    mode(rt, 0xB2, 3, 3); // 0x32 and bit 7
-    mode(rt, 0x8000_0032, 3, 3);
+fn mode_range(to: &mut Out) {
+    mode(to, 0, 3, 3);
+    mode(to, 127, 3, 3);
+    mode(to, 128, 3, 3);
+    mode(to, 0xB2, 3, 3); // 0x32 and bit 7
+    mode(to, 0x8000_0032, 3, 3);
 }
 
 // ---- refusal 2 of a list: "a settings list not of 14 words", before refusal 3
 
-fn list(rt: &HostRuntime, words: &[u32], number: u32, place: u32) {
-    say(rt, b"list of ");
-    print_long(rt, words.len() as u64);
-    say(rt, b" zeros: ");
-    print_answer(rt, of_checked(settings::check(words)), number, place);
-    say(rt, b"\n");
+fn list(to: &mut Out, words: &[u32], number: u32, place: u32) {
+    let got = settings::check(words);
+    writeln!(
+        to,
+        "list of {} zeros: {}",
+        words.len(),
+        Told { got, number, place }
+    );
 }
 
-fn lists(rt: &HostRuntime) {
-    list(rt, &[], 2, 0);
-    list(rt, &[0u32; 13], 2, 0);
-    list(rt, &[0u32; settings::COUNT], 3, 0);
-    list(rt, &[0u32; 15], 2, 0);
-    list(rt, &[0u32; settings::SLEEPING], 2, 0);
+fn lists(to: &mut Out) {
+    list(to, &[], 2, 0);
+    list(to, &[0u32; 13], 2, 0);
+    list(to, &[0u32; settings::COUNT], 3, 0);
+    list(to, &[0u32; 15], 2, 0);
+    list(to, &[0u32; settings::SLEEPING], 2, 0);
 }
 
 // ---- sixteen settings (K1): "events from byte 88, total 88 + 8N, lengths 88 and 64,088 in refusal 1", and bit 20 is CKE
 
-fn sleeping(rt: &HostRuntime, size: u32, at: u32, word: u32, number: u32, place: u32) {
-    say(rt, b"16 settings, ");
-    print(rt, size);
-    say(rt, b" bytes");
-    print_change(rt, at, word);
-    say(rt, b": ");
-    print_answer(rt, opened(16, size, at, word, NOWHERE, 0), number, place);
-    say(rt, b"\n");
+fn sleeping(to: &mut Out, size: u32, at: u32, word: u32, number: u32, place: u32) {
+    let got = opened(16, size, at, word, NOWHERE, 0);
+    let change = Change { at, word };
+    writeln!(
+        to,
+        "16 settings, {size} bytes{change}: {}",
+        Told { got, number, place }
+    );
 }
 
-fn sleeping_lengths(rt: &HostRuntime) {
-    sleeping(rt, 80, NOWHERE, 0, 1, 0); // under 88
-    sleeping(rt, 87, NOWHERE, 0, 1, 0);
-    sleeping(rt, 88, NOWHERE, 0, 0, 0); // no events
-    sleeping(rt, 96, NOWHERE, 0, 0, 0); // one event
-    sleeping(rt, 64_088, NOWHERE, 0, 0, 0); // 8,000 events
-    sleeping(rt, 64_089, NOWHERE, 0, 1, 0);
-    sleeping(rt, 64_096, NOWHERE, 0, 1, 0); // 8,001 events
-    sleeping(rt, 88, TOTAL, 87, 1, 0);
+fn sleeping_lengths(to: &mut Out) {
+    sleeping(to, 80, NOWHERE, 0, 1, 0); // under 88
+    sleeping(to, 87, NOWHERE, 0, 1, 0);
+    sleeping(to, 88, NOWHERE, 0, 0, 0); // no events
+    sleeping(to, 96, NOWHERE, 0, 0, 0); // one event
+    sleeping(to, 64_088, NOWHERE, 0, 0, 0); // 8,000 events
+    sleeping(to, 64_089, NOWHERE, 0, 1, 0);
+    sleeping(to, 64_096, NOWHERE, 0, 1, 0); // 8,001 events
+    sleeping(to, 88, TOTAL, 87, 1, 0);
 }
 
-fn sleeping_headers(rt: &HostRuntime) {
-    sleeping(rt, 89, NOWHERE, 0, 2, 0); // 89 is not 88
-    sleeping(rt, 88, EVENTS_COUNT, 1, 2, 0);
-    sleeping(rt, 88, EVENTS_OFFSET, 80, 2, 0);
-    sleeping(rt, 88, SETTINGS_OFFSET, 32, 2, 0);
-    sleeping(rt, 88, SETTINGS_COUNT, 14, 2, 0); // 88 is room for an event behind 14 settings, and none is stated
-    sleeping(rt, 88, SETTINGS_COUNT, 15, 2, 0); // the lengths are those of 14 settings
-    sleeping(rt, 88, SETTINGS_COUNT, 17, 2, 0);
-    sleeping(rt, 64_088, SETTINGS_COUNT, 15, 1, 0);
-    sleeping(rt, 88, EDITION, 1, 0, 0);
-    sleeping(rt, 88, EDITION, 2, 2, 0);
+fn sleeping_headers(to: &mut Out) {
+    sleeping(to, 89, NOWHERE, 0, 2, 0); // 89 is not 88
+    sleeping(to, 88, EVENTS_COUNT, 1, 2, 0);
+    sleeping(to, 88, EVENTS_OFFSET, 80, 2, 0);
+    sleeping(to, 88, SETTINGS_OFFSET, 32, 2, 0);
+    sleeping(to, 88, SETTINGS_COUNT, 14, 2, 0); // 88 is room for an event behind 14 settings, and none is stated
+    sleeping(to, 88, SETTINGS_COUNT, 15, 2, 0); // the lengths are those of 14 settings
+    sleeping(to, 88, SETTINGS_COUNT, 17, 2, 0);
+    sleeping(to, 64_088, SETTINGS_COUNT, 15, 1, 0);
+    sleeping(to, 88, EDITION, 1, 0, 0);
+    sleeping(to, 88, EDITION, 2, 2, 0);
 }
 
 // tXP and tXSR from 1 to 10,000.
-fn sleeping_settings(rt: &HostRuntime) {
-    sleeping(rt, 88, T_XP, 0, 3, 14);
-    sleeping(rt, 88, T_XP, 1, 0, 0);
-    sleeping(rt, 88, T_XP, 10_000, 0, 0);
-    sleeping(rt, 88, T_XP, 10_001, 3, 14);
-    sleeping(rt, 88, T_XSR, 0, 3, 15);
-    sleeping(rt, 88, T_XSR, 1, 0, 0);
-    sleeping(rt, 88, T_XSR, 10_000, 0, 0);
-    sleeping(rt, 88, T_XSR, 10_001, 3, 15);
+fn sleeping_settings(to: &mut Out) {
+    sleeping(to, 88, T_XP, 0, 3, 14);
+    sleeping(to, 88, T_XP, 1, 0, 0);
+    sleeping(to, 88, T_XP, 10_000, 0, 0);
+    sleeping(to, 88, T_XP, 10_001, 3, 14);
+    sleeping(to, 88, T_XSR, 0, 3, 15);
+    sleeping(to, 88, T_XSR, 1, 0, 0);
+    sleeping(to, 88, T_XSR, 10_000, 0, 0);
+    sleeping(to, 88, T_XSR, 10_001, 3, 15);
 }
 
 // The second of three events has its pins at byte 100.
-fn sleeping_pins(rt: &HostRuntime) {
-    sleeping(rt, 112, 100, 0x001F_FFFF, 0, 0); // bits 0 to 20
+fn sleeping_pins(to: &mut Out) {
+    sleeping(to, 112, 100, 0x001F_FFFF, 0, 0); // bits 0 to 20
     for bit in 21u32..32 {
-        sleeping(rt, 112, 100, 1 << bit, 4, 1);
+        sleeping(to, 112, 100, 1 << bit, 4, 1);
     }
 }
 
@@ -485,7 +507,7 @@ fn timed_capture(count: u32, times: [u32; 3], at: u32, word: u32) -> Answer {
     store(&mut buffer, T_RC, times[2]);
     store(&mut buffer, at, word);
     let n = buffer.len().min(size as usize);
-    of_checked(capture::open(&buffer[..n]))
+    capture::open(&buffer[..n]).map(|_| ())
 }
 
 fn timed_list(times: [u32; 3]) -> Answer {
@@ -493,32 +515,24 @@ fn timed_list(times: [u32; 3]) -> Answer {
     list[settings::places::T_RP] = times[0];
     list[settings::places::T_RAS] = times[1];
     list[settings::places::T_RC] = times[2];
-    of_checked(settings::check(&list))
+    settings::check(&list)
 }
 
-fn print_times(rt: &HostRuntime, times: [u32; 3]) {
-    say(rt, b"tRP ");
-    print(rt, times[0]);
-    say(rt, b", tRAS ");
-    print(rt, times[1]);
-    say(rt, b", tRC ");
-    print(rt, times[2]);
-}
-
-fn together(rt: &HostRuntime, times: [u32; 3], number: u32, place: u32) {
-    print_times(rt, times);
-    say(rt, b": list ");
-    print_answer(rt, timed_list(times), number, place);
-    say(rt, b", capture ");
-    print_answer(rt, timed_capture(14, times, NOWHERE, 0), number, place);
-    say(rt, b", of 16 settings ");
-    print_answer(rt, timed_capture(16, times, NOWHERE, 0), number, place);
-    say(rt, b"\n");
+fn together(to: &mut Out, times: [u32; 3], number: u32, place: u32) {
+    let told = |got: Answer| Told { got, number, place };
+    let list = told(timed_list(times));
+    let short = told(timed_capture(14, times, NOWHERE, 0));
+    let long = told(timed_capture(16, times, NOWHERE, 0));
+    let [rp, ras, rc] = times;
+    writeln!(
+        to,
+        "tRP {rp}, tRAS {ras}, tRC {rc}: list {list}, capture {short}, of 16 settings {long}"
+    );
 }
 
 // One more word is changed.
 fn together_with(
-    rt: &HostRuntime,
+    to: &mut Out,
     count: u32,
     times: [u32; 3],
     at: u32,
@@ -526,63 +540,65 @@ fn together_with(
     number: u32,
     place: u32,
 ) {
-    print(rt, count);
-    say(rt, b" settings, ");
-    print_times(rt, times);
-    print_change(rt, at, word);
-    say(rt, b": ");
-    print_answer(rt, timed_capture(count, times, at, word), number, place);
-    say(rt, b"\n");
+    let [rp, ras, rc] = times;
+    let change = Change { at, word };
+    let got = timed_capture(count, times, at, word);
+    writeln!(
+        to,
+        "{count} settings, tRP {rp}, tRAS {ras}, tRC {rc}{change}: {}",
+        Told { got, number, place }
+    );
 }
 
-fn contradictions(rt: &HostRuntime) {
-    together(rt, [3, 7, 10], 0, 0);
-    together(rt, [3, 7, 11], 3, 7);
-    together(rt, [1, 1, 2], 0, 0);
-    together(rt, [1, 1, 3], 3, 7);
-    together(rt, [1, 9_999, 10_000], 0, 0);
-    together(rt, [1, 9_998, 10_000], 3, 7);
-    together(rt, [9_999, 1, 10_000], 0, 0);
-    together(rt, [9_998, 1, 10_000], 3, 7);
-    together(rt, [10_000, 10_000, 10_000], 0, 0);
-    together(rt, [10_000, 10_000, 10_001], 3, 7); // out of its range
-    together(rt, [0xFFFF_FFFF, 7, 7], 3, 5); // in 32 bits the sum is 6
+fn contradictions(to: &mut Out) {
+    together(to, [3, 7, 10], 0, 0);
+    together(to, [3, 7, 11], 3, 7);
+    together(to, [1, 1, 2], 0, 0);
+    together(to, [1, 1, 3], 3, 7);
+    together(to, [1, 9_999, 10_000], 0, 0);
+    together(to, [1, 9_998, 10_000], 3, 7);
+    together(to, [9_999, 1, 10_000], 0, 0);
+    together(to, [9_998, 1, 10_000], 3, 7);
+    together(to, [10_000, 10_000, 10_000], 0, 0);
+    together(to, [10_000, 10_000, 10_001], 3, 7); // out of its range
+    together(to, [0xFFFF_FFFF, 7, 7], 3, 5); // in 32 bits the sum is 6
 }
 
-fn contradictions_and_other_faults(rt: &HostRuntime) {
+fn contradictions_and_other_faults(to: &mut Out) {
     let times = [3, 7, 11];
-    together_with(rt, 14, times, LANE, 0, 3, 0);
-    together_with(rt, 14, times, MODE, 0x02, 3, 3);
-    together_with(rt, 14, times, T_RP, 0, 3, 5);
-    together_with(rt, 14, times, T_REFI, 0, 3, 13);
-    together_with(rt, 16, times, T_XP, 0, 3, 14);
-    together_with(rt, 16, times, T_XSR, 0, 3, 15);
-    together_with(rt, 14, times, PINS_0, 0x0010_0000, 3, 7);
-    together_with(rt, 14, times, CYCLE_1, 0, 3, 7);
-    together_with(rt, 16, times, PINS_1, 0x0020_0000, 3, 7); // behind 16 settings those of event 0
-    together_with(rt, 14, times, EDITION, 2, 2, 0);
-    together_with(rt, 14, times, TOTAL, 0, 1, 0);
+    together_with(to, 14, times, LANE, 0, 3, 0);
+    together_with(to, 14, times, MODE, 0x02, 3, 3);
+    together_with(to, 14, times, T_RP, 0, 3, 5);
+    together_with(to, 14, times, T_REFI, 0, 3, 13);
+    together_with(to, 16, times, T_XP, 0, 3, 14);
+    together_with(to, 16, times, T_XSR, 0, 3, 15);
+    together_with(to, 14, times, PINS_0, 0x0010_0000, 3, 7);
+    together_with(to, 14, times, CYCLE_1, 0, 3, 7);
+    together_with(to, 16, times, PINS_1, 0x0020_0000, 3, 7); // behind 16 settings those of event 0
+    together_with(to, 14, times, EDITION, 2, 2, 0);
+    together_with(to, 14, times, TOTAL, 0, 1, 0);
 }
 
 fn main(rt: HostRuntime) {
-    lengths(&rt);
-    header_words(&rt);
-    event_counts(&rt);
-    pins(&rt);
-    rising_cycles(&rt);
-    large_cycles(&rt);
-    first_and_last_events(&rt);
-    numbers_in_order(&rt);
-    lowest_places(&rt);
-    lists(&rt);
-    rows(&rt);
-    burst_lengths(&rt);
-    latencies(&rt);
-    mode_range(&rt);
-    sleeping_lengths(&rt);
-    sleeping_headers(&rt);
-    sleeping_settings(&rt);
-    sleeping_pins(&rt);
-    contradictions(&rt);
-    contradictions_and_other_faults(&rt);
+    let mut to = Out::new(rt.stdout());
+    lengths(&mut to);
+    header_words(&mut to);
+    event_counts(&mut to);
+    pins(&mut to);
+    rising_cycles(&mut to);
+    large_cycles(&mut to);
+    first_and_last_events(&mut to);
+    numbers_in_order(&mut to);
+    lowest_places(&mut to);
+    lists(&mut to);
+    rows(&mut to);
+    burst_lengths(&mut to);
+    latencies(&mut to);
+    mode_range(&mut to);
+    sleeping_lengths(&mut to);
+    sleeping_headers(&mut to);
+    sleeping_settings(&mut to);
+    sleeping_pins(&mut to);
+    contradictions(&mut to);
+    contradictions_and_other_faults(&mut to);
 }

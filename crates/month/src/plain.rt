@@ -1,70 +1,73 @@
 // The lines of a month, in words.
-ghost use Rattle.console.specs.Counts.{IsPrefixLen};
-
-use console::line::put;
-use console::{Out, say};
+use crate::Form;
+use console::Out;
 use monthly::{Line, Totals};
-use wording::verdict::{put_told, put_verdict};
+use std::fmt;
+use std::fmt::Display;
+use wording::verdict::Said;
 
-// Room for the longest.
-const LINE: usize = 400;
+pub struct Plain;
 
-// The share of the bus, and the end of the line.
-fn put_bus(line: &mut [u8], at: usize, read: u64, written: u64, bus: u64, cycles: u64) -> usize
-    ensures { IsPrefixLen result line.new }
-{
-    let mut next = put_told(line, at, b" read ", read);
-    next = put_told(line, next, b" written ", written);
-    next = put_told(line, next, b" bus ", bus);
-    next = put_told(line, next, b" over ", cycles);
-    put(line, next, b"\n")
+// The share of the bus.
+#[derive(Clone, Copy)]
+struct Share {
+    read: u64,
+    written: u64,
+    bus: u64,
+    cycles: u64,
 }
 
-pub fn print_line(out: &mut Out, i: u64, x: Line) {
-    let verdict = x.verdict;
-    let counts = monthly::tally(verdict);
-    let mut line = [0u8; LINE];
-    let mut at = put_told(&mut line, 0, b"capture ", i);
-    at = put_told(&mut line, at, b" events ", counts.events as u64);
-    at = put_told(&mut line, at, b" judged ", counts.judged as u64);
-    at = put(&mut line, at, b" ");
-    at = put_verdict(&mut line, at, verdict);
-    let read = x.read as u64;
-    let written = x.written as u64;
-    at = put_bus(
-        &mut line,
-        at,
-        read,
-        written,
-        read + written,
-        x.cycles as u64,
-    );
-    say(out, &line[..at]);
+impl Display for Share {
+    fn fmt<W: fmt::Write>(&self, f: &mut fmt::Formatter<W>) -> fmt::Result {
+        write!(
+            f,
+            "read {} written {} bus {} over {}",
+            self.read, self.written, self.bus, self.cycles
+        )
+    }
 }
 
-pub fn print_end(out: &mut Out, i: u64) {
-    let mut line = [0u8; LINE];
-    let mut at = put_told(&mut line, 0, b"stream ends at capture ", i);
-    at = put(&mut line, at, b"\n");
-    say(out, &line[..at]);
-}
+impl Form for Plain {
+    fn print_head(_out: &mut Out) {}
 
-pub fn print_totals(out: &mut Out, t: Totals, bus: u64) {
-    let mut line = [0u8; LINE];
-    let mut at = put_told(&mut line, 0, b"all captures ", t.captures);
-    at = put_told(&mut line, at, b" clean ", t.clean);
-    at = put_told(&mut line, at, b" broken ", t.broken);
-    at = put_told(&mut line, at, b" refused ", t.refused);
-    at = put_told(&mut line, at, b" events ", t.events);
-    at = put_told(&mut line, at, b" judged ", t.judged);
-    at = put_bus(&mut line, at, t.read, t.written, bus, t.cycles);
-    say(out, &line[..at]);
-}
+    fn print_line(out: &mut Out, i: u64, line: Line) {
+        let counts = monthly::tally(line.verdict);
+        let read = u64::from(line.read);
+        let written = u64::from(line.written);
+        let share = Share {
+            read,
+            written,
+            bus: read + written,
+            cycles: u64::from(line.cycles),
+        };
+        writeln!(
+            out,
+            "capture {i} events {} judged {} {} {share}",
+            counts.events,
+            counts.judged,
+            Said(line.verdict)
+        );
+    }
 
-// In place of the totals.
-pub fn print_refusal(out: &mut Out) {
-    let mut line = [0u8; LINE];
-    let mut at = put_told(&mut line, 0, b"refused 14 place ", monthly::MOST_CAPTURES);
-    at = put(&mut line, at, b"\n");
-    say(out, &line[..at]);
+    fn print_end(out: &mut Out, i: u64) {
+        writeln!(out, "stream ends at capture {i}");
+    }
+
+    fn print_sums(out: &mut Out, t: Totals, bus: u64) {
+        let share = Share {
+            read: t.read,
+            written: t.written,
+            bus,
+            cycles: t.cycles,
+        };
+        writeln!(
+            out,
+            "all captures {} clean {} broken {} refused {} events {} judged {} {share}",
+            t.captures, t.clean, t.broken, t.refused, t.events, t.judged
+        );
+    }
+
+    fn print_refusal(out: &mut Out) {
+        writeln!(out, "refused 14 place {}", monthly::MOST_CAPTURES);
+    }
 }

@@ -1,135 +1,88 @@
 // The same with commas. Every row has the columns of the head; a column without a number is empty, and the totals are the sums
 // of their columns.
-ghost use Rattle.console.specs.Counts.{IsPrefixLen as Within};
-
-use console::line::{put, put_number};
-use console::{Out, say};
+use crate::Form;
+use console::Out;
 use judge::Verdict;
-use monthly::{Counts, Line, Totals};
+use monthly::{Line, Totals};
+use refusal::Refusal;
+use std::fmt;
+use std::fmt::Display;
 
-// Room for the longest.
-const LINE: usize = 400;
-
-pub fn print_head(out: &mut Out) {
-    say(
-        out,
-        b"capture,captures,clean,broken,refused,events,judged,rule,event,cycle,refusal,place,read,written,bus,over\n",
-    );
-}
-
-// A column more.
-fn comma(line: &mut [u8], at: usize, n: u64) -> usize
-    ensures { Within result line.new }
-{
-    let next = put(line, at, b",");
-    put_number(line, next, n)
-}
-
-// How many there are of each kind.
-fn put_kinds(line: &mut [u8], at: usize, counts: Counts) -> usize
-    ensures { Within result line.new }
-{
-    let mut next = comma(line, at, 1);
-    next = comma(line, next, counts.clean as u64);
-    next = comma(line, next, counts.broken as u64);
-    comma(line, next, counts.refused as u64)
-}
-
-// Their events, and how many of these were judged.
-fn put_judged(line: &mut [u8], at: usize, counts: Counts) -> usize
-    ensures { Within result line.new }
-{
-    let next = comma(line, at, counts.events as u64);
-    comma(line, next, counts.judged as u64)
-}
+pub struct Table;
 
 // Rule, event and cycle; refusal and place.
-fn put_found(line: &mut [u8], at: usize, v: Verdict) -> usize
-    ensures { Within result line.new }
-{
-    match v {
-        Verdict::Refused { number, place } => {
-            let mut next = put(line, at, b",,,");
-            next = comma(line, next, number as u64);
-            comma(line, next, place as u64)
-        }
-        Verdict::Clean { .. } => put(line, at, b",,,,,"),
-        Verdict::Broken {
-            rule,
-            event,
-            cycle,
-            ..
-        } => {
-            let mut next = comma(line, at, rule as u64);
-            next = comma(line, next, event as u64);
-            next = comma(line, next, cycle as u64);
-            put(line, next, b",,")
+#[derive(Clone, Copy)]
+struct Found(Result<Verdict, Refusal>);
+
+impl Display for Found {
+    fn fmt<W: fmt::Write>(&self, f: &mut fmt::Formatter<W>) -> fmt::Result {
+        match self.0 {
+            Err(refusal) => write!(f, ",,,{},{}", refusal.number(), refusal.place()),
+            Ok(Verdict::Clean { .. }) => write!(f, ",,,,"),
+            Ok(
+                Verdict::Broken {
+                    rule,
+                    event,
+                    cycle,
+                    ..
+                },
+            ) => write!(f, "{},{event},{cycle},,", rule.number()),
         }
     }
 }
 
-// The share of the bus, and the end of the row.
-fn put_bus(line: &mut [u8], at: usize, read: u64, written: u64, bus: u64, cycles: u64) -> usize
-    ensures { Within result line.new }
-{
-    let mut next = comma(line, at, read);
-    next = comma(line, next, written);
-    next = comma(line, next, bus);
-    next = comma(line, next, cycles);
-    put(line, next, b"\n")
-}
-
-pub fn print_line(out: &mut Out, i: u64, x: Line) {
-    let verdict = x.verdict;
-    let counts = monthly::tally(verdict);
-    let mut line = [0u8; LINE];
-    let mut at = put_number(&mut line, 0, i);
-    at = put_kinds(&mut line, at, counts);
-    at = put_judged(&mut line, at, counts);
-    at = put_found(&mut line, at, verdict);
-    let read = x.read as u64;
-    let written = x.written as u64;
-    at = put_bus(
-        &mut line,
-        at,
-        read,
-        written,
-        read + written,
-        x.cycles as u64,
-    );
-    say(out, &line[..at]);
-}
-
 // A row of which there is a refusal alone.
-fn print_refused(out: &mut Out, name: &[u8], number: u64, place: u64) {
-    let mut line = [0u8; LINE];
-    let mut at = put(&mut line, 0, name);
-    at = put(&mut line, at, b",,,,,,,,,");
-    at = comma(&mut line, at, number);
-    at = comma(&mut line, at, place);
-    at = put(&mut line, at, b",,,,\n");
-    say(out, &line[..at]);
+fn print_refused(out: &mut Out, name: &str, number: u64, place: u64) {
+    writeln!(out, "{name},,,,,,,,,,{number},{place},,,,");
 }
 
-pub fn print_end(out: &mut Out, i: u64) {
-    print_refused(out, b"ends", 1, i);
-}
+impl Form for Table {
+    fn print_head(out: &mut Out) {
+        writeln!(
+            out,
+            "capture,captures,clean,broken,refused,events,judged,rule,event,cycle,refusal,place,read,written,bus,over"
+        );
+    }
 
-pub fn print_totals(out: &mut Out, t: Totals, bus: u64) {
-    let mut line = [0u8; LINE];
-    let mut at = put(&mut line, 0, b"all");
-    at = comma(&mut line, at, t.captures);
-    at = comma(&mut line, at, t.clean);
-    at = comma(&mut line, at, t.broken);
-    at = comma(&mut line, at, t.refused);
-    at = comma(&mut line, at, t.events);
-    at = comma(&mut line, at, t.judged);
-    at = put(&mut line, at, b",,,,,");
-    at = put_bus(&mut line, at, t.read, t.written, bus, t.cycles);
-    say(out, &line[..at]);
-}
+    fn print_line(out: &mut Out, i: u64, line: Line) {
+        let counts = monthly::tally(line.verdict);
+        let bus = u64::from(line.read) + u64::from(line.written);
+        writeln!(
+            out,
+            "{i},1,{},{},{},{},{},{},{},{},{bus},{}",
+            counts.clean,
+            counts.broken,
+            counts.refused,
+            counts.events,
+            counts.judged,
+            Found(line.verdict),
+            line.read,
+            line.written,
+            line.cycles
+        );
+    }
 
-// In place of the totals.
-pub fn print_refusal(out: &mut Out) {
-    print_refused(out, b"all", 14, monthly::MOST_CAPTURES);
+    fn print_end(out: &mut Out, i: u64) {
+        print_refused(out, "ends", 1, i);
+    }
+
+    fn print_sums(out: &mut Out, t: Totals, bus: u64) {
+        writeln!(
+            out,
+            "all,{},{},{},{},{},{},,,,,,{},{},{bus},{}",
+            t.captures,
+            t.clean,
+            t.broken,
+            t.refused,
+            t.events,
+            t.judged,
+            t.read,
+            t.written,
+            t.cycles
+        );
+    }
+
+    fn print_refusal(out: &mut Out) {
+        print_refused(out, "all", 14, monthly::MOST_CAPTURES);
+    }
 }

@@ -23,9 +23,9 @@ use Rattle.capture.proofs.Accepted.{answered-in, accepted-sound, length-count}
 use Rattle.capture.proofs.Opened.{Opened, opens}
 use Rattle.cells.specs.Meaning.{bursts_on}
 use Rattle.cells.proofs.Counting.{all-beats}
-use Rattle.cells.proofs.Listing.{listable}
+use Rattle.cells.proofs.Listing.{listable, clean-here}
 use Rattle.cells.proofs.Room.{sixteen-each}
-use Rattle.monthly.proofs.Lines.{verdict_told, clean-here, last-low}
+use Rattle.monthly.proofs.Lines.{verdict_told, last-low}
 
 pub record Small (x : Line) : Type 0 where
   pub events : events_told x.answer ≤ 8000

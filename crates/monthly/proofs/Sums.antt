@@ -5,7 +5,8 @@ use mathlib.Core.Path.{◌≡◌, refl, sym, ap, ◌∙◌}
 use native.Mathlib.Omega.{arith}
 use lib.ListN.{length-append}
 use Rattle.reading.specs.Month.{Line, events_told, judged_told, clean_told, broken_told, refused_told, sum_of, Totals, totals_of}
-use Rattle.judge.specs.Meaning.{means}
+use Rattle.refusal.specs.Refusal.{told}
+use Rattle.judge.specs.Meaning.{report_of}
 use Rattle.monthly.specs.declared.Line as line
 use Rattle.monthly.specs.declared.Totals as sums
 use Rattle.monthly.specs.declared.Counts.{Counts}
@@ -33,7 +34,7 @@ added-one xs x =
     }
 
 -- those of no line
-abbrev zeros : sums.Totals
+abbrev pub zeros : sums.Totals
 zeros = record { captures = 0; clean = 0; broken = 0; refused = 0; events = 0; judged = 0; read = 0; written = 0; cycles = 0 }
 
 pub none-added : totals_mean zeros ≡ totals_of []
@@ -54,8 +55,11 @@ none-held =
       cycles = omega arith;
     }
 
+pub are-zeros : {t : sums.Totals} → (t.captures ≡ 0) × ((t.clean ≡ 0) × ((t.broken ≡ 0) × ((t.refused ≡ 0) × ((t.events ≡ 0) × ((t.judged ≡ 0) × ((t.read ≡ 0) × ((t.written ≡ 0) × ((t.cycles ≡ 0))))))))) → t ≡ zeros
+are-zeros e = λ i. record { captures = e.0 i; clean = e.1.0 i; broken = e.1.1.0 i; refused = e.1.1.1.0 i; events = e.1.1.1.1.0 i; judged = e.1.1.1.1.1.0 i; read = e.1.1.1.1.1.1.0 i; written = e.1.1.1.1.1.1.1.0 i; cycles = e.1.1.1.1.1.1.1.1 i }
+
 -- what was added up is what should be
-pub added-so : (t : sums.Totals) (x : line.Line) {c : Counts} → c ≡ counts_of (means x.verdict) →
+pub added-so : (t : sums.Totals) (x : line.Line) {c : Counts} → c ≡ counts_of (told report_of x.verdict) →
     ◌≡◌ {A = Totals}
     (record {
       captures = t.captures + 1;

@@ -5,7 +5,8 @@ use Rattle.reading.specs.Settings.{settings_count, sleeping_count}
 use Rattle.reading.specs.Answers.{Answer, Report}
 use Rattle.reading.specs.Month as month
 use Rattle.reading.specs.Month.{most_captures, events_told, judged_told, clean_told, broken_told, refused_told}
-use Rattle.judge.specs.Meaning.{means}
+use Rattle.refusal.specs.Refusal.{told}
+use Rattle.judge.specs.Meaning.{report_of}
 use Rattle.monthly.specs.declared.Line.{Line}
 use Rattle.monthly.specs.declared.Counts.{Counts}
 use Rattle.monthly.specs.declared.Totals.{Totals}
@@ -13,7 +14,7 @@ use Rattle.monthly.specs.declared.Totals.{Totals}
 -- ---- a line
 
 abbrev pub line_means : Line → month.Line
-line_means x = record { answer = means x.verdict; read = x.read; written = x.written; cycles = x.cycles }
+line_means x = record { answer = told report_of x.verdict; read = x.read; written = x.written; cycles = x.cycles }
 
 -- what an answer adds to the counts
 abbrev pub counts_of : Answer Report → Counts

@@ -1,14 +1,17 @@
 // The month in numbers: the line of a capture, the totals of lines, and how far a stream is read for a capture.
 #![tactic(auto)]
 
-ghost use Rattle.std.specs.Prelude.{◌≡◌, ◌+◌, ◌*◌, ◌≤◌, ◌<◌, ltb, length, []};
-ghost use Rattle.reading.specs.Capture.{last_cycle};
+ghost use Rattle.std.specs.Prelude.{◌≡◌, ◌+◌, ◌*◌, ◌≤◌, ◌<◌, ltb, []};
 ghost use Rattle.reading.specs.Schedule.{last_from};
-ghost use Rattle.reading.specs.Month.{line_of, totals_of, most_captures, ends_stream};
-ghost use Rattle.judge.specs.Meaning.{means, events_in};
+ghost use Rattle.reading.specs.Month.{unused, line_of, totals_of, most_captures, ends_stream};
+ghost use Rattle.refusal.specs.Refusal.{told};
+ghost use Rattle.judge.specs.Meaning.{report_of, events_in};
 ghost use Rattle.monthly.specs.Meaning.{line_means, counts_of, totals_mean, added, Held, wanted_of};
 
+use capture::held::Events;
+use cells::held::Clean;
 use judge::Verdict;
+use refusal::Refusal;
 
 // How many captures a month may have.
 pub const MOST_CAPTURES: u64 = 10_000;
@@ -16,14 +19,14 @@ pub const MOST_CAPTURES: u64 = 10_000;
 // What is told of a capture. Beats and cycles are 0 unless it is clean; the cycles are twice that of its last event.
 #[derive(Clone, Copy)]
 pub struct Line {
-    pub verdict: Verdict,
+    pub verdict: Result<Verdict, Refusal>,
     pub read: u32,
     pub written: u32,
     pub cycles: u32,
 }
 
 // What a verdict adds to the totals: 1 to one of the first three.
-#[derive(Clone, Copy)]
+#[derive(Clone, Copy, Default)]
 pub struct Counts {
     pub clean: u32,
     pub broken: u32,
@@ -33,7 +36,7 @@ pub struct Counts {
 }
 
 // The sums of lines. Ten thousand words of 32 bits do not fill 64.
-#[derive(Clone, Copy)]
+#[derive(Clone, Copy, Default)]
 pub struct Totals {
     pub captures: u64,
     pub clean: u64,
@@ -69,27 +72,34 @@ pub fn wanted(total: u32) -> usize
 }
 
 // Whether the stream ends behind a capture of which this is said.
-pub fn ends(verdict: Verdict) -> bool
-    ensures { result ≡ ends_stream (means verdict) }
+pub fn ends(verdict: Result<Verdict, Refusal>) -> bool
+    ensures { result ≡ ends_stream (told report_of verdict) }
 {
-    let Verdict::Refused { number, .. } = verdict else {
-        return false;
-    };
-    number == 1
+    matches!(verdict, Err(Refusal::Length))
 }
 
 // ---- a line
 
-// Twice the cycle of the last of n events, 0 where there is none.
-fn twice_last(bytes: &[u8], n: u32) -> u32
-    requires n_in_bounds { 8 * n ≤ length bytes.now }
-    requires n_bound { last_from 0 (events_in bytes.now n) ≤ last_cycle }
-    ensures { result ≡ 2 * last_from 0 (events_in bytes.now n) }
+// Twice the cycle of the last event, 0 where there is none.
+fn twice_last(events: &Events<'_>) -> u32
+    ensures { result ≡ 2 * last_from 0 (events_in events.now.bytes.now events.now.count) }
 {
-    if n == 0 {
+    if events.count == 0 {
         return 0;
     }
-    2 * capture::cycle_at(bytes, (n - 1) as usize)
+    2 * events.cycle(events.count - 1)
+}
+
+// Of one that is not clean.
+fn unused(verdict: Result<Verdict, Refusal>) -> Line
+    ensures { line_means result ≡ unused (told report_of verdict) }
+{
+    Line {
+        verdict,
+        read: 0,
+        written: 0,
+        cycles: 0,
+    }
 }
 
 // What is told of these bytes as a capture. The beats are counted where they stand: no cell is written.
@@ -97,52 +107,43 @@ pub fn told(capture: &[u8]) -> Line
     ensures { line_means result ≡ line_of capture.now }
 {
     let verdict = judge::judge(capture);
-    let Verdict::Clean { events, .. } = verdict else {
-        return Line {
-            verdict,
-            read: 0,
-            written: 0,
-            cycles: 0,
-        };
-    };
-    let settings = capture::settings_in(capture);
-    let bytes = capture::event_bytes(capture);
-    let kept = cells::kept_beats(&settings, bytes, events);
-    let cycles = twice_last(bytes, events);
-    Line {
-        verdict,
-        read: kept.read,
-        written: kept.written,
-        cycles,
+    match verdict {
+        Ok(Verdict::Clean { .. }) => {
+            let clean = Clean::judged(capture);
+            let kept = clean.kept_beats();
+            Line {
+                verdict,
+                read: kept.read,
+                written: kept.written,
+                cycles: twice_last(&clean.opened.events),
+            }
+        }
+        Ok(Verdict::Broken { .. }) => unused(verdict),
+        Err(_) => unused(verdict),
     }
 }
 
 // ---- totals
 
-pub fn tally(verdict: Verdict) -> Counts
-    ensures { result ≡ counts_of (means verdict) }
+pub fn tally(verdict: Result<Verdict, Refusal>) -> Counts
+    ensures { result ≡ counts_of (told report_of verdict) }
 {
     match verdict {
-        Verdict::Refused { .. } => Counts {
-            clean: 0,
-            broken: 0,
+        Err(_) => Counts {
             refused: 1,
-            events: 0,
-            judged: 0,
+            ..Counts::default()
         },
-        Verdict::Clean { events, judged } => Counts {
+        Ok(Verdict::Clean { events, judged }) => Counts {
             clean: 1,
-            broken: 0,
-            refused: 0,
             events,
             judged,
+            ..Counts::default()
         },
-        Verdict::Broken { events, judged, .. } => Counts {
-            clean: 0,
+        Ok(Verdict::Broken { events, judged, .. }) => Counts {
             broken: 1,
-            refused: 0,
             events,
             judged,
+            ..Counts::default()
         },
     }
 }
@@ -152,17 +153,7 @@ pub fn nothing() -> Totals
     ensures result_value { totals_mean result ≡ totals_of [] }
     ensures held { Held result }
 {
-    Totals {
-        captures: 0,
-        clean: 0,
-        broken: 0,
-        refused: 0,
-        events: 0,
-        judged: 0,
-        read: 0,
-        written: 0,
-        cycles: 0,
-    }
+    Totals::default()
 }
 
 // Whether there may be one more.

@@ -38,7 +38,7 @@ use Rattle.rows.proofs.Writing.{words-length}
 use Rattle.alike.proofs.Blanked.{blanked-length}
 use Rattle.plan.proofs.Ready.{few-requests}
 use Rattle.plan.proofs.Captured as plan
-use Rattle.morgazell.specs.Packing.{Told, refusal, count, breach, verdict_told, judge_told, count_told, row_told, Packs}
+use Rattle.morgazell.specs.Packing.{Told, refusal, count, breach, verdict_told, judge_told, count_told, row_told}
 
 -- a number of eight bits that is not 0, and one of 32
 abbrev pub Number : ℕ → Type 0
@@ -300,10 +300,6 @@ row_fits capture bank event records words =
     go short none false true z e = (omega arith, omega arith)
     go short none false false true e = (omega arith, index-few capture short)
     go short none false false false e = row-in-fits capture bank event
-
-pub row-packs : (a : Answer (Option ℕ)) → Fits (row_told a) → Packs a
-row-packs (refused number place) f = f.0.1
-row-packs (answered row) f = tt
 
 -- ---- schedules
 

@@ -2,6 +2,5 @@
 pub mod Fitting
 pub mod Exports
 pub mod Playing
-pub mod Saying
 pub mod Reversible
 mod OpenRows

@@ -3,7 +3,7 @@ use Prim.Native.Nat.{ℕ, ◌≤◌}
 use mathlib.Core.Bool.{Bool, true, false, not}
 use mathlib.Core.List.{List, map}
 use mathlib.Core.Option.{Option, none, some}
-use mathlib.Core.Path.{◌≡◌, refl, sym, ap, ◌∙◌, subst}
+use mathlib.Core.Path.{◌≡◌, refl, sym, ap, ◌∙◌}
 use native.Mathlib.Omega.{arith}
 use borrow.Author.Tests.{ltb-false}
 use lib.Dec.{ltb}
@@ -17,16 +17,29 @@ use Rattle.capture.proofs.Outcome.{follow}
 use Rattle.capture.proofs.Accepted.{followed}
 use Rattle.banks.specs.declared.Bank.{Bank}
 use Rattle.banks.specs.declared.Told.{Told}
-use Rattle.banks.specs.Banks.{means, bank_of, record_of, told_of, filled_from}
+use Rattle.std.specs.Prelude.{Result, Ok, Err}
+use Rattle.refusal.specs.declared.Refusal.{Refusal}
+use Rattle.refusal.specs.Refusal.{told}
+use Rattle.banks.specs.Banks.{means, bank_of, record_of, found, told_of, filled_from}
 use Rattle.banks.proofs.Filling.{all-filled}
-use Rattle.morgazell.specs.Packing.{packed, row_told, Packs}
-use Rattle.morgazell.proofs.Fitting.{row_fits, row-packs}
+use Rattle.morgazell.specs.Packing.{packed, row_told}
 
 -- what was told means the answer
-told-means : (a : Answer (Option ℕ)) (records : List Record) → means (told_of a records).answer ≡ a
-told-means (refused number place) records = refl
-told-means (answered none) records = refl
-told-means (answered (some row)) records = refl
+row_of : Answer (Option ℕ × List Record) → Answer (Option ℕ)
+row_of (refused number place) = refused number place
+row_of (answered x) = answered x.0
+
+told-means : (r : Result Told Refusal) (a : Answer (Option ℕ)) (records : List Record) → told found r ≡ told_of a records → means r ≡ a
+unfolding row_of
+told-means r a records e = of-result r ∙ ap row_of e ∙ of-answer a
+  where
+    of-result : (r : Result Told Refusal) → means r ≡ row_of (told found r)
+    of-result (Ok t) = refl
+    of-result (Err why) = refl
+
+    of-answer : (a : Answer (Option ℕ)) → row_of (told_of a records) ≡ a
+    of-answer (refused number place) = refl
+    of-answer (answered row) = refl
 
 -- an answer is given where there are four records
 pub four-lent : (capture : List ℕ) (bank event records words : ℕ) (row : Option ℕ) → open_row_answer capture bank event records words ≡ answered row →
@@ -61,24 +74,17 @@ module _ (capture : List ℕ) (bank event : ℕ) (records : List Bank) (index : 
   unfolding records_in records_of
   four-records = refl
 
-  module _ {t : Told} (e : t ≡ told_of said (records_in capture)) where
-    told-said : means t.answer ≡ said
-    told-said = ap (λ (u : Told). means u.answer) e ∙ told-means said (records_in capture)
-
-    pub packs : Packs (means t.answer)
-    packs = subst Packs (sym told-said) (row-packs said (row_fits capture bank event (length records) (length index)))
-
-    pub answer-so : {k : ℕ} → k ≡ packed (row_told (means t.answer)) → k ≡ packed (row_told outcome.answer)
+  module _ (r : Result Told Refusal) (e : told found r ≡ told_of said (records_in capture)) where
+    pub answer-so : {k : ℕ} → k ≡ packed (row_told (means r)) → k ≡ packed (row_told outcome.answer)
     unfolding open_row_outcome
-    answer-so f = f ∙ ap (λ (a : Answer (Option ℕ)). packed (row_told a)) (told-said ∙ sym same)
+    answer-so f = f ∙ ap (λ (a : Answer (Option ℕ)). packed (row_told a)) (told-means r said (records_in capture) e ∙ sym same)
 
-    pub records-so : {left : List Bank} → left ≡ filled_from t records 0 (lesser (length records) 4) → left ≡ map bank_of outcome.records
+    pub records-so : {left : List Bank} → left ≡ filled_from r records 0 (lesser (length records) 4) → left ≡ map bank_of outcome.records
     unfolding open_row_outcome
     records-so f =
         f
-        ∙ (ap (λ (u : Told). filled_from u records 0 (lesser (length records) 4)) e
-        ∙ (all-filled said (records_in capture) records four-records (four-lent capture bank event (length records) (length index))
-        ∙ ap (λ (a : Answer (Option ℕ)). map bank_of (over a (records_in capture) (map record_of records))) (sym same)))
+        ∙ all-filled r said (records_in capture) records e four-records (four-lent capture bank event (length records) (length index))
+        ∙ ap (λ (a : Answer (Option ℕ)). map bank_of (over a (records_in capture) (map record_of records))) (sym same)
 
   pub index-so : {left : List ℕ} → left ≡ over said (index_in capture) index → left ≡ outcome.index
   unfolding open_row_outcome

@@ -1,6 +1,6 @@
 -- Answers as one number: bits 56-63 the refusal, bits 48-55 the broken rule or 1 for an open row, bits 0-31 the place, the event,
 -- the count or the row.
-use Rattle.std.specs.Prelude.{ℕ, ◌+◌, ◌*◌, ◌/◌, ◌%◌, ◌^◌, ◌<◌, cond, List, eqb}
+use Rattle.std.specs.Prelude.{ℕ, ◌+◌, ◌*◌, ◌/◌, ◌%◌, ◌^◌, cond, List, eqb}
 use Rattle.std.proofs.Math.Option.{Option, none, some}
 use Rattle.reading.specs.Capture.{event_count, event_bytes, event_at}
 use Rattle.reading.specs.Verdict as is
@@ -43,11 +43,6 @@ abbrev pub row_told : Answer (Option ℕ) → Told
 row_told (refused number place) = refusal number place
 row_told (answered none) = count 0
 row_told (answered (some row)) = breach 1 row
-
--- the refusal fits its bits
-abbrev pub Packs : Answer (Option ℕ) → Type 0
-Packs (refused number place) = number < 2 ^ 8
-Packs (answered row) = Unit {0}
 
 -- ---- and back
 

@@ -9,15 +9,12 @@ ghost use Rattle.reading.specs.OpenRow.{open_row_outcome};
 ghost use Rattle.reading.specs.Player.{play_outcome};
 ghost use Rattle.banks.specs.Banks.{means, bank_of, record_of};
 ghost use Rattle.version.specs.Version.{version};
-ghost use Rattle.morgazell.specs.Packing.{word, packed, judge_told, count_told, row_told, Packs};
+ghost use Rattle.refusal.specs.Refusal.{number_of, place_of, told};
+ghost use Rattle.morgazell.specs.Packing.{word, packed, judge_told, count_told, row_told};
 
-use banks::{Asked, Bank, Told};
-use cells::Listed;
-use exports::Converted;
-use hidden::Blanked;
+use banks::{Bank, Told};
 use judge::Verdict;
-use player::Played;
-use schedule::Scheduled;
+use refusal::Refusal;
 
 const REFUSAL: u64 = 0x100_0000_0000_0000;
 
@@ -27,18 +24,33 @@ fn pack(number: u32, rule: u32, value: u32) -> u64
     requires { (number < 256) × (rule < 256) }
     ensures { result ≡ word number rule value }
 {
-    REFUSAL * (number as u64) + RULE * (rule as u64) + (value as u64)
+    REFUSAL * u64::from(number) + RULE * u64::from(rule) + u64::from(value)
+}
+
+fn refused(why: Refusal) -> u64
+    ensures { result ≡ word (number_of why) 0 (place_of why) }
+{
+    pack(why.number(), 0, why.place())
+}
+
+// Of a call that says how many elements it wrote.
+fn counted(answer: Result<u32, Refusal>) -> u64
+    ensures { result ≡ packed (count_told (told (λ n. n) answer)) }
+{
+    match answer {
+        Ok(count) => pack(0, 0, count),
+        Err(why) => refused(why),
+    }
 }
 
 // What is said of these bytes where there may be so many events.
 fn judge_to(capture: &[u8], most: u32) -> u64
     ensures { result ≡ packed (judge_told (judge_answer_to most capture.now)) }
 {
-    let verdict = judge::judge_to(capture, most);
-    match verdict {
-        Verdict::Refused { number, place } => pack(number, 0, place),
-        Verdict::Clean { judged, .. } => pack(0, 0, judged),
-        Verdict::Broken { rule, event, .. } => pack(0, rule, event),
+    match judge::judge_to(capture, most) {
+        Ok(Verdict::Clean { judged, .. }) => pack(0, 0, judged),
+        Ok(Verdict::Broken { rule, event, .. }) => pack(0, rule.number(), event),
+        Err(why) => refused(why),
     }
 }
 
@@ -61,11 +73,7 @@ pub fn morgazell_cells(capture: &[u8], out: &mut [u32]) -> u64
     ensures value { result ≡ packed (count_told (cells_outcome capture.now out.old).answer) }
     ensures out_after { out.new ≡ (cells_outcome capture.now out.old).buffer }
 {
-    let listed = cells::burst_cells(capture, out);
-    match listed {
-        Listed::Refused { number, place } => pack(number, 0, place),
-        Listed::Written { cells } => pack(0, 0, cells),
-    }
+    counted(cells::burst_cells(capture, out))
 }
 
 // The schedule of the requests by a row policy, 0 open and 1 closed, as a whole capture; bytes behind it in the buffer stay.
@@ -73,11 +81,7 @@ pub fn morgazell_schedule(settings: &[u32], requests: &[u32], policy: u32, out: 
     ensures value { result ≡ packed (count_told (schedule_outcome settings.now requests.now policy out.old).answer) }
     ensures out_after { out.new ≡ (schedule_outcome settings.now requests.now policy out.old).buffer }
 {
-    let scheduled = schedule::schedule(settings, requests, policy, out);
-    match scheduled {
-        Scheduled::Refused { number, place } => pack(number, 0, place),
-        Scheduled::Written { bytes } => pack(0, 0, bytes),
-    }
+    counted(schedule::schedule(settings, requests, policy, out))
 }
 
 // These bytes as a capture, its addresses blanked; bytes behind it in the buffer stay.
@@ -85,11 +89,7 @@ pub fn morgazell_blank(capture: &[u8], out: &mut [u8]) -> u64
     ensures value { result ≡ packed (count_told (blank_outcome capture.now out.old).answer) }
     ensures out_after { out.new ≡ (blank_outcome capture.now out.old).buffer }
 {
-    let blanked = hidden::blank(capture, out);
-    match blanked {
-        Blanked::Refused { number, place } => pack(number, 0, place),
-        Blanked::Written { bytes } => pack(0, 0, bytes),
-    }
+    counted(hidden::blank(capture, out))
 }
 
 // These records of a handheld analyser as a capture of these settings and this edition; bytes behind it in the buffer stay.
@@ -97,11 +97,7 @@ pub fn morgazell_read_export(records: &[u8], settings: &[u32], edition: u32, out
     ensures value { result ≡ packed (count_told (read_outcome records.now settings.now edition out.old).answer) }
     ensures out_after { out.new ≡ (read_outcome records.now settings.now edition out.old).buffer }
 {
-    let converted = exports::read(records, settings, edition, out);
-    match converted {
-        Converted::Refused { number, place } => pack(number, 0, place),
-        Converted::Written { bytes } => pack(0, 0, bytes),
-    }
+    counted(exports::read(records, settings, edition, out))
 }
 
 // These bytes as a capture, as records of a handheld analyser; bytes behind them in the buffer stay.
@@ -109,23 +105,19 @@ pub fn morgazell_write_export(capture: &[u8], out: &mut [u8]) -> u64
     ensures value { result ≡ packed (count_told (write_outcome capture.now out.old).answer) }
     ensures out_after { out.new ≡ (write_outcome capture.now out.old).buffer }
 {
-    let converted = exports::write(capture, out);
-    match converted {
-        Converted::Refused { number, place } => pack(number, 0, place),
-        Converted::Written { bytes } => pack(0, 0, bytes),
-    }
+    counted(exports::write(capture, out))
 }
 
-// What was told of a bank.
-fn packed_row(t: Told) -> u64
-    requires { Packs (means t.answer) }
-    ensures { result ≡ packed (row_told (means t.answer)) }
+// What was found of a bank.
+fn packed_row(told: &Result<Told, Refusal>) -> u64
+    ensures { result ≡ packed (row_told (means told.now)) }
 {
-    let answer = t.answer;
-    match answer {
-        Asked::Refused { number, place } => pack(number, 0, place),
-        Asked::Open { row } => pack(0, 1, row),
-        Asked::Idle => pack(0, 0, 0),
+    match told {
+        Ok(found) => match found.row {
+            Some(row) => pack(0, 1, row),
+            None => pack(0, 0, 0),
+        },
+        Err(why) => refused(*why),
     }
 }
 
@@ -142,9 +134,9 @@ pub fn morgazell_open_row(
         × (records.new ≡ map bank_of (open_row_outcome capture.now bank event (map record_of records.old) index.old).records)
         × (index.new ≡ (open_row_outcome capture.now bank event (map record_of records.old) index.old).index) }
 {
-    let t = asking::open_row(capture, bank, event, records.len(), index);
-    banks::fill(records, t);
-    packed_row(t)
+    let told = asking::open_row(capture, bank, event, records.len(), index);
+    banks::fill(records, &told);
+    packed_row(&told)
 }
 
 // These bytes as a capture, played on the window of cells from `first` on, with the words and masks of `writes`; what lies behind
@@ -160,11 +152,7 @@ pub fn morgazell_play(
     ensures window_after { window.new ≡ (play_outcome capture.now first window.old writes.now reads.old).window }
     ensures reads_after { reads.new ≡ (play_outcome capture.now first window.old writes.now reads.old).reads }
 {
-    let played = player::play(capture, first, window, writes, reads);
-    match played {
-        Played::Refused { number, place } => pack(number, 0, place),
-        Played::Words { read } => pack(0, 0, read),
-    }
+    counted(player::play(capture, first, window, writes, reads))
 }
 
 // 10203 for version 1.2.3.

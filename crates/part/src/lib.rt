@@ -6,114 +6,104 @@ ghost use Rattle.reading.specs.Settings.{settings_of};
 ghost use Rattle.deadlines.specs.Deadlines as is;
 ghost use Rattle.pins.specs.Pins.{wide_code_of};
 ghost use Rattle.steps.specs.Steps.{rule_of, left_by, unless_lower, low_step_after, step_breaks, step_after, pace_after};
+ghost use Rattle.rules.specs.Rule.{broken};
 ghost use Rattle.part.specs.Means.{means};
 
 use deadlines::places::{ASLEEP, OVERDUE};
 use deadlines::{Deadlines, Pace};
+use rules::Rule;
 use settings::Settings;
 
-// What an event answers: all rules are kept, or some are broken, of which this is the lowest.
-#[derive(Clone, Copy)]
-pub enum Answer {
-    Kept,
-    Broke(u32),
-}
+// Each command: the lowest rule that it breaks, if any, and the deadlines after it, which stay as they were where it breaks one.
 
-// Each command: the lowest rule that it breaks, 0 for none, and the deadlines after it, which stay as they were where it breaks one.
-
-fn active(s: &Settings, d: &mut Deadlines, t: u32, b: usize, row: u32) -> u32
+fn active(s: &Settings, d: &mut Deadlines, t: u32, b: usize, row: u32) -> Result<(), Rule>
     requires { b < 4 }
-    ensures value { result ≡ is.active_breaks (settings_of s.now) d.old t b row }
+    ensures value { broken result ≡ is.active_breaks (settings_of s.now) d.old t b row }
     ensures d_after { d.new ≡ left_by (is.active_breaks (settings_of s.now) d.old t b row)
         (is.active_after (settings_of s.now) d.old t b) d.old }
 {
-    let rule = rules::active_breaks(s, &*d, t, b, row);
-    if rule != 0 {
-        return rule;
-    }
+    rules::active_breaks(s, &*d, t, b, row)?;
     effects::active_after(s, d, t, b);
-    0
+    Ok(())
 }
 
-fn read(s: &Settings, d: &mut Deadlines, pace: &Pace, t: u32, b: usize, auto: bool) -> u32
+fn read(
+    s: &Settings,
+    d: &mut Deadlines,
+    pace: &Pace,
+    t: u32,
+    b: usize,
+    auto: bool,
+) -> Result<(), Rule>
     requires { b < 4 }
-    ensures value { result ≡ is.read_breaks d.old t b }
+    ensures value { broken result ≡ is.read_breaks d.old t b }
     ensures d_after { d.new ≡ left_by (is.read_breaks d.old t b)
         (is.read_after (settings_of s.now) d.old pace.now t b auto) d.old }
 {
-    let rule = rules::read_breaks(&*d, t, b);
-    if rule != 0 {
-        return rule;
-    }
+    rules::read_breaks(&*d, t, b)?;
     effects::read_after(s, d, pace, t, b, auto);
-    0
+    Ok(())
 }
 
-fn write(s: &Settings, d: &mut Deadlines, pace: &Pace, t: u32, b: usize, auto: bool) -> u32
+fn write(
+    s: &Settings,
+    d: &mut Deadlines,
+    pace: &Pace,
+    t: u32,
+    b: usize,
+    auto: bool,
+) -> Result<(), Rule>
     requires { b < 4 }
-    ensures value { result ≡ is.write_breaks d.old t b }
+    ensures value { broken result ≡ is.write_breaks d.old t b }
     ensures d_after { d.new ≡ left_by (is.write_breaks d.old t b)
         (is.write_after (settings_of s.now) d.old pace.now t b auto) d.old }
 {
-    let rule = rules::write_breaks(&*d, t, b);
-    if rule != 0 {
-        return rule;
-    }
+    rules::write_breaks(&*d, t, b)?;
     effects::write_after(s, d, pace, t, b, auto);
-    0
+    Ok(())
 }
 
-fn close_all(s: &Settings, d: &mut Deadlines, pace: &Pace, t: u32) -> u32
-    ensures value { result ≡ is.close_all_breaks d.old t }
+fn close_all(s: &Settings, d: &mut Deadlines, pace: &Pace, t: u32) -> Result<(), Rule>
+    ensures value { broken result ≡ is.close_all_breaks d.old t }
     ensures d_after { d.new ≡ left_by (is.close_all_breaks d.old t)
         (is.close_all_after (settings_of s.now) d.old pace.now t) d.old }
 {
-    let rule = rules::close_all_breaks(&*d, t);
-    if rule != 0 {
-        return rule;
-    }
+    rules::close_all_breaks(&*d, t)?;
     effects::close_all_after(s, d, pace, t);
-    0
+    Ok(())
 }
 
-fn close(s: &Settings, d: &mut Deadlines, pace: &Pace, t: u32, b: usize) -> u32
+// Inlined early: random commands cost half an instruction an event more otherwise.
+#[inline(always)]
+fn close(s: &Settings, d: &mut Deadlines, pace: &Pace, t: u32, b: usize) -> Result<(), Rule>
     requires { b < 4 }
-    ensures value { result ≡ is.close_breaks d.old t b }
+    ensures value { broken result ≡ is.close_breaks d.old t b }
     ensures d_after { d.new ≡ left_by (is.close_breaks d.old t b)
         (is.close_after (settings_of s.now) d.old pace.now t b) d.old }
 {
-    let rule = rules::close_breaks(&*d, t, b);
-    if rule != 0 {
-        return rule;
-    }
+    rules::close_breaks(&*d, t, b)?;
     effects::close_after(s, d, pace, t, b);
-    0
+    Ok(())
 }
 
-fn terminate(d: &mut Deadlines, pace: &Pace, t: u32) -> u32
-    ensures value { result ≡ is.terminate_breaks d.old t }
+fn terminate(d: &mut Deadlines, pace: &Pace, t: u32) -> Result<(), Rule>
+    ensures value { broken result ≡ is.terminate_breaks d.old t }
     ensures d_after { d.new ≡ left_by (is.terminate_breaks d.old t)
         (is.cut_read d.old pace.now t true) d.old }
 {
-    let rule = rules::terminate_breaks(&*d, t);
-    if rule != 0 {
-        return rule;
-    }
+    rules::terminate_breaks(&*d, t)?;
     effects::cut_read(d, pace, t, true);
-    0
+    Ok(())
 }
 
-fn refresh(s: &Settings, d: &mut Deadlines, t: u32) -> u32
-    ensures value { result ≡ is.refresh_breaks d.old t }
+fn refresh(s: &Settings, d: &mut Deadlines, t: u32) -> Result<(), Rule>
+    ensures value { broken result ≡ is.refresh_breaks d.old t }
     ensures d_after { d.new ≡ left_by (is.refresh_breaks d.old t)
         (is.refresh_after (settings_of s.now) d.old t) d.old }
 {
-    let rule = rules::refresh_breaks(&*d, t);
-    if rule != 0 {
-        return rule;
-    }
+    rules::refresh_breaks(&*d, t)?;
     effects::refresh_after(s, d, t);
-    0
+    Ok(())
 }
 
 fn set_register(pace: &mut Pace, b: usize, word: u32)
@@ -124,95 +114,91 @@ fn set_register(pace: &mut Pace, b: usize, word: u32)
     }
 }
 
-fn mode_set(s: &Settings, d: &mut Deadlines, pace: &mut Pace, t: u32, b: usize, word: u32) -> u32
-    ensures value { result ≡ is.mode_breaks d.old t b word }
+fn mode_set(
+    s: &Settings,
+    d: &mut Deadlines,
+    pace: &mut Pace,
+    t: u32,
+    b: usize,
+    word: u32,
+) -> Result<(), Rule>
+    ensures value { broken result ≡ is.mode_breaks d.old t b word }
     ensures d_after { d.new ≡ left_by (is.mode_breaks d.old t b word)
         (is.mode_set_after (settings_of s.now) d.old t) d.old }
     ensures pace_after { pace.new ≡ left_by (is.mode_breaks d.old t b word)
         (cond (eqb b 0) (is.pace_of word) pace.old) pace.old }
 {
-    let rule = rules::mode_breaks(&*d, t, b, word);
-    if rule != 0 {
-        return rule;
-    }
+    rules::mode_breaks(&*d, t, b, word)?;
     effects::mode_set_after(s, d, t);
     set_register(pace, b, word);
-    0
+    Ok(())
 }
 
 // NOP and DESELECT; asleep they leave it.
-fn quiet(s: &Settings, d: &mut Deadlines, t: u32) -> u32
-    ensures value { result ≡ is.quiet_breaks d.old t }
+fn quiet(s: &Settings, d: &mut Deadlines, t: u32) -> Result<(), Rule>
+    ensures value { broken result ≡ is.quiet_breaks d.old t }
     ensures d_after { d.new ≡ left_by (is.quiet_breaks d.old t)
         (is.quiet_after (settings_of s.now) d.old t) d.old }
 {
-    if (t as u64) < d[OVERDUE] {
-        return 0;
+    if u64::from(t) < d[OVERDUE] {
+        return Ok(());
     }
-    if (t as u64) < d[ASLEEP] {
+    if u64::from(t) < d[ASLEEP] {
         effects::leave_after(s, d, t);
-        return 0;
+        return Ok(());
     }
-    14
+    Err(Rule::Refresh)
 }
 
 // With CKE low: NOP and DESELECT, which enter power-down or stay asleep; AUTO REFRESH, which enters self refresh; and every
 // other command, which breaks a rule, if not a lower one then rule 15.
 
-fn enter(d: &mut Deadlines, t: u32) -> u32
-    ensures value { result ≡ is.enter_breaks d.old t }
+fn enter(d: &mut Deadlines, t: u32) -> Result<(), Rule>
+    ensures value { broken result ≡ is.enter_breaks d.old t }
     ensures d_after { d.new ≡ left_by (is.enter_breaks d.old t)
         (is.enter_after d.old) d.old }
 {
-    let rule = rules::enter_breaks(&*d, t);
-    if rule != 0 {
-        return rule;
-    }
+    rules::enter_breaks(&*d, t)?;
     effects::enter_after(d);
-    0
+    Ok(())
 }
 
-fn quiet_low(d: &mut Deadlines, t: u32) -> u32
-    ensures value { result ≡ is.low_breaks d.old t }
+fn quiet_low(d: &mut Deadlines, t: u32) -> Result<(), Rule>
+    ensures value { broken result ≡ is.low_breaks d.old t }
     ensures d_after { d.new ≡ left_by (is.low_breaks d.old t)
         (is.low_after d.old t) d.old }
 {
-    if (t as u64) < d[ASLEEP] {
-        return 0;
+    if u64::from(t) < d[ASLEEP] {
+        return Ok(());
     }
     if d[OVERDUE] == 0 {
-        return 14;
+        return Err(Rule::Refresh);
     }
     enter(d, t)
 }
 
-fn refresh_low(d: &mut Deadlines, t: u32) -> u32
-    ensures value { result ≡ is.self_breaks d.old t }
+fn refresh_low(d: &mut Deadlines, t: u32) -> Result<(), Rule>
+    ensures value { broken result ≡ is.self_breaks d.old t }
     ensures d_after { d.new ≡ left_by (is.self_breaks d.old t)
         (is.self_after d.old) d.old }
 {
-    let rule = rules::self_breaks(&*d, t);
-    if rule != 0 {
-        return rule;
-    }
+    rules::self_breaks(&*d, t)?;
     effects::self_after(d);
-    0
+    Ok(())
 }
 
 // A command that may not come.
-fn barred(rule: u32) -> u32
-    ensures { result ≡ unless_lower rule }
+fn barred(answer: Result<(), Rule>) -> Result<(), Rule>
+    ensures { broken result ≡ unless_lower (broken answer) }
 {
-    if rule != 0 {
-        return rule;
-    }
-    15
+    answer?;
+    Err(Rule::Sleep)
 }
 
-fn low(s: &Settings, d: &mut Deadlines, t: u32, code: u32, w: u32) -> u32
+fn low(s: &Settings, d: &mut Deadlines, t: u32, code: u32, w: u32) -> Result<(), Rule>
     requires code_value { code ≡ wide_code_of w }
     requires le_code { 16 ≤ code }
-    ensures value { result ≡ step_breaks (settings_of s.now) d.old t w }
+    ensures value { broken result ≡ step_breaks (settings_of s.now) d.old t w }
     ensures d_after { d.new ≡ left_by (step_breaks (settings_of s.now) d.old t w)
         (low_step_after d.old t w) d.old }
 {
@@ -242,9 +228,10 @@ fn low(s: &Settings, d: &mut Deadlines, t: u32, code: u32, w: u32) -> u32
 }
 
 // By the five pins that tell what an event asks. Every number that they can be stands in an arm of its own, but 31, so that
-// the compiler needs no test before it jumps.
-fn command(s: &Settings, d: &mut Deadlines, pace: &mut Pace, t: u32, w: u32) -> u32
-    ensures value { result ≡ step_breaks (settings_of s.now) d.old t w }
+// the compiler needs no test before it jumps. Each arm takes its answer apart: where the match hands the answers on, the
+// compiler joins them before it looks at one, and a NOP costs 22 instructions in place of 18.
+fn command(s: &Settings, d: &mut Deadlines, pace: &mut Pace, t: u32, w: u32) -> Result<(), Rule>
+    ensures value { broken result ≡ step_breaks (settings_of s.now) d.old t w }
     ensures d_after { d.new ≡ left_by (step_breaks (settings_of s.now) d.old t w)
         (step_after (settings_of s.now) d.old pace.old t w) d.old }
     ensures pace_after { pace.new ≡ left_by (step_breaks (settings_of s.now) d.old t w)
@@ -252,36 +239,34 @@ fn command(s: &Settings, d: &mut Deadlines, pace: &mut Pace, t: u32, w: u32) -> 
 {
     let code = pins::wide_code(w);
     match code {
-        pins::ACTIVE => active(s, d, t, pins::bank(w), pins::address(w)),
-        pins::READ => read(s, d, &*pace, t, pins::bank(w), pins::ten(w)),
-        pins::WRITE => write(s, d, &*pace, t, pins::bank(w), pins::ten(w)),
+        pins::ACTIVE => active(s, d, t, pins::bank(w), pins::address(w))?,
+        pins::READ => read(s, d, &*pace, t, pins::bank(w), pins::ten(w))?,
+        pins::WRITE => write(s, d, &*pace, t, pins::bank(w), pins::ten(w))?,
         pins::PRECHARGE => {
             if pins::ten(w) {
-                return close_all(s, d, &*pace, t);
+                close_all(s, d, &*pace, t)?;
+            } else {
+                close(s, d, &*pace, t, pins::bank(w))?;
             }
-            close(s, d, &*pace, t, pins::bank(w))
         }
-        pins::TERMINATE => terminate(d, &*pace, t),
-        pins::REFRESH => refresh(s, d, t),
-        pins::MODE_SET => mode_set(s, d, pace, t, pins::bank(w), pins::address(w)),
-        pins::NOP => quiet(s, d, t),
-        1 | 3 | 5 | 7 | 9 | 11 | 13 | 15 => quiet(s, d, t),
-        _ => low(s, d, t, code, w),
+        pins::TERMINATE => terminate(d, &*pace, t)?,
+        pins::REFRESH => refresh(s, d, t)?,
+        pins::MODE_SET => mode_set(s, d, pace, t, pins::bank(w), pins::address(w))?,
+        pins::NOP => quiet(s, d, t)?,
+        1 | 3 | 5 | 7 | 9 | 11 | 13 | 15 => quiet(s, d, t)?,
+        _ => low(s, d, t, code, w)?,
     }
+    Ok(())
 }
 
-// One event: what it answers by the deadlines kept of the events before it, and the deadlines with it. An event that
-// breaks a rule leaves them as they were.
-pub fn step(s: &Settings, d: &mut Deadlines, pace: &mut Pace, t: u32, w: u32) -> Answer
+// One event: the lowest rule that it breaks by the deadlines kept of the events before it, if any, and the deadlines with it. An
+// event that breaks a rule leaves them as they were.
+pub fn step(s: &Settings, d: &mut Deadlines, pace: &mut Pace, t: u32, w: u32) -> Result<(), Rule>
     ensures result_value { means result ≡ rule_of (step_breaks (settings_of s.now) d.old t w) }
     ensures d_after { d.new ≡ left_by (step_breaks (settings_of s.now) d.old t w)
         (step_after (settings_of s.now) d.old pace.old t w) d.old }
     ensures pace_after { pace.new ≡ left_by (step_breaks (settings_of s.now) d.old t w)
         (pace_after pace.old w) pace.old }
 {
-    let rule = command(s, d, pace, t, w);
-    if rule == 0 {
-        return Answer::Kept;
-    }
-    Answer::Broke(rule)
+    command(s, d, pace, t, w)
 }

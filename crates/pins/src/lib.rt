@@ -4,7 +4,9 @@
 ghost use Rattle.std.specs.Prelude.{◌≡◌, ◌<◌};
 ghost use Rattle.pins.specs.Pins.{code_of, wide_code_of, bank_of, address_of, ten_of, low_of, gives};
 
-// The command pins as a number: CS#, RAS#, CAS#, WE#, CS# the lowest. The odd ones are DESELECT.
+// The command pins as a number: CS#, RAS#, CAS#, WE#, CS# the lowest. The odd ones are DESELECT. Numbers and no enum: an event is
+// dispatched by one jump on them, with no test before it (part/src/lib.rt), and the bank and the address are worked out only in
+// the arms that need them.
 pub const ACTIVE: u32 = 12;
 
 pub const READ: u32 = 10;
@@ -82,7 +84,7 @@ pub fn low(w: u32) -> bool
     w / 1_048_576 % 2 == 1
 }
 
-// READ and WRITE give a burst.
+// READ and WRITE give a burst. Two tests and no `matches!`: with that the rows that were open cost a tenth more.
 pub fn gives_burst(w: u32) -> bool
     ensures { result ≡ gives w }
 {

@@ -2,16 +2,23 @@
 // first cell, how many words the window has, these, and to the end words and masks for its writes.
 #![tactic(auto)]
 
-ghost use Rattle.std.specs.Prelude.{◌≤◌};
-ghost use Rattle.console.specs.Counts.{IsPrefixLen};
+use console::Out;
+use console::program::Program;
 
-use console::line::{put, put_number};
-use console::{Out, program, say, say_number};
-use player::Played;
+const PLAY: Program<'static> = Program {
+    name: b"play",
+    help: b"usage: play [FILE]
 
-const NAME: [u8; 4] = *b"play";
-
-const UNDONE: [u8; 18] = *b"nothing was played";
+Plays a clean capture of a Mobile DDR bus against a window of cells. Behind the
+capture stand words of 32 bits: the first cell, how many words the window has,
+these, and to the end words and masks for its writes. Prints `words COUNT`, each
+word read as `word 0xWORD` and each cell of the window as `cell CELL 0xWORD`;
+of what cannot be played `refused NUMBER place PLACE`.
+",
+    undone: b"nothing was played",
+    option: None,
+    names: 1,
+};
 
 const MOST_WINDOW: usize = 16_384;
 
@@ -23,204 +30,87 @@ const ROOM: usize = 262_145;
 
 const MOST_WRITES: usize = 65_536;
 
-const DIGITS: [u8; 16] = *b"0123456789abcdef";
-
 // ---- the input
 
 // The word that starts at a byte; 0 where there is none.
 fn word_at(bytes: &[u8], at: usize) -> u32 {
-    if bytes.len() < 4 {
-        return 0;
-    }
-    if bytes.len() - 4 < at {
+    if bytes.len() < 4 || bytes.len() - 4 < at {
         return 0;
     }
     words::word_at(bytes, at)
 }
 
-fn lesser(a: usize, b: usize) -> usize
-    ensures { (result ≤ a) × (result ≤ b) }
-{
-    if a < b {
-        return a;
-    }
-    b
-}
-
-// So many words that stand from the first byte on.
-fn fill(out: &mut [u32], count: usize, bytes: &[u8]) {
-    let mut i: usize = 0;
-    'words: while i < out.len() {
-        if count <= i {
-            return;
-        }
-        out[i] = word_at(bytes, 4 * i);
-        i += 1;
+// With the words that the bytes are, as far as there are any.
+fn fill(room: &mut [u32], bytes: &[u8]) {
+    for (word, four) in room.iter_mut().zip(bytes.chunks_exact(4)) {
+        *word = word_at(four, 0);
     }
 }
 
 // ---- the output
 
-fn digit(w: u32) -> u8 {
-    let at = (w % 16) as usize;
-    DIGITS[at]
-}
-
-// Eight digits behind 0x, and the end of the line.
-fn put_hex(line: &mut [u8], at: usize, w: u32) -> usize
-    ensures { IsPrefixLen result line.new }
-{
-    let digits = [
-        b'0',
-        b'x',
-        digit(w / 0x1000_0000),
-        digit(w / 0x100_0000),
-        digit(w / 0x10_0000),
-        digit(w / 0x1_0000),
-        digit(w / 0x1000),
-        digit(w / 0x100),
-        digit(w / 0x10),
-        digit(w),
-        b'\n',
-    ];
-    put(line, at, &digits)
-}
-
-fn print_word(out: &mut Out, w: u32) {
-    let mut line = [0u8; 32];
-    let at = put(&mut line, 0, b"word ");
-    let end = put_hex(&mut line, at, w);
-    say(out, &line[..end]);
-}
-
-fn print_cell(out: &mut Out, cell: u64, w: u32) {
-    let mut line = [0u8; 48];
-    let mut at = put(&mut line, 0, b"cell ");
-    at = put_number(&mut line, at, cell);
-    at = put(&mut line, at, b" ");
-    let end = put_hex(&mut line, at, w);
-    say(out, &line[..end]);
-}
-
-fn print_words(out: &mut Out, reads: &[u32], read: usize) {
-    let mut i: usize = 0;
-    'words: while i < reads.len() {
-        if read <= i {
-            return;
-        }
-        print_word(out, reads[i]);
-        i += 1;
+fn print_read(out: &mut Out, reads: &[u32], read: u32) {
+    writeln!(out, "words {read}");
+    for word in reads.iter().take(read as usize) {
+        writeln!(out, "word {word:#010x}");
     }
 }
 
-fn print_cells(out: &mut Out, first: u32, window: &[u32], size: usize) {
-    let mut i: usize = 0;
-    'cells: while i < window.len() {
-        if size <= i {
-            return;
-        }
-        print_cell(out, (first as u64) + (i as u64 % 0x1_0000_0000), window[i]);
-        i += 1;
+fn print_cells(out: &mut Out, first: u32, window: &[u32]) {
+    for (cell, word) in (u64::from(first)..).zip(window) {
+        writeln!(out, "cell {cell} {word:#010x}");
     }
-}
-
-fn print_refused(out: &mut Out, number: u32, place: u32) {
-    say_number(out, b"refused ", number);
-    say_number(out, b" place ", place);
-    say(out, b"\n");
-}
-
-fn print_read(out: &mut Out, read: u32, reads: &[u32]) {
-    say_number(out, b"words ", read);
-    say(out, b"\n");
-    print_words(out, reads, read as usize);
 }
 
 // ---- the work
 
-// On the first `size` words of the window, with so many words and masks.
-fn on(
-    rt: &HostRuntime,
-    capture: &[u8],
-    first: u32,
-    window: &mut [u32],
-    size: usize,
-    writes: &[u32],
-    supply: usize,
-    reads: &mut [u32],
-) {
-    let lent = lesser(size, window.len());
-    let given = lesser(supply, writes.len());
-    let played = player::play(capture, first, &mut window[..lent], &writes[..given], reads);
+fn play(rt: &HostRuntime, capture: &[u8], first: u32, window: &mut [u32], writes: &[u32]) {
+    let mut reads = [0u32; MOST_READS];
+    let played = player::play(capture, first, window, writes, &mut reads);
     let mut out = Out::new(rt.stdout());
     match played {
-        Played::Refused { number, place } => print_refused(&mut out, number, place),
-        Played::Words { read } => {
-            print_read(&mut out, read, reads);
-            print_cells(&mut out, first, window, lent);
+        Ok(read) => {
+            print_read(&mut out, &reads, read);
+            print_cells(&mut out, first, window);
         }
+        Err(refusal) => writeln!(out, "{refusal}"),
     }
-    program::end(rt, &NAME, out, b"printed");
+    PLAY.end(rt, out, b"printed");
 }
 
-// The capture, and behind it the window and what is left to its writes.
+// The capture, and behind it the window of so many words and what is left to its writes.
 fn work(rt: &HostRuntime, capture: &[u8], first: u32, size: usize, behind: &[u8]) {
     let mut window = [0u32; MOST_WINDOW + 1];
     let mut writes = [0u32; MOST_WRITES];
-    let mut reads = [0u32; MOST_READS];
-    fill(&mut window, size, behind);
-    let taken = lesser(4 * lesser(size, MOST_WINDOW + 1), behind.len());
-    let rest = &behind[taken..];
-    let supply = rest.len() / 4;
-    fill(&mut writes, supply, rest);
-    on(
-        rt,
-        capture,
-        first,
-        &mut window,
-        size,
-        &writes,
-        supply,
-        &mut reads,
-    );
+    let window = &mut window[..size.min(MOST_WINDOW + 1)];
+    let (own, rest) = behind.split_at((4 * window.len()).min(behind.len()));
+    let writes = &mut writes[..(rest.len() / 4).min(MOST_WRITES)];
+    fill(window, own);
+    fill(writes, rest);
+    play(rt, capture, first, window, writes);
 }
 
 // Where the first word says that the capture ends. What is too short for one has nothing behind it.
-fn split(rt: &HostRuntime, input: &[u8], total: usize) {
-    let front = lesser(total, input.len());
-    let capture = &input[..front];
-    let rest = &input[front..];
-    if input.len() < 80 {
+fn split(rt: &HostRuntime, input: &[u8]) {
+    let total = word_at(input, 0) as usize;
+    let (capture, rest) = input.split_at(total.min(input.len()));
+    if input.len() < 80 || input.len() < total {
         work(rt, input, 0, 0, rest);
         return;
     }
-    if input.len() < total {
-        work(rt, input, 0, 0, rest);
-        return;
-    }
-    let first = word_at(rest, 0);
-    let size = word_at(rest, 4) as usize;
     if rest.len() % 4 != 0 {
-        program::complain_of(
-            rt,
-            &NAME,
-            0,
-            b" has some bytes over behind its last word",
-            &UNDONE,
-        );
+        PLAY.complain_of(rt, None, b" has some bytes over behind its last word");
         return;
     }
     if rest.len() < 8 {
-        program::complain_of(rt, &NAME, 0, b" ends before the window does", &UNDONE);
+        PLAY.complain_of(rt, None, b" ends before the window does");
         return;
     }
-    let behind = &rest[8..];
-    if MOST_WINDOW < size {
-        work(rt, capture, first, size, behind);
-        return;
-    }
-    if behind.len() / 4 < size {
-        program::complain_of(rt, &NAME, 0, b" ends before the window does", &UNDONE);
+    let (head, behind) = rest.split_at(8);
+    let first = word_at(head, 0);
+    let size = word_at(head, 4) as usize;
+    if size <= MOST_WINDOW && behind.len() / 4 < size {
+        PLAY.complain_of(rt, None, b" ends before the window does");
         return;
     }
     work(rt, capture, first, size, behind);
@@ -228,28 +118,12 @@ fn split(rt: &HostRuntime, input: &[u8], total: usize) {
 
 fn main(rt: HostRuntime) {
     let mut buffer = [0u8; ROOM];
-    let given = program::input(
-        &rt,
-        &NAME,
-        b"usage: play [FILE]
-
-Plays a clean capture of a Mobile DDR bus against a window of cells. Behind the
-capture stand words of 32 bits: the first cell, how many words the window has,
-these, and to the end words and masks for its writes. Prints `words COUNT`, each
-word read as `word 0xWORD` and each cell of the window as `cell CELL 0xWORD`;
-of what cannot be played `refused NUMBER place PLACE`.
-",
-        &UNDONE,
-        &mut buffer,
-    );
-    if !given.work {
+    let Some(input) = PLAY.input(&rt, &mut buffer) else {
+        return;
+    };
+    if input.len() == ROOM {
+        PLAY.complain_of(&rt, None, b" is too long");
         return;
     }
-    let n = given.size;
-    if n == ROOM {
-        program::complain_of(&rt, &NAME, 0, b" is too long", &UNDONE);
-        return;
-    }
-    let input = &buffer[..n];
-    split(&rt, input, word_at(input, 0) as usize);
+    split(&rt, input);
 }

@@ -18,23 +18,16 @@ use Rattle.reading.specs.Bursts.{Burst, beat_cell}
 use Rattle.reading.specs.Cells.{bursts_of}
 use Rattle.reading.specs.Mode.{BL}
 use Rattle.reading.specs.Memory.{Run, load, store_beats, play, replay_bursts, replay}
-use Rattle.reading.specs.Answers.{Answer, refused, answered, unless, accepted, Report, settings_in, verdict_in, judge_answer, judge_answer_to, not_clean}
+use Rattle.reading.specs.Answers.{Answer, refused, answered, unless, accepted, Report, settings_in, verdict_in, judge_answer, not_clean}
 use Rattle.reading.specs.Player.{window_fits, data_of, unplayable, event_of_burst, played_on, playing, PlayOutcome, plays, play_outcome}
 use Rattle.words.proofs.Runs.{front}
-use Rattle.settings.specs.declared.Checked.{Checked}
-use Rattle.settings.specs.declared.Checked.TheVariants as checked
-use Rattle.settings.specs.Meaning as check
 use Rattle.settings.proofs.Fitting.{at_least, at_most}
-use Rattle.capture.specs.Calls.{opened, Accepted}
-use Rattle.capture.proofs.Outcome.{follow, not-answered, not-refused}
-use Rattle.capture.proofs.Accepted.{followed, accepted-rest, accepted-sound, count-range}
+use Rattle.capture.proofs.Outcome.{not-answered, not-refused}
+use Rattle.capture.proofs.Accepted.{accepted-rest, accepted-sound, count-range, refused-to}
 use Rattle.capture.proofs.Opened.{Opened}
 use Rattle.judge.specs.Meaning.{events_in}
-use Rattle.cells.specs.Meaning.{Clean}
-use Rattle.cells.proofs.Listing.{listable}
-use Rattle.player.specs.declared.Played.{Played}
-use Rattle.player.specs.declared.Played.TheVariants.{Refused, Words}
-use Rattle.player.specs.Playing.{means, lanes_by, words_read, Playable, clean_by, tried}
+use Rattle.cells.proofs.Listing.{judged-refused, judged-accepted, judged-verdict}
+use Rattle.player.specs.Playing.{lanes_by, words_read, Coded, tried}
 use Rattle.player.proofs.Window.{length-counted, data-length}
 
 -- a call answers so, and leaves this in the lent window and in the words read
@@ -117,8 +110,8 @@ module _ (s : Settings) (es : List Event) (first : ℕ) (window writes reads : L
     unfolding playing
     fits = ap (λ (w : Bool). unless 15 (given 0 (not w)) (unless 15 bad short)) (sym f ∙ e)
 
-    module _ (t : Played) (said : means t ≡ tried s es first (length window) (length writes / 2) 0 (bursts_of s es)) where
-      said-so : means t ≡ unless 15 bad (answered (words_read (bursts_of s es)))
+    module _ {t : Answer ℕ} (said : t ≡ tried s es first (length window) (length writes / 2) 0 (bursts_of s es)) where
+      said-so : t ≡ unless 15 bad (answered (words_read (bursts_of s es)))
       unfolding tried
       said-so =
           said
@@ -126,12 +119,12 @@ module _ (s : Settings) (es : List Event) (first : ℕ) (window writes reads : L
           unless 15 (Option.map (event_of_burst es) (unplayable s first (length window) (sym (data-length writes) u) (bursts_of s es)))
           (answered (zero-add (words_read (bursts_of s es)) u)))
 
-      pub unplayed : {number place : ℕ} → t ≡ Refused number place → Ends (refused number place) window reads outcome
-      unplayed g = refused-ends (fits ∙ tried-refused bad (words_read (bursts_of s es)) short (sym said-so ∙ ap means g))
+      pub unplayed : {number place : ℕ} → t ≡ refused number place → Ends (refused number place) window reads outcome
+      unplayed g = refused-ends (fits ∙ tried-refused bad (words_read (bursts_of s es)) short (sym said-so ∙ g))
 
-      module _ {read : ℕ} (g : t ≡ Words read) where
+      module _ {read : ℕ} (g : t ≡ answered read) where
         fine : (bad ≡ none) × (read ≡ words_read (bursts_of s es))
-        fine = tried-fine bad (words_read (bursts_of s es)) (sym said-so ∙ ap means g)
+        fine = tried-fine bad (words_read (bursts_of s es)) (sym said-so ∙ g)
 
         pub all-playable : unplayable s first (length window) (length (data_of writes)) (bursts_of s es) ≡ none
         all-playable = none-mapped (event_of_burst es) (unplayable s first (length window) (length (data_of writes)) (bursts_of s es)) fine.0
@@ -168,45 +161,29 @@ module _ (s : Settings) (es : List Event) (first : ℕ) (window writes reads : L
 
 -- ---- the capture: refusals 1 to 4 and 8
 
-module _ (capture : List ℕ) where
-  by-judge : clean_by (judge_answer capture) ≡ follow (opened capture) (unless 8 (not_clean (verdict_in capture)) (answered tt))
-  unfolding judge_answer_to
-  by-judge = ap clean_by (followed most_events capture _) ∙ go (opened capture) _
-    where
-      go : (a : Answer (Unit {0})) (p : Report) → clean_by (follow a (answered p)) ≡ follow a (unless 8 (not_clean p.verdict) (answered tt))
-      go (refused number place) p = refl
-      go (answered u) p = refl
-
-  module _ (o : Checked) (said : check.means o ≡ clean_by (judge_answer capture)) where
-    pub unclean-so : {A : Type 0} (rest : Answer A) {number place : ℕ} → o ≡ checked.Refused number place →
-        accepted capture (unless 8 (not_clean (verdict_in capture)) rest) ≡ refused number place
-    unclean-so {A} rest e = followed most_events capture _ ∙ go (opened capture) (not_clean (verdict_in capture)) (sym (said ∙ by-judge) ∙ ap check.means e)
-      where
-        go : {number place : ℕ} (a : Answer (Unit {0})) (q : Option ℕ) → follow a (unless 8 q (answered (tt {0}))) ≡ refused number place →
-            follow a (unless 8 q rest) ≡ refused number place
-        go (refused k p) q h = cc
-        go (answered tt) none h = not-refused h
-        go (answered tt) (some p) h = cc
-
-    pub clean-so : o ≡ checked.Fine → Accepted capture × (not_clean (verdict_in capture) ≡ none)
-    clean-so e = go (opened capture) (not_clean (verdict_in capture)) refl refl (sym (said ∙ by-judge) ∙ ap check.means e)
-      where
-        go : (a : Answer (Unit {0})) (q : Option ℕ) → opened capture ≡ a → not_clean (verdict_in capture) ≡ q →
-            follow a (unless 8 q (answered (tt {0}))) ≡ answered (tt {0}) → Accepted capture × (not_clean (verdict_in capture) ≡ none)
-        go (refused k p) q f g h = not-answered h
-        go (answered tt) none f g h = (f, g)
-        go (answered tt) (some p) f g h = not-answered h
-
-  pub refused-play : (first : ℕ) (window writes reads : List ℕ) (o : Checked) → check.means o ≡ clean_by (judge_answer capture) → {number place : ℕ} →
-      o ≡ checked.Refused number place → Ends (refused number place) window reads (play_outcome capture first window writes reads)
+module _ (c : List ℕ) (first : ℕ) (window writes reads : List ℕ) where
+  by-answer : {number place : ℕ} → accepted c (unless 8 (not_clean (verdict_in c)) (playing (settings_in c) (events_of c) first window writes (length reads))) ≡ refused number place →
+      Ends (refused number place) window reads (play_outcome c first window writes reads)
   unfolding play_outcome
-  refused-play first window writes reads o said e =
-      let same = ap (plays first window reads) (sym (unclean-so o said _ e)) in
+  by-answer e =
+      let same = ap (plays first window reads) (sym e) in
       (ap (λ (p : PlayOutcome). p.answer) same, (ap (λ (p : PlayOutcome). p.window) same, ap (λ (p : PlayOutcome). p.reads) same))
 
+  pub refused-play : {number place : ℕ} → refused number place ≡ judge_answer c →
+      Ends (refused number place) window reads (play_outcome c first window writes reads)
+  refused-play said = by-answer (refused-to most_events c _ (judged-refused c said))
+
+  pub broken-play : {r : Report} → answered r ≡ judge_answer c → {place : ℕ} → not_clean r.verdict ≡ some place →
+      Ends (refused 8 place) window reads (play_outcome c first window writes reads)
+  broken-play said e =
+      by-answer
+      (accepted-rest c _ (judged-accepted c said)
+      ∙ ap (λ (q : Option ℕ). unless 8 q (playing (settings_in c) (events_of c) first window writes (length reads)))
+      (ap not_clean (judged-verdict c said) ∙ e))
+
 module _ {c settings : List ℕ} {n : ℕ} {bytes : List ℕ} (x : Opened most_events c settings n bytes) where
-  pub opened-playable : Playable settings bytes n
-  opened-playable = record { listable = listable x; coded = coded }
+  pub opened-coded : Coded (settings_of settings)
+  opened-coded = coded
     where
       word : ℕ
       word = get_or (setting_words c) 0 0
@@ -227,10 +204,6 @@ module _ {c settings : List ℕ} {n : ℕ} {bytes : List ℕ} (x : Opened most_e
           go (suc (suc (suc l))) a b = absurd (omega arith)
 
   module _ (k : not_clean (verdict_in c) ≡ none) where
-    pub opened-clean : Clean (settings_of settings) bytes n
-    unfolding verdict_in
-    opened-clean = rw (x.settings-are, x.events-are) k
-
     pub played-so : (first : ℕ) (window writes reads : List ℕ) {a : Answer ℕ} {window' reads' : List ℕ} →
         Ends a window' reads' (plays first window reads (playing (settings_of settings) (events_in bytes n) first window writes (length reads))) →
         Ends a window' reads' (play_outcome c first window writes reads)

@@ -15,13 +15,14 @@ use Rattle.reading.specs.Bursts.{Burst, beat_cell, burst_cells}
 use Rattle.reading.specs.Player.{event_of_burst}
 use Rattle.capture.proofs.Accepted.{cycles-rise}
 use Rattle.judge.specs.Meaning.{events_in}
-use Rattle.beats.specs.Rows.{InRow, first_in_row}
-use Rattle.cells.specs.declared.Given.{Given}
-use Rattle.cells.specs.declared.Given.TheVariants as goal
+use Rattle.beats.specs.Rows.{first_in_row}
+use Rattle.std.specs.Prelude as std
+use Rattle.std.specs.Prelude.{Some, None}
+use Rattle.beats.specs.declared.Burst as held
 use Rattle.cells.specs.Meaning as meaning
 use Rattle.cells.specs.Meaning.{given_means, given_at, told_of, burst_at, At, Listable, Clean}
 use Rattle.cells.proofs.Walked.{listed, rest, burst-next, Placed, placed, stays}
-use Rattle.player.specs.Playing.{cell_in}
+use Rattle.player.specs.Playing.{cell_in, cell_of, cells_of}
 
 -- ---- the number of an event
 
@@ -47,22 +48,23 @@ module _ (settings bytes : List ℕ) (n i : ℕ) where
   s = settings_of settings
 
   -- what is told is told of this burst
-  pub record Found (writes : Bool) (row column pairs : ℕ) : Type 0 where
+  pub record Found (y : held.Burst) : Type 0 where
     pub burst : Burst
     pub at : burst_at s bytes n i ≡ some burst
-    pub kind : writes ≡ burst.writes
-    pub row_is : row ≡ first_in_row s burst.bank burst.row
-    pub column-is : column ≡ burst.column
-    pub pairs_is : pairs ≡ burst.n
+    pub kind : y.writes ≡ burst.writes
+    pub row_is : y.first ≡ first_in_row s burst.bank burst.row
+    pub moded : y.mode ≡ burst.mode
+    pub column-is : y.column ≡ burst.column
+    pub pairs_is : y.pairs ≡ burst.n
 
-  module _ {r : Given} (told : given_means r ≡ given_at s bytes n i) where
-    pub found : {writes : Bool} {row column pairs : ℕ} → r ≡ goal.Burst writes row column pairs → Found writes row column pairs
-    found {writes} {row} {column} {pairs} f = go (burst_at s bytes n i) refl (sym (ap given_means f) ∙ told)
+  module _ {r : std.Option held.Burst} (told : given_means r ≡ given_at s bytes n i) where
+    pub found : {y : held.Burst} → r ≡ Some y → Found y
+    found {y} f = go (burst_at s bytes n i) refl (sym (ap given_means f) ∙ told)
       where
         is : meaning.Burst
-        is = record { writes = writes; first = row; column = column; pairs = pairs }
+        is = record { writes = y.writes; first = y.first; mode = y.mode; column = y.column; pairs = y.pairs }
 
-        go : (o : Option Burst) → burst_at s bytes n i ≡ o → some is ≡ Option.map (told_of s) o → Found writes row column pairs
+        go : (o : Option Burst) → burst_at s bytes n i ≡ o → some is ≡ Option.map (told_of s) o → Found y
         go none h q = let zero_one : ◌≡◌ {A = ℕ} 0 1 = cc in absurd (omega arith)
         go (some x) h q =
             let same : is ≡ told_of s x = cc in
@@ -71,11 +73,12 @@ module _ (settings bytes : List ℕ) (n i : ℕ) where
               at = h;
               kind = ap (λ (b : meaning.Burst). b.writes) same;
               row_is = ap (λ (b : meaning.Burst). b.first) same;
+              moded = ap (λ (b : meaning.Burst). b.mode) same;
               column-is = ap (λ (b : meaning.Burst). b.column) same;
               pairs_is = ap (λ (b : meaning.Burst). b.pairs) same;
             }
 
-    pub found_none : r ≡ goal.Other → burst_at s bytes n i ≡ none
+    pub found_none : r ≡ None → burst_at s bytes n i ≡ none
     found_none f = go (burst_at s bytes n i) refl (sym (ap given_means f) ∙ told)
       where
         go : (o : Option Burst) → burst_at s bytes n i ≡ o → none ≡ Option.map (told_of s) o → burst_at s bytes n i ≡ none
@@ -87,7 +90,7 @@ module _ (settings bytes : List ℕ) (n i : ℕ) where
     pub next-none : burst_at s bytes n i ≡ none → rest settings bytes n i ≡ rest settings bytes n (i + 1)
     next-none e = burst-next settings bytes n z k i l ∙ ap (λ (o : Option Burst). listed o ++ rest settings bytes n (i + 1)) e
 
-    module _ {writes : Bool} {row column pairs : ℕ} (f : Found writes row column pairs) where
+    module _ {y : held.Burst} (f : Found y) where
       abbrev x : Burst
       x = f.burst
 
@@ -108,22 +111,15 @@ module _ (settings bytes : List ℕ) (n i : ℕ) where
             cycles-rise bytes n z.fit.events c i q l,
           ))
 
-      pub in_row : InRow row column pairs
-      in_row = rw (f.row_is, f.column-is, f.pairs_is) there.in_row
+      -- the cells of its beats
+      pub cells_are : cell_of y ≡ beat_cell s x
+      unfolding beat_cell
+      cells_are = λ u. cell_in (f.row_is u) (f.moded u) (f.column-is u)
 
-      -- the cells of its beats, by the mode word of then
-      module _ {mode : ℕ} {firsts : List ℕ} (a : At s bytes i firsts mode) where
-        pub mode-is : mode ≡ x.mode
-        mode-is = a.moded ∙ sym there.moded
+      -- those of its kept beats
+      pub kept-are : cells_of y ≡ burst_cells s x
+      unfolding burst_cells
+      kept-are = λ u. map (cells_are u) (count 0 (2 * f.pairs_is u))
 
-        pub cells_are : cell_in row mode column ≡ beat_cell s x
-        unfolding beat_cell
-        cells_are = λ u. cell_in (f.row_is u) (mode-is u) (f.column-is u)
-
-        -- those of its kept beats
-        pub kept-are : map (cell_in row mode column) (count 0 (2 * pairs)) ≡ burst_cells s x
-        unfolding burst_cells
-        kept-are = λ u. map (cells_are u) (count 0 (2 * f.pairs_is u))
-
-        pub next-at : At s bytes (i + 1) firsts mode
-        next-at = stays settings bytes n z k i l f.at a
+      pub next-at : {mode : ℕ} {firsts : List ℕ} → At s bytes i firsts mode → At s bytes (i + 1) firsts mode
+      next-at a = stays settings bytes n z k i l f.at a

@@ -6,4 +6,3 @@ mod Given
 mod Trying
 pub mod Running
 pub mod Calling
-pub mod Unique

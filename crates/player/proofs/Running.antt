@@ -19,12 +19,12 @@ use Rattle.reading.specs.Player.{in_window, windowed, datum_at, data_of, takes, 
 use Rattle.reading.proofs.Laws.{both}
 use Rattle.words.proofs.Runs.{sets-append}
 use Rattle.judge.specs.Meaning.{events_in}
-use Rattle.beats.specs.Rows.{first_cells}
+use Rattle.beats.specs.declared.Burst as held
 use Rattle.beats.proofs.Columns.{length-pos}
 use Rattle.cells.specs.Meaning.{burst_at, bursts_on, At, Listable, Clean}
 use Rattle.cells.proofs.Walked.{rest, rest-begins, rest-ends}
-use Rattle.player.specs.Playing.{cell_in, lanes_by, stored_from, shown_at, words_read}
-use Rattle.player.proofs.Given.{Found, next-none, there, next-some, cells_are, kept-are, mode-is, next-at}
+use Rattle.player.specs.Playing.{cell_of, cells_of, lanes_by, stored_from, shown_at, words_read}
+use Rattle.player.proofs.Given.{Found, next-none, there, next-some, cells_are, kept-are, next-at}
 use Rattle.player.proofs.Window.{shows, length-counted, stored-shows, window-shows, data-length, some-data, shown-loads}
 
 -- the first burst can be played, and so can the others
@@ -77,13 +77,13 @@ module _ (settings bytes : List ℕ) (n first : ℕ) (window₀ writes reads₀ 
         (b.holds ∙ ap (λ (r : Run). shows first size r.contents) all, b.stored ∙ ap (λ (r : Run). sets reads₀ 0 r.returned) all)
 
   module _ (z : Listable settings bytes n) (k : Clean s bytes n) where
-    pub begins : {firsts : List ℕ} → firsts ≡ first_cells s 0 0 0 0 → unplayable s first size supply (bursts_on s bytes n) ≡ none →
-        words_read (bursts_on s bytes n) ≤ length reads₀ → Ran window₀ reads₀ firsts s.mode 0 0 0
+    pub begins : {firsts : List ℕ} {mode : ℕ} → At s bytes 0 firsts mode → unplayable s first size supply (bursts_on s bytes n) ≡ none →
+        words_read (bursts_on s bytes n) ≤ length reads₀ → Ran window₀ reads₀ firsts mode 0 0 0
     unfolding played_on replay
-    begins f c r =
+    begins a c r =
         let from-there = rest-begins settings bytes n z k in
         record {
-          at = record { rowed = f; moded = refl };
+          at = a;
           within = omega arith;
           run = record { contents = windowed first window₀; supply = data_of writes; returned = [] };
           same = ap (λ (xs : List Burst). replay_bursts s xs (record { contents = windowed first window₀; supply = data_of writes; returned = [] })) (sym from-there);
@@ -118,7 +118,7 @@ module _ (settings bytes : List ℕ) (n first : ℕ) (window₀ writes reads₀ 
           }
 
       -- one that does
-      module _ {kind : Bool} {row column pairs : ℕ} (f : Found settings bytes n i kind row column pairs) where
+      module _ {y : held.Burst} (f : Found settings bytes n i y) where
         abbrev x : Burst
         x = f.burst
 
@@ -135,8 +135,8 @@ module _ (settings bytes : List ℕ) (n first : ℕ) (window₀ writes reads₀ 
         unfolding burst_cells
         inside = parts.0
 
-        pub holds-all : every (in_window first (length window)) (map (cell_in row mode column) (count 0 (2 * pairs))) ≡ true
-        holds-all = (λ u. every (in_window first (as_wide b u)) (kept-are settings bytes n i z k l f b.at u)) ∙ parts.0
+        pub holds-all : every (in_window first (length window)) (cells_of y) ≡ true
+        holds-all = (λ u. every (in_window first (as_wide b u)) (kept-are settings bytes n i z k l f u)) ∙ parts.0
 
         from-here : replay_bursts s xs (play s (2 * x.n) x b.run) ≡ whole
         unfolding replay_bursts
@@ -158,33 +158,33 @@ module _ (settings bytes : List ℕ) (n first : ℕ) (window₀ writes reads₀ 
               returned = b.run.returned ++ map (λ j. load s b.run.contents (beat_cell s x j)) (count 0 (2 * x.n));
             }
 
-        played : {v : Bool} → kind ≡ v → play s (2 * x.n) x b.run ≡ cond v wrote read
+        played : {v : Bool} → y.writes ≡ v → play s (2 * x.n) x b.run ≡ cond v wrote read
         unfolding play
         played w = ap (λ (v : Bool). cond v wrote read) (sym f.kind ∙ w)
 
         module _ (lane : ℕ) (e : lanes_by lane ≡ lanes s) where
           -- ---- a WRITE
 
-          module _ (w : kind ≡ true) where
-            mode_of : x.mode ≡ mode
-            mode_of = sym (mode-is settings bytes n i z k l f b.at)
+          module _ (w : y.writes ≡ true) where
+            mode_of : x.mode ≡ y.mode
+            mode_of = sym f.moded
 
-            taking : takes x ≡ BL mode
+            taking : takes x ≡ BL y.mode
             taking = ap (λ (v : Bool). cond v (BL x.mode) 0) (sym f.kind ∙ w) ∙ ap BL mode_of
 
-            pub enough : BL mode ≤ supply - taken
+            pub enough : BL y.mode ≤ supply - taken
             enough = omega (arith, taking, leb-true (takes x) (supply - taken) parts.1)
 
             few : 2 * x.n ≤ BL x.mode
             few = omega (arith, (there settings bytes n i z k l f).kept)
 
-            pub all-taken : taken + BL mode ≤ supply
-            all-taken = omega (arith, enough, length-pos mode)
+            pub all-taken : taken + BL y.mode ≤ supply
+            all-taken = omega (arith, enough, length-pos y.mode)
 
             all_there : taken + 2 * x.n ≤ supply
             all_there = omega (arith, few, all-taken, ap BL mode_of)
 
-            pub masks-fit : 2 * (taken + 2 * pairs) ≤ length writes
+            pub masks-fit : 2 * (taken + 2 * y.pairs) ≤ length writes
             masks-fit = omega (arith, all_there, f.pairs_is, data-length writes)
 
             data-are : map (λ j. datum_at writes (taken + j)) (count 0 (2 * x.n)) ≡ take (2 * x.n) (take (BL x.mode) b.run.supply)
@@ -194,23 +194,23 @@ module _ (settings bytes : List ℕ) (n first : ℕ) (window₀ writes reads₀ 
                 ∙ sym (take-take (2 * x.n) (BL x.mode) b.run.supply few)
 
             stored-so : {window' : List ℕ} →
-                window' ≡ stored_from (lanes_by lane) first (cell_in row mode column) (λ j. datum_at writes (taken + j)) (2 * pairs) 0 window →
+                window' ≡ stored_from (lanes_by lane) first (cell_of y) (λ j. datum_at writes (taken + j)) (2 * y.pairs) 0 window →
                 window' ≡ shows first size wrote.contents
             stored-so c =
                 c
                 ∙ (λ u.
-                stored_from (lanes_by lane) first (cells_are settings bytes n i z k l f b.at u) (λ j. datum_at writes (taken + j)) (2 * f.pairs_is u) 0 (b.holds u))
+                stored_from (lanes_by lane) first (cells_are settings bytes n i z k l f u) (λ j. datum_at writes (taken + j)) (2 * f.pairs_is u) 0 (b.holds u))
                 ∙ stored-shows first size s x (λ j. datum_at writes (taken + j)) e (2 * x.n) 0 b.run.contents inside
                 ∙ ap (λ (ds : List Datum). shows first size (store_beats s x 0 ds b.run.contents)) data-are
 
-            supplied-so : {length : ℕ} → length ≡ BL mode → wrote.supply ≡ drop (taken + length) (data_of writes)
+            supplied-so : {length : ℕ} → length ≡ BL y.mode → wrote.supply ≡ drop (taken + length) (data_of writes)
             supplied-so c =
                 ap (drop (BL x.mode)) b.supplied
                 ∙ drop-drop (BL x.mode) taken (data_of writes)
                 ∙ ap (λ (t : ℕ). drop (taken + t) (data_of writes)) (ap BL mode_of ∙ sym c)
 
-            pub stores-on : {window' : List ℕ} {length : ℕ} → length ≡ BL mode →
-                window' ≡ stored_from (lanes_by lane) first (cell_in row mode column) (λ j. datum_at writes (taken + j)) (2 * pairs) 0 window →
+            pub stores-on : {window' : List ℕ} {length : ℕ} → length ≡ BL y.mode →
+                window' ≡ stored_from (lanes_by lane) first (cell_of y) (λ j. datum_at writes (taken + j)) (2 * y.pairs) 0 window →
                 Ran window' reads firsts mode (taken + length) next (i + 1)
             stores-on {length = length} q c =
                 let further : supply - taken - takes x ≡ supply - (taken + length) = omega (arith, taking, q) in
@@ -229,27 +229,27 @@ module _ (settings bytes : List ℕ) (n first : ℕ) (window₀ writes reads₀ 
 
           -- ---- a READ
 
-          module _ (w : kind ≡ false) where
+          module _ (w : y.writes ≡ false) where
             none-taken : takes x ≡ 0
             none-taken = ap (λ (v : Bool). cond v (BL x.mode) 0) (sym f.kind ∙ w)
 
-            words_are : words_read (x ∷ xs) ≡ 2 * pairs + words_read xs
+            words_are : words_read (x ∷ xs) ≡ 2 * y.pairs + words_read xs
             words_are =
                 (λ u. cond (not ((sym f.kind ∙ w) u)) (2 * x.n) 0 + words_read xs) ∙ ap (λ (p : ℕ). 2 * p + words_read xs) (sym f.pairs_is)
 
-            pub reads_fit : next + 2 * pairs ≤ length reads
+            pub reads_fit : next + 2 * y.pairs ≤ length reads
             reads_fit = omega (arith, b.room, ap words_read on, words_are, as_long b)
 
             abbrev words : List ℕ
             words = map (λ j. load s b.run.contents (beat_cell s x j)) (count 0 (2 * x.n))
 
-            shown-so : map (λ j. shown_at lane first window (cell_in row mode column j)) (count 0 (2 * pairs)) ≡ words
+            shown-so : map (λ j. shown_at lane first window (cell_of y j)) (count 0 (2 * y.pairs)) ≡ words
             shown-so =
-                (λ u. map (λ j. shown_at lane first (b.holds u) (cells_are settings bytes n i z k l f b.at u j)) (count 0 (2 * f.pairs_is u)))
+                (λ u. map (λ j. shown_at lane first (b.holds u) (cells_are settings bytes n i z k l f u j)) (count 0 (2 * f.pairs_is u)))
                 ∙ shown-loads s first size b.run.contents lane e (beat_cell s x) (count 0 (2 * x.n)) inside
 
             put-so : {reads' : List ℕ} →
-                reads' ≡ sets reads next (map (λ j. shown_at lane first window (cell_in row mode column j)) (count 0 (2 * pairs))) →
+                reads' ≡ sets reads next (map (λ j. shown_at lane first window (cell_of y j)) (count 0 (2 * y.pairs))) →
                 reads' ≡ sets reads₀ 0 read.returned
             put-so c =
                 c
@@ -257,8 +257,8 @@ module _ (settings bytes : List ℕ) (n first : ℕ) (window₀ writes reads₀ 
                 ∙ sets-append reads₀ 0 b.run.returned words
 
             pub reads_on : {reads' : List ℕ} →
-                reads' ≡ sets reads next (map (λ j. shown_at lane first window (cell_in row mode column j)) (count 0 (2 * pairs))) →
-                Ran window reads' firsts mode taken (next + 2 * pairs) (i + 1)
+                reads' ≡ sets reads next (map (λ j. shown_at lane first window (cell_of y j)) (count 0 (2 * y.pairs))) →
+                Ran window reads' firsts mode taken (next + 2 * y.pairs) (i + 1)
             reads_on c =
                 let nothing : supply - taken - takes x ≡ supply - taken = omega (arith, none-taken) in
                 record {

@@ -1,7 +1,7 @@
 -- The first walk: what was tried before event i, and the bursts of the events from i on decide.
 use Prim.Native.Nat.{ℕ, ◌+◌, ◌-◌, ◌*◌, ◌≤◌, ◌<◌}
 use mathlib.Core.Bool.{Bool, true, false, cond, not, ◌&&◌}
-use mathlib.Core.List.{List, ◌∷◌, map}
+use mathlib.Core.List.{List, ◌∷◌}
 use mathlib.Core.Option
 use mathlib.Core.Option.{Option, none, some}
 use mathlib.Core.Path.{◌≡◌, refl, sym, ap, ◌∙◌}
@@ -9,7 +9,7 @@ use native.Mathlib.Nat.{add-zero, sub-zero, add_assoc}
 use native.Mathlib.Omega.{arith}
 use borrow.Author.Tests.{le-leb, lt-leb}
 use lib.Dec.{leb}
-use Rattle.reading.specs.Search.{count, every}
+use Rattle.reading.specs.Search.{every}
 use Rattle.reading.specs.Mode.{BL}
 use Rattle.reading.specs.Settings.{Settings, settings_of}
 use Rattle.reading.specs.Capture.{Event}
@@ -17,11 +17,11 @@ use Rattle.reading.specs.Bursts.{Burst, burst_cells}
 use Rattle.reading.specs.Answers.{Answer, refused, answered, unless}
 use Rattle.reading.specs.Player.{in_window, takes, playable, unplayable, event_of_burst}
 use Rattle.judge.specs.Meaning.{events_in}
-use Rattle.beats.specs.Rows.{first_cells}
+use Rattle.beats.specs.declared.Burst as held
 use Rattle.cells.specs.Meaning.{burst_at, bursts_on, At, Listable, Clean}
 use Rattle.cells.proofs.Walked.{rest, rest-begins, rest-ends}
-use Rattle.player.specs.Playing.{cell_in, words_read, tried}
-use Rattle.player.proofs.Given.{Found, next-none, next-some, event-is, in_row, kept-are, mode-is, next-at}
+use Rattle.player.specs.Playing.{cells_of, words_read, tried}
+use Rattle.player.proofs.Given.{Found, next-none, next-some, event-is, kept-are, next-at}
 
 -- ---- one burst
 
@@ -69,10 +69,10 @@ module _ (settings bytes : List ℕ) (n first size supply : ℕ) where
     pub same : tried s es first size left read (rest settings bytes n i) ≡ whole
 
   module _ (z : Listable settings bytes n) (k : Clean s bytes n) where
-    pub begins : {firsts : List ℕ} → firsts ≡ first_cells s 0 0 0 0 → Trying firsts s.mode supply 0 0
-    begins f =
+    pub begins : {firsts : List ℕ} {mode : ℕ} → At s bytes 0 firsts mode → Trying firsts mode supply 0 0
+    begins a =
         record {
-          at = record { rowed = f; moded = refl };
+          at = a;
           within = omega arith;
           small = omega arith;
           same = ap (tried s es first size supply 0) (sym (rest-begins settings bytes n z k));
@@ -90,7 +90,7 @@ module _ (settings bytes : List ℕ) (n first size supply : ℕ) where
           }
 
       -- one that does
-      module _ {writes : Bool} {row column pairs : ℕ} (f : Found settings bytes n i writes row column pairs) where
+      module _ {y : held.Burst} (f : Found settings bytes n i y) where
         abbrev x : Burst
         x = f.burst
 
@@ -103,14 +103,14 @@ module _ (settings bytes : List ℕ) (n first size supply : ℕ) where
         stops : playable s first size left x ≡ false → refused 15 i ≡ whole
         stops e = ap (refused 15) (sym (event-is settings bytes n i z k l f)) ∙ sym (tried-stops s es first size left read x xs e) ∙ from-here
 
-        module _ {v : Bool} (h : v ≡ every (in_window first size) (map (cell_in row mode column) (count 0 (2 * pairs)))) where
+        module _ {v : Bool} (h : v ≡ every (in_window first size) (cells_of y)) where
           inside : every (in_window first size) (burst_cells s x) ≡ v
-          inside = ap (every (in_window first size)) (sym (kept-are settings bytes n i z k l f b.at)) ∙ sym h
+          inside = ap (every (in_window first size)) (sym (kept-are settings bytes n i z k l f)) ∙ sym h
 
           pub outside : v ≡ false → refused 15 i ≡ whole
           outside e = stops (playable-so s es first size left read x xs (inside ∙ e) refl)
 
-          pub reads_on : v ≡ true → writes ≡ false → {beats : ℕ} → beats ≡ 2 * pairs → Trying firsts mode left (read + beats) (i + 1)
+          pub reads_on : v ≡ true → y.writes ≡ false → {beats : ℕ} → beats ≡ 2 * y.pairs → Trying firsts mode left (read + beats) (i + 1)
           reads_on e w {beats} c =
               let kind : x.writes ≡ false = sym f.kind ∙ w in
               let none-taken = takes-so s es first size left read x xs kind in
@@ -121,16 +121,16 @@ module _ (settings bytes : List ℕ) (n first size supply : ℕ) where
               record {
                 at = next-at settings bytes n i z k l f b.at;
                 within = omega arith;
-                small = omega (arith, b.small, c, (in_row settings bytes n i z k l f).short);
+                small = omega (arith, b.small, c, y.in_row.short);
                 same = (λ u. tried s es first size (lefts u) (read + beats-are u) xs) ∙ sym (tried-on s es first size left read x xs can) ∙ from-here;
               }
 
-          module _ (w : writes ≡ true) {length : ℕ} (c : length ≡ BL mode) where
+          module _ (w : y.writes ≡ true) {length : ℕ} (c : length ≡ BL y.mode) where
             kind : x.writes ≡ true
             kind = sym f.kind ∙ w
 
             all-taken : takes x ≡ length
-            all-taken = takes-so s es first size left read x xs kind ∙ ap BL (sym (mode-is settings bytes n i z k l f b.at)) ∙ sym c
+            all-taken = takes-so s es first size left read x xs kind ∙ ap BL (sym (f.moded)) ∙ sym c
 
             pub lacks : v ≡ true → left < length → refused 15 i ≡ whole
             lacks e m = stops (playable-so s es first size left read x xs (inside ∙ e) (ap (λ (t : ℕ). leb t left) all-taken ∙ lt-leb length left m))

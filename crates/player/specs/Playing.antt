@@ -1,22 +1,17 @@
 -- What this crate's answers mean in document 01, and what its functions make of the words of a window.
 use Rattle.std.specs.Prelude.{ℕ, zero, suc, ◌+◌, ◌-◌, ◌*◌, ◌%◌, ◌^◌, cond, List, ◌≡◌, eqb, get_or, set}
-use Rattle.std.proofs.Math.Option.{map}
+use Rattle.std.specs.Prelude.{map}
+use Rattle.std.proofs.Math.Option as option
+use Rattle.reading.specs.Search.{count}
 use Rattle.reading.specs.Words.{bit}
-use Rattle.reading.specs.Settings.{Settings, settings_of}
+use Rattle.reading.specs.Settings.{Settings}
 use Rattle.reading.specs.Capture.{Event}
 use Rattle.reading.specs.Bursts.{Burst, beat_column, reads}
 use Rattle.reading.specs.Cells.{beats_by}
 use Rattle.reading.specs.Memory.{Datum, lane_of, with_lane, merged}
-use Rattle.reading.specs.Answers.{Answer, refused, answered, unless, Report, not_clean}
+use Rattle.reading.specs.Answers.{Answer, answered, unless}
+use Rattle.beats.specs.declared.Burst as held
 use Rattle.reading.specs.Player.{unplayable, event_of_burst}
-use Rattle.cells.specs.Meaning.{Listable}
-use Rattle.player.specs.declared.Played.{Played}
-use Rattle.player.specs.declared.Played.TheVariants.{Refused, Words}
-
--- document 01's answer
-abbrev pub means : Played → Answer ℕ
-means (Refused number place) = refused number place
-means (Words read) = answered read
 
 -- ---- words
 
@@ -37,6 +32,13 @@ lanes_by lane = cond (eqb lane 1) 2 4
 abbrev pub cell_in : ℕ → ℕ → ℕ → ℕ → ℕ
 cell_in row mode column beat = row + beat_column mode column beat
 
+-- those of a burst, by beat, and of its beats
+abbrev pub cell_of : held.Burst → ℕ → ℕ
+cell_of x = cell_in x.first x.mode x.column
+
+abbrev pub cells_of : held.Burst → List ℕ
+cells_of x = map (cell_of x) (count 0 (2 * x.pairs))
+
 -- `left` beats from beat j on stored, each at the cell that `cell` says
 unfoldable pub stored_from : ℕ → ℕ → (ℕ → ℕ) → (ℕ → Datum) → ℕ → ℕ → List ℕ → List ℕ
 stored_from lanes first cell word zero j window = window
@@ -54,17 +56,11 @@ words_read xs = beats_by reads xs
 
 -- ---- the capture
 
--- refusals 1 to 4 and 8, by what is said of it
-abbrev pub clean_by : Answer Report → Answer (Unit {0})
-clean_by (refused number place) = refused number place
-clean_by (answered r) = unless 8 (not_clean r.verdict) (answered tt)
-
--- the settings of a capture that is played
-pub record Playable (settings bytes : List ℕ) (n : ℕ) : Type 0 where
-  pub listable : Listable settings bytes n
-  pub coded : lanes_by (settings_of settings).lane ≡ 2 * (settings_of settings).lane
+-- the lane code is one of a part
+abbrev pub Coded : Settings → Type 0
+Coded s = lanes_by s.lane ≡ 2 * s.lane
 
 -- the first burst that cannot be played, and else the words that are read, where some were counted before
 unfoldable pub tried : Settings → List Event → ℕ → ℕ → ℕ → ℕ → List Burst → Answer ℕ
 tried s es first size left read xs =
-    unless 15 (map (event_of_burst es) (unplayable s first size left xs)) (answered (read + words_read xs))
+    unless 15 (option.map (event_of_burst es) (unplayable s first size left xs)) (answered (read + words_read xs))

@@ -9,27 +9,21 @@ ghost use Rattle.reading.specs.Search.{count, every};
 ghost use Rattle.reading.specs.Settings.{settings_of};
 ghost use Rattle.reading.specs.Memory.{merged};
 ghost use Rattle.reading.specs.Player.{window_fits, in_window, datum_at, data_of, unplayable, played_on, playing, plays, play_outcome};
-ghost use Rattle.settings.specs.Meaning as check;
-ghost use Rattle.judge.specs.Meaning as judge;
+ghost use Rattle.refusal.specs.Refusal.{told};
 ghost use Rattle.judge.specs.Meaning.{events_in};
-ghost use Rattle.beats.specs.Rows.{Sized, InRow, beat_cells};
-ghost use Rattle.cells.specs.Meaning.{Clean, bursts_on};
-ghost use Rattle.player.specs.Playing.{means, datum, laned, lanes_by, cell_in, stored_from, shown_at, words_read, Playable, tried, clean_by};
+ghost use Rattle.beats.specs.Rows.{Sized, beat_cells};
+ghost use Rattle.cells.specs.Telling.{judged_by, bursts};
+ghost use Rattle.player.specs.Playing.{datum, laned, lanes_by, cell_of, cells_of, stored_from, shown_at, words_read, Coded, tried};
 
-use cells::Given;
+use beats::Burst;
+use cells::held::Clean;
 use judge::Verdict;
-use settings::places::{LANE, MODE};
-use settings::{Checked, Settings, mode};
+use refusal::Refusal;
+use settings::places::LANE;
+use settings::{Settings, mode};
 
 // The most words that a window may have.
 const MOST_WINDOW: usize = 16_384;
-
-// What is said of a capture that is to be played.
-#[derive(Clone, Copy)]
-pub enum Played {
-    Refused { number: u32, place: u32 },
-    Words { read: u32 },
-}
 
 // ---- words and their lanes: a lane of the new word where its mask bit is 0
 
@@ -114,14 +108,13 @@ fn holds(first: u32, size: usize, cell: u32) -> bool
     ((cell - first) as usize) < size
 }
 
-// It holds the cells of so many pairs of a burst, in the row whose first cell is `row`.
-fn holds_burst(first: u32, size: usize, row: u32, mode: u32, column: u32, pairs: u32) -> bool
-    requires { InRow row column pairs }
-    ensures { result ≡ every (in_window first size) (map (cell_in row mode column) (count 0 (2 * pairs))) }
+// It holds the cells of a burst's beats. Here and below the burst is copied, to be kept in registers.
+fn holds_burst(first: u32, size: usize, burst: &Burst) -> bool
+    ensures { result ≡ every (in_window first size) (cells_of burst.now) }
 {
-    'beats: for beat in 0..2 * pairs {
-        let cell = beats::beat_cell(row, mode, column, beat);
-        if holds(first, size, cell) {
+    let own = *burst;
+    'beats: for beat in 0..2 * own.pairs {
+        if holds(first, size, own.cell(beat)) {
             continue 'beats;
         }
         return false;
@@ -129,54 +122,32 @@ fn holds_burst(first: u32, size: usize, row: u32, mode: u32, column: u32, pairs:
     true
 }
 
-// Stores so many pairs of words, from word and mask number `taken` on.
-fn store(
-    window: &mut [u32],
-    first: u32,
-    lane: u32,
-    row: u32,
-    mode: u32,
-    column: u32,
-    pairs: u32,
-    writes: &[u32],
-    taken: usize,
-)
-    requires in_row { InRow row column pairs }
-    requires pairs_value { every (in_window first (length window.old)) (map (cell_in row mode column) (count 0 (2 * pairs))) ≡ true }
-    requires pairs_in_bounds { 2 * (taken + 2 * pairs) ≤ length writes.now }
-    ensures { window.new ≡ stored_from (lanes_by lane) first (cell_in row mode column) (λ j. datum_at writes.now (taken + j)) (2 * pairs) 0
+// Stores the words of a burst's beats, from word and mask number `taken` on.
+fn store(window: &mut [u32], first: u32, lane: u32, burst: &Burst, writes: &[u32], taken: usize)
+    requires inside { every (in_window first (length window.old)) (cells_of burst.now) ≡ true }
+    requires supplied { 2 * (taken + 2 * burst.now.pairs) ≤ length writes.now }
+    ensures { window.new ≡ stored_from (lanes_by lane) first (cell_of burst.now) (λ j. datum_at writes.now (taken + j)) (2 * burst.now.pairs) 0
         window.old }
 {
-    for beat in 0..2 * pairs {
-        let cell = beats::beat_cell(row, mode, column, beat);
-        let at = (cell - first) as usize;
+    let own = *burst;
+    for beat in 0..2 * own.pairs {
+        let at = (own.cell(beat) - first) as usize;
         let pair = 2 * (taken + beat as usize);
         window[at] = merge(lane, window[at], writes[pair], writes[pair + 1]);
     }
 }
 
-// Reads so many pairs of words, to reads[next] and behind it.
-fn fetch(
-    reads: &mut [u32],
-    next: usize,
-    window: &[u32],
-    first: u32,
-    lane: u32,
-    row: u32,
-    mode: u32,
-    column: u32,
-    pairs: u32,
-)
-    requires in_row { InRow row column pairs }
-    requires pairs_value { every (in_window first (length window.now)) (map (cell_in row mode column) (count 0 (2 * pairs))) ≡ true }
-    requires pairs_in_bounds { next + 2 * pairs ≤ length reads.old }
+// Reads the words of a burst's beats, to reads[next] and behind it.
+fn fetch(reads: &mut [u32], next: usize, window: &[u32], first: u32, lane: u32, burst: &Burst)
+    requires inside { every (in_window first (length window.now)) (cells_of burst.now) ≡ true }
+    requires room { next + 2 * burst.now.pairs ≤ length reads.old }
     ensures { reads.new ≡ sets reads.old next
-        (map (λ j. shown_at lane first window.now (cell_in row mode column j)) (count 0 (2 * pairs))) }
+        (map (λ j. shown_at lane first window.now (cell_of burst.now j)) (count 0 (2 * burst.now.pairs))) }
 {
     let mut to = next;
-    for beat in 0..2 * pairs {
-        let cell = beats::beat_cell(row, mode, column, beat);
-        let at = (cell - first) as usize;
+    let own = *burst;
+    for beat in 0..2 * own.pairs {
+        let at = (own.cell(beat) - first) as usize;
         reads[to] = shown(lane, window[at]);
         to += 1;
     }
@@ -185,94 +156,63 @@ fn fetch(
 // ---- the two walks
 
 // Refusal 15 by the lowest event, or how many words are read; `supply` words have a mask.
-fn attempt(s: &Settings, bytes: &[u8], n: u32, first: u32, size: usize, supply: usize) -> Played
-    requires playable { Playable s.now bytes.now n }
-    requires clean { Clean (settings_of s.now) bytes.now n }
-    ensures { means result ≡ tried (settings_of s.now) (events_in bytes.now n) first size supply 0
-        (bursts_on (settings_of s.now) bytes.now n) }
+fn attempt(clean: &Clean<'_>, first: u32, size: usize, supply: usize) -> Result<u32, Refusal>
+    ensures { told (λ n. n) result ≡
+        tried (judged_by clean.now) (events_in clean.now.opened.events.bytes.now clean.now.opened.events.count) first size supply 0 (bursts clean.now) }
 {
-    let mut firsts = beats::first_cells(s);
-    let mut mode = s[MODE];
+    let events = &clean.opened.events;
+    let mut state = clean.start();
     let mut left = supply;
     let mut read: u32 = 0;
-    'events: for i in 0..n {
-        let event = cells::burst_at(s, bytes, n, i, &firsts, mode);
-        let Given::Burst {
-            writes,
-            first: row,
-            column,
-            pairs,
-        } = event
-        else {
-            mode = cells::passed(s, bytes, i, &mut firsts, mode);
+    'events: for i in 0..events.count {
+        let Some(burst) = clean.burst_at(i, &state) else {
+            cells::passed(&clean.opened.settings, events.bytes, i, &mut state);
             continue 'events;
         };
-        if !holds_burst(first, size, row, mode, column, pairs) {
-            return Played::Refused {
-                number: 15,
-                place: i,
-            };
+        if !holds_burst(first, size, &burst) {
+            return Err(Refusal::Window(i));
         }
-        if !writes {
-            read += 2 * pairs;
+        if !burst.writes {
+            read += 2 * burst.pairs;
             continue 'events;
         }
-        let length = mode::burst_length(mode) as usize;
+        let length = mode::burst_length(burst.mode) as usize;
         if left < length {
-            return Played::Refused {
-                number: 15,
-                place: i,
-            };
+            return Err(Refusal::Window(i));
         }
         left -= length;
     }
-    Played::Words { read }
+    Ok(read)
 }
 
 // Plays what can be played, where there is room for the words that are read.
-fn run(
-    s: &Settings,
-    bytes: &[u8],
-    n: u32,
-    first: u32,
-    window: &mut [u32],
-    writes: &[u32],
-    reads: &mut [u32],
-)
-    requires playable { Playable s.now bytes.now n }
-    requires clean { Clean (settings_of s.now) bytes.now n }
-    requires n_value { unplayable (settings_of s.now) first (length window.old) (length (data_of writes.now)) (bursts_on (settings_of s.now) bytes.now n) ≡ none }
-    requires n_in_bounds { words_read (bursts_on (settings_of s.now) bytes.now n) ≤ length reads.old }
+fn run(clean: &Clean<'_>, first: u32, window: &mut [u32], writes: &[u32], reads: &mut [u32])
+    requires coded { Coded (judged_by clean.now) }
+    requires playable { unplayable (judged_by clean.now) first (length window.old) (length (data_of writes.now)) (bursts clean.now) ≡ none }
+    requires room { words_read (bursts clean.now) ≤ length reads.old }
     ensures window_after { window.new ≡ map
-        (played_on (settings_of s.now) (events_in bytes.now n) first window.old writes.now).contents
+        (played_on (judged_by clean.now) (events_in clean.now.opened.events.bytes.now clean.now.opened.events.count) first window.old writes.now).contents
         (count first (length window.old)) }
     ensures reads_after { reads.new ≡ sets reads.old 0
-        (played_on (settings_of s.now) (events_in bytes.now n) first window.old writes.now).returned }
+        (played_on (judged_by clean.now) (events_in clean.now.opened.events.bytes.now clean.now.opened.events.count) first window.old writes.now).returned }
 {
-    let lane = s[LANE];
-    let mut firsts = beats::first_cells(s);
-    let mut mode = s[MODE];
+    let events = &clean.opened.events;
+    let lane = clean.opened.settings[LANE];
+    let mut state = clean.start();
     let mut taken: usize = 0;
     let mut next: usize = 0;
-    'events: for i in 0..n {
-        let event = cells::burst_at(s, bytes, n, i, &firsts, mode);
-        let Given::Burst {
-            writes: stores,
-            first: row,
-            column,
-            pairs,
-        } = event
-        else {
-            mode = cells::passed(s, bytes, i, &mut firsts, mode);
+    'events: for i in 0..events.count {
+        let Some(burst) = clean.burst_at(i, &state) else {
+            cells::passed(&clean.opened.settings, events.bytes, i, &mut state);
             continue 'events;
         };
-        if stores {
-            store(window, first, lane, row, mode, column, pairs, writes, taken);
-            taken += mode::burst_length(mode) as usize;
+        if burst.writes {
+            store(window, first, lane, &burst, writes, taken);
+            taken += mode::burst_length(burst.mode) as usize;
             continue 'events;
         }
-        fetch(reads, next, window, first, lane, row, mode, column, pairs);
-        next += 2 * (pairs as usize);
+        fetch(reads, next, window, first, lane, &burst);
+        next += 2 * (burst.pairs as usize);
     }
 }
 
@@ -280,58 +220,32 @@ fn run(
 
 // Refusals 15 and 7, in this order; else the play.
 fn play_on(
-    s: &Settings,
-    bytes: &[u8],
-    n: u32,
+    clean: &Clean<'_>,
     first: u32,
     window: &mut [u32],
     writes: &[u32],
     reads: &mut [u32],
-) -> Played
-    requires playable { Playable s.now bytes.now n }
-    requires clean { Clean (settings_of s.now) bytes.now n }
-    ensures result_value { means result ≡ (plays first window.old reads.old
-        (playing (settings_of s.now) (events_in bytes.now n) first window.old writes.now
+) -> Result<u32, Refusal>
+    requires { Coded (judged_by clean.now) }
+    ensures result_value { told (λ n. n) result ≡ (plays first window.old reads.old
+        (playing (judged_by clean.now) (events_in clean.now.opened.events.bytes.now clean.now.opened.events.count) first window.old writes.now
         (length reads.old))).answer }
     ensures window_after { window.new ≡ (plays first window.old reads.old
-        (playing (settings_of s.now) (events_in bytes.now n) first window.old writes.now
+        (playing (judged_by clean.now) (events_in clean.now.opened.events.bytes.now clean.now.opened.events.count) first window.old writes.now
         (length reads.old))).window }
     ensures reads_after { reads.new ≡ (plays first window.old reads.old
-        (playing (settings_of s.now) (events_in bytes.now n) first window.old writes.now
+        (playing (judged_by clean.now) (events_in clean.now.opened.events.bytes.now clean.now.opened.events.count) first window.old writes.now
         (length reads.old))).reads }
 {
-    if !window_fits(s, first, window.len()) {
-        return Played::Refused {
-            number: 15,
-            place: 0,
-        };
+    if !window_fits(&clean.opened.settings, first, window.len()) {
+        return Err(Refusal::Window(0));
     }
-    let attempted = attempt(s, bytes, n, first, window.len(), writes.len() / 2);
-    let Played::Words { read } = attempted else {
-        return attempted;
-    };
+    let read = attempt(clean, first, window.len(), writes.len() / 2)?;
     if reads.len() < read as usize {
-        return Played::Refused {
-            number: 7,
-            place: read,
-        };
+        return Err(Refusal::Room(read));
     }
-    run(s, bytes, n, first, window, writes, reads);
-    Played::Words { read }
-}
-
-// Refusal 8, or that there is none.
-fn unclean(verdict: Verdict) -> Checked
-    ensures { check.means result ≡ clean_by (judge.means verdict) }
-{
-    match verdict {
-        Verdict::Refused { number, place } => Checked::Refused { number, place },
-        Verdict::Clean { .. } => Checked::Fine,
-        Verdict::Broken { event, .. } => Checked::Refused {
-            number: 8,
-            place: event,
-        },
-    }
+    run(clean, first, window, writes, reads);
+    Ok(read)
 }
 
 // These bytes as a capture, played on the window from cell `first` on with the words and masks of `writes`.
@@ -341,17 +255,13 @@ pub fn play(
     window: &mut [u32],
     writes: &[u32],
     reads: &mut [u32],
-) -> Played
-    ensures result_value { means result ≡ (play_outcome capture.now first window.old writes.now reads.old).answer }
+) -> Result<u32, Refusal>
+    ensures result_value { told (λ n. n) result ≡ (play_outcome capture.now first window.old writes.now reads.old).answer }
     ensures window_after { window.new ≡ (play_outcome capture.now first window.old writes.now reads.old).window }
     ensures reads_after { reads.new ≡ (play_outcome capture.now first window.old writes.now reads.old).reads }
 {
-    let checked = unclean(judge::judge(capture));
-    if let Checked::Refused { number, place } = checked {
-        return Played::Refused { number, place };
+    match judge::judge(capture)? {
+        Verdict::Broken { event, .. } => Err(Refusal::Broken(event)),
+        Verdict::Clean { .. } => play_on(&Clean::judged(capture), first, window, writes, reads),
     }
-    let settings = capture::settings_in(capture);
-    let n = capture::event_count(capture);
-    let bytes = capture::event_bytes(capture);
-    play_on(&settings, bytes, n, first, window, writes, reads)
 }

@@ -12,9 +12,8 @@
 // cc54, cell 2 becomes 6314, cell 3 becomes 7374, and cell 0 stays cc34.
 #![tactic(auto)]
 
-use cells::Listed;
-use console::plain::say;
-use schedule::{CLOSED_ROWS, OPEN_ROWS, Scheduled};
+use console::Out;
+use schedule::{CLOSED_ROWS, OPEN_ROWS};
 
 const REQUESTS: [u32; 4] = [0x8000_0002, 1, 0x8000_0001, 0];
 
@@ -36,13 +35,12 @@ const MASKS: [u32; 8] = [
 // ---- lines
 
 // With two digits a lane.
-fn print_word(rt: &HostRuntime, lane_code: u32, word: u32) {
-    say(rt, b" ");
+fn print_word(to: &mut Out, lane_code: u32, word: u32) {
     if lane_code == 1 {
-        console::plain::print_word(rt, word, 4);
-        return;
+        write!(to, " {word:04x}");
+    } else {
+        write!(to, " {word:08x}");
     }
-    console::plain::print_word(rt, word, 8);
 }
 
 // ---- the part
@@ -62,20 +60,14 @@ fn stored(lane_code: u32, mask: u32) -> u32 {
 }
 
 fn element(list: &[u32], at: usize) -> u32 {
-    if list.len() <= at {
-        return 0;
-    }
-    list[at]
+    list.get(at).copied().unwrap_or(0)
 }
 
-fn store(rt: &HostRuntime, window: &mut [u32], cell: u32, word: u32, bits: u32) {
-    let at = cell as usize;
-    if window.len() <= at {
-        say(rt, b" WRONG");
-        return;
+fn store(to: &mut Out, window: &mut [u32], cell: u32, word: u32, bits: u32) {
+    match window.get_mut(cell as usize) {
+        Some(held) => *held ^= (*held ^ word) & bits,
+        None => write!(to, " WRONG"),
     }
-    let old = window[at];
-    window[at] = old ^ ((old ^ word) & bits);
 }
 
 // Whether an event is a WRITE.
@@ -101,86 +93,80 @@ fn burst_event(policy: u32, b: usize) -> usize {
 }
 
 // A beat of a write stores the given word; a beat of a read returns the cell's.
-fn beat(
-    rt: &HostRuntime,
-    lane_code: u32,
-    writes: bool,
-    given: usize,
-    cell: u32,
-    window: &mut [u32],
-) {
+fn beat(to: &mut Out, lane_code: u32, writes: bool, given: usize, cell: u32, window: &mut [u32]) {
     if writes {
         let bits = stored(lane_code, element(&MASKS, given));
-        store(rt, window, cell, element(&WORDS, given), bits);
+        store(to, window, cell, element(&WORDS, given), bits);
         return;
     }
-    print_word(rt, lane_code, element(&*window, cell as usize));
+    print_word(to, lane_code, element(&*window, cell as usize));
 }
 
 // The beats of the four bursts, in their order. Every other burst is a write and takes the next four words.
 fn replay(
-    rt: &HostRuntime,
+    to: &mut Out,
     lane_code: u32,
     policy: u32,
     capture: &[u8],
     cells: &[u32],
     window: &mut [u32],
 ) {
-    for j in 0..16 {
+    for (j, cell) in cells.iter().enumerate() {
         let writes = is_write(capture, burst_event(policy, j / 4));
         let given = j / 8 * 4 + j % 4;
-        beat(rt, lane_code, writes, given, element(cells, j), window);
+        beat(to, lane_code, writes, given, *cell, window);
     }
-    say(rt, b"\n");
+    writeln!(to);
 }
 
-fn print_window(rt: &HostRuntime, lane_code: u32, window: &[u32]) {
-    for i in 0..8 {
-        print_word(rt, lane_code, element(window, i));
+fn print_window(to: &mut Out, lane_code: u32, window: &[u32]) {
+    for word in window {
+        print_word(to, lane_code, *word);
     }
-    say(rt, b"\n");
+    writeln!(to);
 }
 
 // ---- the run
 
-fn play(rt: &HostRuntime, lane_code: u32, policy: u32, out: &[u8], bytes: u32, old: u32) {
+fn play(to: &mut Out, lane_code: u32, policy: u32, out: &[u8], bytes: u32, old: u32) {
     let n = out.len().min(bytes as usize);
     let capture = &out[..n];
     let mut list = [0u32; 16];
     let mut window = [old; 8];
     let listed = cells::burst_cells(capture, &mut list);
-    let Listed::Written { cells } = listed else {
-        say(rt, b"WRONG: refused\n");
+    let Ok(cells) = listed else {
+        writeln!(to, "WRONG: refused");
         return;
     };
     if cells != 16 {
-        say(rt, b"WRONG: cells\n");
+        writeln!(to, "WRONG: cells");
         return;
     }
-    say(rt, b"read:");
-    replay(rt, lane_code, policy, capture, &list, &mut window);
-    say(rt, b"cells 0 to 7:");
-    print_window(rt, lane_code, &window);
+    write!(to, "read:");
+    replay(to, lane_code, policy, capture, &list, &mut window);
+    write!(to, "cells 0 to 7:");
+    print_window(to, lane_code, &window);
 }
 
-fn run(rt: &HostRuntime, lane_code: u32, policy: u32, expected: u32, old: u32) {
+fn run(to: &mut Out, lane_code: u32, policy: u32, expected: u32, old: u32) {
     let settings = [lane_code, 13, 10, 0x32, 3, 3, 7, 10, 2, 3, 1, 12, 2, 1000];
     let mut out = [0u8; 144];
     let answer = schedule::schedule(&settings, &REQUESTS, policy, &mut out);
-    let Scheduled::Written { bytes } = answer else {
-        say(rt, b"WRONG: refused\n");
+    let Ok(bytes) = answer else {
+        writeln!(to, "WRONG: refused");
         return;
     };
     if bytes != expected {
-        say(rt, b"WRONG: bytes\n");
+        writeln!(to, "WRONG: bytes");
         return;
     }
-    play(rt, lane_code, policy, &out, bytes, old);
+    play(to, lane_code, policy, &out, bytes, old);
 }
 
 fn main(rt: HostRuntime) {
-    run(&rt, 2, CLOSED_ROWS, 144, 0xaabb_ccdd);
-    run(&rt, 1, CLOSED_ROWS, 144, 0xccdd);
-    run(&rt, 2, OPEN_ROWS, 120, 0xaabb_ccdd);
-    run(&rt, 1, OPEN_ROWS, 120, 0xccdd);
+    let mut to = Out::new(rt.stdout());
+    run(&mut to, 2, CLOSED_ROWS, 144, 0xaabb_ccdd);
+    run(&mut to, 1, CLOSED_ROWS, 144, 0xccdd);
+    run(&mut to, 2, OPEN_ROWS, 120, 0xaabb_ccdd);
+    run(&mut to, 1, OPEN_ROWS, 120, 0xccdd);
 }

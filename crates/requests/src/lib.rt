@@ -11,7 +11,7 @@ ghost use Rattle.requests.specs.Asked.{Asked, burst_code, cell_count, below, Eac
 
 use settings::Settings;
 use settings::places::{COLUMN_BITS, ROW_BITS};
-use words::{Found, both};
+use words::both;
 
 // The pins of each command that a schedule has, without bank and address.
 pub const REFRESH_PINS: u32 = pins::CODE * pins::REFRESH;
@@ -139,30 +139,28 @@ fn all_fit(cells: u32, requests: &[u32]) -> bool
     ensures { result ≡ true → EachBelow cells requests.now }
 {
     let mut fine = true;
-    'requests: for i in 0..requests.len() {
-        fine = both(fine, fits(cells, requests[i]));
+    'requests: for q in requests {
+        fine = both(fine, fits(cells, *q));
     }
     fine
 }
 
 // Refusal 5: over 2,000 requests, else the lowest that does not fit.
-pub fn lowest_bad(s: &Settings, requests: &[u32]) -> Found
+pub fn lowest_bad(s: &Settings, requests: &[u32]) -> Option<u32>
     requires { Sized (settings_of s.now) }
     ensures { place_of result ≡ bad_request (settings_of s.now) requests.now }
 {
-    let n = requests.len();
-    if 2000 < n {
-        return Found::At(2000);
+    if 2000 < requests.len() {
+        return Some(2000);
     }
     let cells = cells(s);
     if all_fit(cells, requests) {
-        return Found::Nothing;
+        return None;
     }
-    'requests: for i in 0..n {
-        if fits(cells, requests[i]) {
-            continue 'requests;
+    'requests: for (i, q) in requests.iter().enumerate() {
+        if !fits(cells, *q) {
+            return Some(i as u32);
         }
-        return Found::At(i as u32);
     }
-    Found::Nothing
+    None
 }

@@ -13,17 +13,15 @@ use Rattle.reading.specs.Openings.{Opening, opens, last_open, openings_from, ope
 use Rattle.reading.proofs.Ordered.{FindsIdle}
 use Rattle.reading.proofs.CleanRows.{finds-idle}
 use Rattle.pins.specs.Pins.{address_of}
-use Rattle.rows.specs.declared.Standing.{Standing}
-use Rattle.rows.specs.declared.Standing.TheVariants.{Idle, Open}
-use Rattle.rows.specs.Walks.{opens_bank, closes_bank, stood_of, ended, ended_by, opened_from, opened_by, opened_by_all}
+use Rattle.rows.specs.Walks.{Standing, idle, open_row, opens_bank, closes_bank, stood_of, ended, ended_by, opened_from, opened_by, opened_by_all}
 use Rattle.rows.proofs.AsStood.{As, opens-is, stands_on}
 
 module _ (s : Settings) (b : ℕ) where
   -- from a part in which the bank is idle; and from one in which it stands open, after event i
   record Same (es : List Event) : Type 0 where
-    idle : (p : Part) (i : ℕ) → FindsIdle s b p es → As Idle (p.banks b) → opened_from b Idle i es ≡ openings_from s b p i es
-    held : (p : Part) (i row first : ℕ) → FindsIdle s b p es → As (Open row first) (p.banks b) →
-        opened_from b (Open row first) (suc i) es ≡ record { row = row; first = first; last = last_open s b p i es } ∷ openings_from s b p (suc i) es
+    idle : (p : Part) (i : ℕ) → FindsIdle s b p es → As idle (p.banks b) → opened_from b idle i es ≡ openings_from s b p i es
+    held : (p : Part) (i row first : ℕ) → FindsIdle s b p es → As (open_row row first) (p.banks b) →
+        opened_from b (open_row row first) (suc i) es ≡ record { row = row; first = first; last = last_open s b p i es } ∷ openings_from s b p (suc i) es
 
   module _ (e : Event) (es : List Event) (S : Same es) (p : Part) (i : ℕ) (finds : FindsIdle s b p (e ∷ es)) where
     abbrev w : ℕ
@@ -32,7 +30,7 @@ module _ (s : Settings) (b : ℕ) where
     abbrev p' : Part
     p' = step s p e
 
-    none-ended : (y : Bool) → cond y (ended Idle i) [] ≡ []
+    none-ended : (y : Bool) → cond y (ended idle i) [] ≡ []
     none-ended true = refl
     none-ended false = refl
 
@@ -42,24 +40,24 @@ module _ (s : Settings) (b : ℕ) where
     abbrev behind : List Opening
     behind = openings_from s b p' (suc i) es
 
-    idle-go : (y z : Bool) → As (cond y (Open (address_of w) i) (cond z Idle Idle)) (p'.banks b) →
-        opened_from b (cond y (Open (address_of w) i) (cond z Idle Idle)) (suc i) es ≡ cond y (here ∷ behind) behind
+    idle-go : (y z : Bool) → As (cond y (open_row (address_of w) i) (cond z idle idle)) (p'.banks b) →
+        opened_from b (cond y (open_row (address_of w) i) (cond z idle idle)) (suc i) es ≡ cond y (here ∷ behind) behind
     idle-go true z k =
         S.held p' i (address_of w) i finds.1 k
         ∙ ap (λ (r : ℕ). record { row = r; first = i; last = last_open s b p' i es } ∷ behind) (sym k.1)
     idle-go false true k = S.idle p' (suc i) finds.1 k
     idle-go false false k = S.idle p' (suc i) finds.1 k
 
-    idle-on : As Idle (p.banks b) → opened_from b Idle i (e ∷ es) ≡ openings_from s b p i (e ∷ es)
+    idle-on : As idle (p.banks b) → opened_from b idle i (e ∷ es) ≡ openings_from s b p i (e ∷ es)
     idle-on a =
-        ap (λ (l : List Opening). l ++ opened_from b (stood_of b Idle i w) (suc i) es) (none-ended (closes_bank b w))
-        ∙ (idle-go (opens_bank b w) (closes_bank b w) (stands_on s b i p e Idle a)
+        ap (λ (l : List Opening). l ++ opened_from b (stood_of b idle i w) (suc i) es) (none-ended (closes_bank b w))
+        ∙ (idle-go (opens_bank b w) (closes_bank b w) (stands_on s b i p e idle a)
         ∙ ap (λ (y : Bool). cond y (here ∷ behind) behind) (sym (opens-is b w)))
 
     -- the bank stands open, so the event does not open it
-    module _ (row first : ℕ) (a : As (Open row first) (p.banks b)) where
+    module _ (row first : ℕ) (a : As (open_row row first) (p.banks b)) where
       abbrev x : Standing
-      x = Open row first
+      x = open_row row first
 
       abbrev next : List Opening
       next = openings_from s b p' (suc (suc i)) es
@@ -74,8 +72,8 @@ module _ (s : Settings) (b : ℕ) where
           go true f = absurd (true≢false (sym a.0 ∙ finds.0 f))
           go false f = refl
 
-      held-go : (z l : Bool) → (p'.banks b).opened ≡ l → As (cond z Idle x) (p'.banks b) →
-          cond z (ended x (suc i)) [] ++ opened_from b (cond z Idle x) (suc (suc i)) es ≡ record { row = row; first = first; last = cond l until i } ∷ next
+      held-go : (z l : Bool) → (p'.banks b).opened ≡ l → As (cond z idle x) (p'.banks b) →
+          cond z (ended x (suc i)) [] ++ opened_from b (cond z idle x) (suc (suc i)) es ≡ record { row = row; first = first; last = cond l until i } ∷ next
       held-go true true f k = absurd (true≢false (sym f ∙ k))
       held-go true false f k =
           let one : suc i - 1 ≡ i = omega arith in
@@ -83,8 +81,8 @@ module _ (s : Settings) (b : ℕ) where
       held-go false true f k = S.held p' (suc i) row first finds.1 k
       held-go false false f k = absurd (true≢false (sym k.0 ∙ f))
 
-      stood-so : stood_of b x (suc i) w ≡ cond (closes_bank b w) Idle x
-      stood-so = ap (λ (y : Bool). cond y (Open (address_of w) (suc i)) (cond (closes_bank b w) Idle x)) (sym (opens-is b w) ∙ unopened)
+      stood-so : stood_of b x (suc i) w ≡ cond (closes_bank b w) idle x
+      stood-so = ap (λ (y : Bool). cond y (open_row (address_of w) (suc i)) (cond (closes_bank b w) idle x)) (sym (opens-is b w) ∙ unopened)
 
       held_on : opened_from b x (suc i) (e ∷ es) ≡ record { row = row; first = first; last = last_open s b p i (e ∷ es) } ∷ openings_from s b p (suc i) (e ∷ es)
       held_on =

@@ -4,10 +4,11 @@ use mathlib.Core.Bool.{Bool, true, false, cond, ◌&&◌}
 use mathlib.Core.List.{List, [], ◌∷◌, map}
 use mathlib.Core.Path.{◌≡◌, refl, ap, ◌∙◌, sym, subst}
 use native.Mathlib.Nat.{zero-add}
+use native.Mathlib.Decide.{dec_lt}
 use native.Mathlib.Omega.{arith}
 use borrow.Author.Tests.{eqb-true, eqb-false}
 use lib.Dec.{eqb}
-use lib.ListN.{length, get_or, set, length-set}
+use lib.ListN.{length, get_or, set, take, length-set}
 use lib.Seq.{get_or-set_same, get_or-set_other}
 use Rattle.reading.specs.Search.{count}
 use Rattle.reading.specs.Settings.{Settings}
@@ -15,26 +16,44 @@ use Rattle.reading.specs.Capture.{Event, event_count, event_bytes, event_at}
 use Rattle.reading.specs.Commands.{command_of}
 use Rattle.reading.specs.Part.{Part, start, step}
 use Rattle.reading.specs.Openings.{opens, openings_from, openings_of, last_open}
-use Rattle.words.proofs.Search.{one_less, none_left}
 use Rattle.pins.specs.Pins.{code_of, bank_of}
-use Rattle.browser.specs.declared.Seen.{Seen}
-use Rattle.browser.specs.declared.Seen.TheVariants as seen
-use Rattle.browser.specs.Browsed.{seen_at}
-use Rattle.browser.proofs.Seeing.{sees-event}
+use Rattle.std.specs.Prelude.{Some, None}
+use Rattle.std.specs.Prelude as std
+use Rattle.browser.specs.declared.Event as seen
+use Rattle.browser.specs.Browsed.{seen_at, seen_from}
+use Rattle.browser.proofs.Seeing.{sees-event, sees-end, none-left, one-left}
 use Rattle.rows.specs.declared.Tally.{Tally}
 use Rattle.rows.specs.Walks.{opens_bank, Room, Few, none_yet, noted_pins, noted_of, tallied_from, events_up_to}
 use Rattle.rows.proofs.AsStood.{opens-is}
 
--- ---- the walk: one event more, and none left
+-- ---- the walk
 
-module _ (capture : List ℕ) (t : Tally) (i n : ℕ) where
-  pub tallies-on : i < n → tallied_from capture t i (n - i) ≡ tallied_from capture (noted_of t (seen_at capture i)) (i + 1) (n - (i + 1))
-  unfolding tallied_from
-  tallies-on small = ap (tallied_from capture t i) (one_less n i small)
+-- behind the last there is none
+pub tallies-end : (capture : List ℕ) (t : Tally) (i n : ℕ) → event_count capture ≤ i → tallied_from capture t i n ≡ t
+unfolding tallied_from
+tallies-end capture t i zero over = refl
+tallies-end capture t i (suc n) over = rw (sees-end capture i over) (tallies-end capture t (i + 1) n (omega (arith, over)))
 
-  pub tallies-none : n ≤ i → tallied_from capture t i (n - i) ≡ t
+-- by the events that are left
+abbrev pub tallied_over : Tally → List seen.Event → Tally
+tallied_over t [] = t
+tallied_over t (e ∷ es) = tallied_over (noted_pins t e.pins) es
+
+module _ (capture : List ℕ) where
+  abbrev left : ℕ → List seen.Event
+  left i = seen_from (event_bytes capture) i (event_count capture - i)
+
+  tallied-left : (t : Tally) (i n : ℕ) → tallied_from capture t i n ≡ tallied_over t (take n (left i))
   unfolding tallied_from
-  tallies-none over = ap (tallied_from capture t i) (none_left n i over)
+  tallied-left t i zero = refl
+  tallied-left t i (suc n) = go (dec_lt i (event_count capture)) (λ u. tallied-left u (i + 1) n)
+    where
+      go : Dec (i < event_count capture) → ((u : Tally) → tallied_from capture u (i + 1) n ≡ tallied_over u (take n (left (i + 1)))) →
+          tallied_from capture t i (suc n) ≡ tallied_over t (take (suc n) (left i))
+      go (yes l) ih = rw (sees-event capture i l, one-left _ _ i (sym (sees-event capture i l))) (ih _)
+      go (no f) ih =
+          let over : event_count capture ≤ i = omega arith in
+          tallies-end capture t i (suc n) over ∙ sym (rw (none-left _ _ i (sym (sees-end capture i over))))
 
 -- ---- no bank has more openings than there were events
 
@@ -78,13 +97,49 @@ module _ (t : Tally) (w : ℕ) (four : length t.counts ≡ 4) where
       go true = more-at t.counts (bank_of w) b four (omega arith)
       go false = refl
 
-pub few_on : (t : Tally) (e : Seen) (i : ℕ) → Few t i → Few (noted_of t e) (i + 1)
-few_on t seen.End i f = record { four = f.four; each = λ b. omega (arith, f.each b) }
-few_on t (seen.Event cycle w) i f = record { four = noted-four t w f.four; each = λ b. subst (λ (k : ℕ). k ≤ i + 1) (sym (noted-at t w f.four b)) (go b (opens_bank b w)) }
+pub few_on : (t : Tally) (e : std.Option seen.Event) (i : ℕ) → Few t i → Few (noted_of t e) (i + 1)
+few_on t None i f = record { four = f.four; each = λ b. omega (arith, f.each b) }
+few_on t (Some e) i f = record { four = noted-four t e.pins f.four; each = λ b. subst (λ (k : ℕ). k ≤ i + 1) (sym (noted-at t e.pins f.four b)) (go b (opens_bank b e.pins)) }
   where
     go : (b : ℕ) (y : Bool) → cond y (get_or t.counts b 0 + 1) (get_or t.counts b 0) ≤ i + 1
     go b true = omega (arith, f.each b)
     go b false = omega (arith, f.each b)
+
+-- with so many events left, of which m are counted on
+pub record Counting (capture : List ℕ) (n : ℕ) (t : Tally) (es : List seen.Event) (m : ℕ) : Type 0 where
+  pub within : m ≤ n
+  pub few : Few t (n - m)
+  pub rest : tallied_over t (take m es) ≡ tallied_from capture none_yet 0 n
+
+pub counts-none : (capture : List ℕ) (n : ℕ) → Counting capture n none_yet (seen_from (event_bytes capture) 0 (event_count capture - 0)) n
+counts-none capture n =
+    record {
+      within = omega arith;
+      few = few-more none_yet 0 (n - n) none-few (omega arith);
+      rest = sym (tallied-left capture none_yet 0 n);
+    }
+
+module _ {capture : List ℕ} {n m : ℕ} {t : Tally} {es : List seen.Event} (x : Counting capture n t es m) where
+  pub counts-room : 0 < m → n < 2 ^ 32 → Room t
+  counts-room l fits b = omega (arith, x.few.each b, x.within)
+
+  module _ {e : seen.Event} {es' : List seen.Event} {m' : ℕ} (h : es ≡ e ∷ es') (k : m' + 1 ≡ m) where
+    pub counts-on : Counting capture n (noted_pins t e.pins) es' m'
+    counts-on =
+        let one : n - m + 1 ≡ n - m' = omega (arith, x.within) in
+        let more : m ≡ suc m' = omega arith in
+        record {
+          within = omega (arith, x.within);
+          few = subst (Few (noted_pins t e.pins)) one (few_on t (Some e) (n - m) x.few);
+          rest = (λ i. tallied_over t (take (sym more i) (sym h i))) ∙ x.rest;
+        }
+
+  pub counted : (0 < m → es ≡ []) → t ≡ tallied_from capture none_yet 0 n
+  counted h = go m es h ∙ x.rest
+    where
+      go : (m : ℕ) (es : List seen.Event) → (0 < m → es ≡ []) → t ≡ tallied_over t (take m es)
+      go zero es h = refl
+      go (suc m) es h = sym (rw (h (omega arith)))
 
 -- ---- the openings of a bank are its ACTIVEs
 
@@ -120,7 +175,7 @@ module _ (capture : List ℕ) (b : ℕ) where
   tallied-at t i (suc n) four within =
       let w = (event_at (event_bytes capture) i).pins in
       let next : i + 1 ≡ suc i = omega arith in
-      ap (λ (e : Seen). get_or (tallied_from capture (noted_of t e) (i + 1) n).counts b 0) (sees-event capture i (omega (arith, within)))
+      ap (λ (e : std.Option seen.Event). get_or (tallied_from capture (noted_of t e) (i + 1) n).counts b 0) (sees-event capture i (omega (arith, within)))
       ∙ (tallied-at (noted_pins t w) (i + 1) n (noted-four t w four) (omega (arith, within))
       ∙ (ap (λ (k : ℕ). k + from (i + 1) n) (noted-at t w four b)
       ∙ (ap (λ (j : ℕ). cond (opens_bank b w) (get_or t.counts b 0 + 1) (get_or t.counts b 0) + from j n) next

@@ -1,38 +1,19 @@
 -- Standing and writing event by event: what holds before event i.
-use Prim.Native.Nat.{ℕ, suc, ◌+◌, ◌-◌, ◌*◌, ◌≤◌, ◌<◌}
-use mathlib.Core.Bool.{Bool, true, false, cond, false≢true}
+use Prim.Native.Nat.{ℕ, zero, suc, ◌+◌, ◌-◌, ◌*◌, ◌≤◌, ◌<◌}
+use mathlib.Core.Bool.{Bool, true, false, cond}
 use mathlib.Core.List.{List, [], ◌∷◌, ◌++◌, map, append_assoc}
 use mathlib.Core.Path.{◌≡◌, refl, sym, ap, ◌∙◌, subst}
 use native.Mathlib.Omega.{arith}
 use lib.ListN.{length, set, length-append}
 use lib.Seq.{sets, length-sets}
 use Rattle.reading.specs.Search.{count}
-use Rattle.reading.specs.Capture.{Event, event_bytes, event_at}
+use Rattle.reading.specs.Capture.{Event, event_at}
 use Rattle.reading.specs.Openings.{Opening, opening_words}
 use Rattle.words.proofs.Search.{one_less, none_left}
 use Rattle.words.proofs.Runs.{sets-append}
 use Rattle.pins.specs.Pins.{address_of}
-use Rattle.browser.specs.declared.Seen.{Seen}
-use Rattle.browser.specs.declared.Seen.TheVariants as seen
-use Rattle.rows.specs.declared.Standing.{Standing}
-use Rattle.rows.specs.declared.Standing.TheVariants.{Idle, Open}
-use Rattle.rows.specs.Walks.{opens_bank, closes_bank, stood_of, stand_of, stand_after, Begun, ended, ended_by, events_up_to, opened_from, opened_by, opened_by_all}
-
--- ---- what was seen
-
-abbrev is_event : Seen → Bool
-is_event (seen.Event cycle pins) = true
-is_event seen.End = false
-
-pub event-seen : {cycle pins : ℕ} → seen.Event cycle pins ≡ seen.End → ⊥
-event-seen e = false≢true (sym (ap is_event e))
-
-abbrev pins_in : Seen → ℕ
-pins_in (seen.Event cycle pins) = pins
-pins_in seen.End = 0
-
-pub pins-seen : {cycle pins cycle' pins' : ℕ} → seen.Event cycle pins ≡ seen.Event cycle' pins' → pins ≡ pins'
-pins-seen e = ap pins_in e
+use Rattle.std.specs.Prelude.{Some, None}
+use Rattle.rows.specs.Walks.{Standing, idle, open_row, opens_bank, closes_bank, stood_of, stand_of, stand_after, Begun, ended, ended_by, events_among, opened_from, opened_by, opened_by_all}
 
 -- ---- words of openings
 
@@ -69,10 +50,10 @@ appends-none index next xs e =
 -- ---- an opening that ends
 
 module _ (index : List ℕ) (next : ℕ) (x : Standing) (end : ℕ) where
-  pub ends-none : x ≡ Idle → Appends index next (ended x end) next index
+  pub ends-none : x ≡ idle → Appends index next (ended x end) next index
   ends-none e = appends-none index next (ended x end) (ap (λ (y : Standing). ended y end) e)
 
-  module _ {row first : ℕ} (e : x ≡ Open row first) where
+  module _ {row first : ℕ} (e : x ≡ open_row row first) where
     pub begun-before : Begun x end → 1 ≤ end
     begun-before b = omega (arith, subst (λ (y : Standing). Begun y end) e b)
 
@@ -102,43 +83,43 @@ module _ (index : List ℕ) (next : ℕ) (x : Standing) (b i w : ℕ) {y : Bool}
 
 -- ---- event by event
 
-module _ (capture : List ℕ) (n : ℕ) where
+module _ (bytes : List ℕ) (n : ℕ) where
   -- of the first n events those from event i on
   abbrev events : ℕ → List Event
-  events i = map (event_at (event_bytes capture)) (count i (n - i))
+  events i = map (event_at bytes) (count i (n - i))
 
-  all-events : events 0 ≡ events_up_to capture n
-  all-events = let e : n - 0 ≡ n = omega arith in ap (λ (k : ℕ). map (event_at (event_bytes capture)) (count 0 k)) e
+  all-events : events 0 ≡ events_among bytes n
+  all-events = let e : n - 0 ≡ n = omega arith in ap (λ (k : ℕ). map (event_at bytes) (count 0 k)) e
 
-  next-event : (i : ℕ) → i < n → events i ≡ event_at (event_bytes capture) i ∷ map (event_at (event_bytes capture)) (count (suc i) (n - (i + 1)))
-  next-event i l = ap (λ (k : ℕ). map (event_at (event_bytes capture)) (count i k)) (one_less n i l)
+  next-event : (i : ℕ) → i < n → events i ≡ event_at bytes i ∷ map (event_at bytes) (count (suc i) (n - (i + 1)))
+  next-event i l = ap (λ (k : ℕ). map (event_at bytes) (count i k)) (one_less n i l)
 
   no-event : (i : ℕ) → n ≤ i → events i ≡ []
-  no-event i l = ap (λ (k : ℕ). map (event_at (event_bytes capture)) (count i k)) (none_left n i l)
+  no-event i l = ap (λ (k : ℕ). map (event_at bytes) (count i k)) (none_left n i l)
 
-  from_next : {A : Type 0} (f : ℕ → List Event → A) (i : ℕ) → f (suc i) (map (event_at (event_bytes capture)) (count (suc i) (n - (i + 1)))) ≡ f (i + 1) (events (i + 1))
-  from_next f i = let e : suc i ≡ i + 1 = omega arith in ap (λ (k : ℕ). f k (map (event_at (event_bytes capture)) (count k (n - (i + 1))))) e
+  from_next : {A : Type 0} (f : ℕ → List Event → A) (i : ℕ) → f (suc i) (map (event_at bytes) (count (suc i) (n - (i + 1)))) ≡ f (i + 1) (events (i + 1))
+  from_next f i = let e : suc i ≡ i + 1 = omega arith in ap (λ (k : ℕ). f k (map (event_at bytes) (count k (n - (i + 1))))) e
 
   module _ (b : ℕ) where
     -- how the bank stands
     pub record Stood (x : Standing) (i : ℕ) : Type 0 where
       pub within : i ≤ n
-      pub rest : stand_of b x i (events i) ≡ stand_after b (events_up_to capture n)
+      pub rest : stand_of b x i (events i) ≡ stand_after b (events_among bytes n)
 
-    pub stood-first : Stood Idle 0
-    stood-first = record { within = omega arith; rest = ap (stand_of b Idle 0) all-events }
+    pub stood-first : Stood idle 0
+    stood-first = record { within = omega arith; rest = ap (stand_of b idle 0) all-events }
 
-    pub stood_on : {x x' : Standing} {i w : ℕ} → Stood x i → i < n → w ≡ (event_at (event_bytes capture) i).pins → x' ≡ stood_of b x i w → Stood x' (i + 1)
+    pub stood_on : {x x' : Standing} {i w : ℕ} → Stood x i → i < n → w ≡ (event_at bytes i).pins → x' ≡ stood_of b x i w → Stood x' (i + 1)
     stood_on {x} {x'} {i} {w} s l e f =
         record {
           within = omega (arith, l);
           rest =
               ap (λ (y : Standing). stand_of b y (i + 1) (events (i + 1))) (f ∙ ap (stood_of b x i) e)
-              ∙ (sym (from_next (stand_of b (stood_of b x i (event_at (event_bytes capture) i).pins)) i)
+              ∙ (sym (from_next (stand_of b (stood_of b x i (event_at bytes i).pins)) i)
               ∙ (sym (ap (stand_of b x i) (next-event i l)) ∙ s.rest));
         }
 
-    pub stood-last : {x : Standing} {i : ℕ} → Stood x i → n ≤ i → x ≡ stand_after b (events_up_to capture n)
+    pub stood-last : {x : Standing} {i : ℕ} → Stood x i → n ≤ i → x ≡ stand_after b (events_among bytes n)
     stood-last {x} {i} s l = sym (ap (stand_of b x i) (no-event i l)) ∙ s.rest
 
     -- what is written
@@ -149,9 +130,9 @@ module _ (capture : List ℕ) (n : ℕ) where
         pub done : List Opening
         pub place : next ≡ from + 3 * length done
         pub holds : index ≡ sets old from (opening_words done)
-        pub total : opened_by b (events_up_to capture n) ≡ done ++ opened_from b x i (events i)
+        pub total : opened_by b (events_among bytes n) ≡ done ++ opened_from b x i (events i)
 
-      pub written-first : Written old Idle from 0
+      pub written-first : Written old idle from 0
       unfolding opened_by
       written-first =
           record {
@@ -160,7 +141,7 @@ module _ (capture : List ℕ) (n : ℕ) where
             done = [];
             place = omega arith;
             holds = refl;
-            total = ap (opened_from b Idle 0) (sym all-events);
+            total = ap (opened_from b idle 0) (sym all-events);
           }
 
       pub size : {index : List ℕ} {x : Standing} {next i : ℕ} → Written index x next i → length index ≡ length old
@@ -170,19 +151,19 @@ module _ (capture : List ℕ) (n : ℕ) where
       stood-begun x i w g = go (opens_bank b w) (closes_bank b w) x g
         where
           later : (x : Standing) → Begun x i → Begun x (i + 1)
-          later Idle h = tt
-          later (Open row first) h = omega (arith, h)
+          later None h = tt
+          later (Some y) h = omega (arith, h)
 
-          go : (y z : Bool) (x : Standing) → Begun x i → Begun (cond y (Open (address_of w) i) (cond z Idle x)) (i + 1)
+          go : (y z : Bool) (x : Standing) → Begun x i → Begun (cond y (open_row (address_of w) i) (cond z idle x)) (i + 1)
           go true z x h = omega arith
           go false true x h = tt
           go false false x h = later x h
 
-      module _ {index : List ℕ} {x : Standing} {next i w : ℕ} (z : Written index x next i) (l : i < n) (e : w ≡ (event_at (event_bytes capture) i).pins) where
+      module _ {index : List ℕ} {x : Standing} {next i w : ℕ} (z : Written index x next i) (l : i < n) (e : w ≡ (event_at bytes i).pins) where
         abbrev now-ended : List Opening
         now-ended = ended_by b x i w
 
-        split : opened_by b (events_up_to capture n) ≡ z.done ++ now-ended ++ opened_from b (stood_of b x i w) (i + 1) (events (i + 1))
+        split : opened_by b (events_among bytes n) ≡ z.done ++ now-ended ++ opened_from b (stood_of b x i w) (i + 1) (events (i + 1))
         split =
             z.total
             ∙ (ap (λ (es : List Event). z.done ++ opened_from b x i es) (next-event i l)
@@ -191,9 +172,9 @@ module _ (capture : List ℕ) (n : ℕ) where
             ∙ sym (append_assoc z.done now-ended _))))
           where
             behind : List Event
-            behind = map (event_at (event_bytes capture)) (count (suc i) (n - (i + 1)))
+            behind = map (event_at bytes) (count (suc i) (n - (i + 1)))
 
-        pub room : from + 3 * length (opened_by b (events_up_to capture n)) ≤ length old → next + 3 * length now-ended ≤ length index
+        pub room : from + 3 * length (opened_by b (events_among bytes n)) ≤ length old → next + 3 * length now-ended ≤ length index
         room f =
             let whole = ap length split ∙ length-append (z.done ++ now-ended) _ in
             omega (arith, f, whole, length-append z.done now-ended, size z, z.place)
@@ -216,17 +197,17 @@ module _ (capture : List ℕ) (n : ℕ) where
         pub at-end : i ≡ n
         at-end = omega (arith, l, z.within)
 
-        all_done : opened_by b (events_up_to capture n) ≡ z.done ++ ended x n
+        all_done : opened_by b (events_among bytes n) ≡ z.done ++ ended x n
         all_done = z.total ∙ (ap (λ (es : List Event). z.done ++ opened_from b x i es) (no-event i l) ∙ ap (λ (k : ℕ). z.done ++ ended x k) at-end)
 
         pub last-begun : Begun x n
         last-begun = subst (Begun x) at-end z.begun
 
-        pub last-room : from + 3 * length (opened_by b (events_up_to capture n)) ≤ length old → next + 3 * length (ended x n) ≤ length index
+        pub last-room : from + 3 * length (opened_by b (events_among bytes n)) ≤ length old → next + 3 * length (ended x n) ≤ length index
         last-room f = omega (arith, f, ap length all_done ∙ length-append z.done (ended x n), size z, z.place)
 
         pub written_last : {index' : List ℕ} {next' : ℕ} → Appends index next (ended x n) next' index' →
-            Appends old from (opened_by b (events_up_to capture n)) next' index'
+            Appends old from (opened_by b (events_among bytes n)) next' index'
         written_last {index'} {next'} a = (
           omega (arith, a.0, z.place, ap length all_done ∙ length-append z.done (ended x n)),
           a.1
@@ -248,45 +229,56 @@ appends-more old xs ys {next} a b = (
   b.1 ∙ (ap (λ (l : List ℕ). sets l next (opening_words ys)) a.1 ∙ words-behind old 0 next xs ys a.0),
 )
 
--- all four, in their order
-module _ (old : List ℕ) (es : List Event) (room : 3 * length (opened_by_all es) ≤ length old) where
-  abbrev a : List Opening
-  a = opened_by 0 es
+-- the banks below bank k
+abbrev pub opened_below : List Event → ℕ → List Opening
+opened_below es zero = []
+opened_below es (suc k) = opened_below es k ++ opened_by k es
 
-  abbrev b : List Opening
-  b = opened_by 1 es
+pub all-four : (es : List Event) → opened_below es 4 ≡ opened_by_all es
+unfolding opened_by_all
+all-four es = refl
 
-  abbrev c : List Opening
-  c = opened_by 2 es
+-- bank k's have room behind theirs
+pub room-below : (es : List Event) (k : ℕ) → k < 4 → length (opened_below es k) + length (opened_by k es) ≤ length (opened_by_all es)
+room-below es k l = go k l
+  where
+    more : (j : ℕ) → length (opened_below es (suc j)) ≡ length (opened_below es j) + length (opened_by j es)
+    more j = length-append (opened_below es j) (opened_by j es)
 
-  abbrev d : List Opening
-  d = opened_by 3 es
+    all : length (opened_by_all es) ≡ length (opened_below es 3) + length (opened_by 3 es)
+    all = sym (ap length (all-four es)) ∙ more 3
 
-  lengths : length (opened_by_all es) ≡ length a + length b + length c + length d
-  unfolding opened_by_all
-  lengths = omega (arith, length-append (a ++ b ++ c) d, length-append (a ++ b) c, length-append a b)
+    go : (k : ℕ) → k < 4 → length (opened_below es k) + length (opened_by k es) ≤ length (opened_by_all es)
+    go zero l = omega (arith, all, more 0, more 1, more 2)
+    go (suc zero) l = omega (arith, all, more 1, more 2)
+    go (suc (suc zero)) l = omega (arith, all, more 2)
+    go (suc (suc (suc zero))) l = omega (arith, all)
+    go (suc (suc (suc (suc k)))) l = absurd (omega arith)
 
-  pub first-room : 0 + 3 * length a ≤ length old
-  first-room = omega (arith, room, lengths)
+-- those of the banks below bank k are written
+pub record Banked (es : List Event) (old index : List ℕ) (next k : ℕ) : Type 0 where
+  pub within : k ≤ 4
+  pub appended : Appends old 0 (opened_below es k) next index
 
-  module _ {n₁ : ℕ} {l₁ : List ℕ} (one : Appends old 0 a n₁ l₁) where
-    pub second-room : n₁ + 3 * length b ≤ length l₁
-    second-room = omega (arith, room, lengths, one.0, appends-size old 0 a one)
+pub banked-none : (es : List Event) (old : List ℕ) → Banked es old old 0 0
+banked-none es old = record { within = omega arith; appended = appends-none old 0 [] refl }
 
-    module _ {n₂ : ℕ} {l₂ : List ℕ} (more : Appends l₁ n₁ b n₂ l₂) where
-      two : Appends old 0 (a ++ b) n₂ l₂
-      two = appends-more old a b one more
+module _ {es : List Event} {old index : List ℕ} {next k : ℕ} (x : Banked es old index next k) where
+  pub banked-size : length index ≡ length old
+  banked-size = appends-size old 0 (opened_below es k) x.appended
 
-      pub third-room : n₂ + 3 * length c ≤ length l₂
-      third-room = omega (arith, room, lengths, two.0, length-append a b, appends-size old 0 (a ++ b) two)
+  pub banked-room : k < 4 → 3 * length (opened_by_all es) ≤ length old → next + 3 * length (opened_by k es) ≤ length index
+  banked-room l room = omega (arith, room, x.appended.0, banked-size, room-below es k l)
 
-      module _ {n₃ : ℕ} {l₃ : List ℕ} (again : Appends l₂ n₂ c n₃ l₃) where
-        three : Appends old 0 (a ++ b ++ c) n₃ l₃
-        three = appends-more old (a ++ b) c two again
+  pub banked-more : k < 4 → {next' : ℕ} {index' : List ℕ} → Appends index next (opened_by k es) next' index' → Banked es old index' next' (k + 1)
+  banked-more l {next'} {index'} a =
+      let one : suc k ≡ k + 1 = omega arith in
+      record {
+        within = omega arith;
+        appended = subst (λ (j : ℕ). Appends old 0 (opened_below es j) next' index') one (appends-more old (opened_below es k) (opened_by k es) x.appended a);
+      }
 
-        pub fourth-room : n₃ + 3 * length d ≤ length l₃
-        fourth-room = omega (arith, room, lengths, three.0, length-append (a ++ b) c, length-append a b, appends-size old 0 (a ++ b ++ c) three)
-
-        pub all-four : {n₄ : ℕ} {l₄ : List ℕ} → Appends l₃ n₃ d n₄ l₄ → Appends old 0 (opened_by_all es) n₄ l₄
-        unfolding opened_by_all
-        all-four last = appends-more old (a ++ b ++ c) d three last
+  pub banked-all : 4 ≤ k → index ≡ sets old 0 (opening_words (opened_by_all es))
+  banked-all l =
+      let four : k ≡ 4 = omega (arith, x.within) in
+      x.appended.1 ∙ ap (λ (j : ℕ). sets old 0 (opening_words (opened_below es j))) four ∙ ap (λ (xs : List Opening). sets old 0 (opening_words xs)) (all-four es)

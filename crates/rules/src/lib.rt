@@ -7,6 +7,7 @@ ghost use Rattle.reading.specs.Settings.{settings_of};
 ghost use Rattle.reading.specs.Rules.{every_bank};
 ghost use Rattle.deadlines.specs.Deadlines as is;
 ghost use Rattle.deadlines.specs.Deadlines.{at, rule_unless};
+ghost use Rattle.rules.specs.Rule.{number_of, broken, open_kept, burst_breaks};
 
 use deadlines::Deadlines;
 use deadlines::banks::all_idle;
@@ -18,47 +19,100 @@ use deadlines::sums::{past, rows};
 use settings::Settings;
 use settings::places::ROW_BITS;
 
+// A rule of document 01, by its number. Rule 6 is not asked (docs/RULES.md).
+#[derive(Clone, Copy, Debug, PartialEq, Eq)]
+pub enum Rule {
+    // The part has no such row.
+    Row = 1,
+    // The word is no mode word.
+    ModeWord = 2,
+    // The bank is open where it has to be idle, or idle where it has to be open.
+    BankState = 3,
+    // tRFC or tMRD.
+    Busy = 4,
+    // tRP.
+    Precharge = 5,
+    // tRRD.
+    OtherActive = 7,
+    // tRCD.
+    RowToColumn = 8,
+    // tRAS.
+    RowHeld = 9,
+    // tWR.
+    WriteRecovery = 10,
+    // tWTR.
+    WriteToRead = 11,
+    // The data bus.
+    Bus = 12,
+    // The burst of an auto precharge goes on.
+    AutoPrecharge = 13,
+    // Nine AUTO REFRESHes are owed.
+    Refresh = 14,
+    // Asleep, or not yet awake.
+    Sleep = 15,
+}
+
+impl Rule {
+    // Its number in document 01.
+    pub fn number(self) -> u32
+        ensures { result ≡ number_of self }
+    {
+        self as u32
+    }
+}
+
 // Rule 14, or 15 asleep. Awake is asked for itself, so that no branch of `last_breaks` is like another (docs/PERFORMANCE.md).
-fn late(d: &Deadlines, t: u32) -> u32
-    ensures { result ≡ rule_unless (ltb t (at d.now is.ASLEEP)) 14 15 }
+fn late(d: &Deadlines, t: u32) -> Result<(), Rule>
+    ensures { broken result ≡ rule_unless (ltb t (at d.now is.ASLEEP)) 14 15 }
 {
     if d[ASLEEP] == 0 {
-        return 14;
+        return Err(Rule::Refresh);
     }
-    if (t as u64) < d[ASLEEP] {
-        return 15;
+    if u64::from(t) < d[ASLEEP] {
+        return Err(Rule::Sleep);
     }
-    14
+    Err(Rule::Refresh)
 }
 
-fn last_breaks(d: &Deadlines, t: u32) -> u32
-    ensures { result ≡ is.last_breaks d.now t }
+fn last_breaks(d: &Deadlines, t: u32) -> Result<(), Rule>
+    ensures { broken result ≡ is.last_breaks d.now t }
 {
-    if d[OVERDUE] <= (t as u64) {
+    if d[OVERDUE] <= u64::from(t) {
         return late(d, t);
     }
-    if (t as u64) < d[WAKE] {
-        return 15;
+    if u64::from(t) < d[WAKE] {
+        return Err(Rule::Sleep);
     }
-    0
+    Ok(())
 }
 
-// The searches: the banks in order, left at the first that breaks the rule, with its number; 0 if none does.
+// A timed rule: it is broken before a deadline.
+fn over(deadline: u64, t: u32, rule: Rule) -> Result<(), Rule>
+    ensures { broken result ≡ rule_unless (leb deadline t) (number_of rule) 0 }
+{
+    if past(deadline, t) {
+        return Ok(());
+    }
+    Err(rule)
+}
 
-fn all_rested(d: &Deadlines, t: u32) -> u32
-    ensures { result ≡ rule_unless (every_bank (λ i. leb (at d.now (is.REST + i)) t)) 5 0 }
+// The searches: the banks in order, left at the first that breaks the rule. A labelled search for each question about the banks,
+// as the customers ask for it.
+
+fn all_rested(d: &Deadlines, t: u32) -> Result<(), Rule>
+    ensures { broken result ≡ rule_unless (every_bank (λ i. leb (at d.now (is.REST + i)) t)) 5 0 }
 {
     'banks: for i in 0..4 {
         if past(d[REST + i], t) {
             continue 'banks;
         }
-        return 5;
+        return Err(Rule::Precharge);
     }
-    0
+    Ok(())
 }
 
-fn others_apart(d: &Deadlines, t: u32, b: usize) -> u32
-    ensures { result ≡ rule_unless (every_bank (λ i. leb (is.other_bank d.now b i) t)) 7 0 }
+fn others_apart(d: &Deadlines, t: u32, b: usize) -> Result<(), Rule>
+    ensures { broken result ≡ rule_unless (every_bank (λ i. leb (is.other_bank d.now b i) t)) 7 0 }
 {
     'banks: for i in 0..4 {
         if past(d[OTHER + i], t) {
@@ -67,39 +121,26 @@ fn others_apart(d: &Deadlines, t: u32, b: usize) -> u32
         if i == b {
             continue 'banks;
         }
-        return 7;
+        return Err(Rule::OtherActive);
     }
-    0
+    Ok(())
 }
 
-fn all_held(d: &Deadlines, t: u32) -> u32
-    ensures { result ≡ rule_unless (is.all_held d.now t) 9 0 }
+// Of the banks that are open, by the deadlines of one kind.
+fn open_over(d: &Deadlines, t: u32, first: usize, rule: Rule) -> Result<(), Rule>
+    requires { first < 32 }
+    ensures { broken result ≡ rule_unless (open_kept d.now t first) (number_of rule) 0 }
 {
     'banks: for i in 0..4 {
         if d[OPENED + i] == 0 {
             continue 'banks;
         }
-        if past(d[CLOSE + i], t) {
+        if past(d[first + i], t) {
             continue 'banks;
         }
-        return 9;
+        return Err(rule);
     }
-    0
-}
-
-fn all_written(d: &Deadlines, t: u32) -> u32
-    ensures { result ≡ rule_unless (is.all_written d.now t) 10 0 }
-{
-    'banks: for i in 0..4 {
-        if d[OPENED + i] == 0 {
-            continue 'banks;
-        }
-        if past(d[WRITTEN + i], t) {
-            continue 'banks;
-        }
-        return 10;
-    }
-    0
+    Ok(())
 }
 
 // The last write has no auto precharge, and its row was closed since.
@@ -121,148 +162,109 @@ fn gone(d: &Deadlines) -> bool
 fn taken(d: &Deadlines, t: u32) -> bool
     ensures { result ≡ is.taken d.now t }
 {
-    if d[LAST] <= (t as u64) + 5 {
+    if d[LAST] <= u64::from(t) + 5 {
         return true;
     }
     gone(d)
 }
 
-// The lowest rule that a command breaks, 0 for none. Each reads the deadlines of the banks and the part that it concerns.
+// The lowest rule that a command breaks, if any. Each reads the deadlines of the banks and the part that it concerns.
 
-pub fn active_breaks(s: &Settings, d: &Deadlines, t: u32, b: usize, row: u32) -> u32
+pub fn active_breaks(s: &Settings, d: &Deadlines, t: u32, b: usize, row: u32) -> Result<(), Rule>
     requires { b < 4 }
-    ensures { result ≡ is.active_breaks (settings_of s.now) d.now t b row }
+    ensures { broken result ≡ is.active_breaks (settings_of s.now) d.now t b row }
 {
     if rows(s[ROW_BITS]) <= row {
-        return 1;
+        return Err(Rule::Row);
     }
     if d[OPENED + b] != 0 {
-        return 3;
+        return Err(Rule::BankState);
     }
-    if (t as u64) < d[BUSY] {
-        return 4;
-    }
-    if (t as u64) < d[REST + b] {
-        return 5;
-    }
-    let apart = others_apart(d, t, b);
-    if apart != 0 {
-        return apart;
-    }
+    over(d[BUSY], t, Rule::Busy)?;
+    over(d[REST + b], t, Rule::Precharge)?;
+    others_apart(d, t, b)?;
     last_breaks(d, t)
 }
 
-pub fn read_breaks(d: &Deadlines, t: u32, b: usize) -> u32
-    requires { b < 4 }
-    ensures { result ≡ is.read_breaks d.now t b }
+// READ and WRITE wait for the bus by deadlines of their own.
+fn burst_breaks(
+    d: &Deadlines,
+    t: u32,
+    b: usize,
+    bus: usize,
+    rule: Rule,
+    auto: usize,
+) -> Result<(), Rule>
+    requires bank { b < 4 }
+    requires places { (bus < 39) × (auto < 39) }
+    ensures { broken result ≡ burst_breaks d.now t b bus (number_of rule) auto }
 {
     if d[OPENED + b] == 0 {
-        return 3;
+        return Err(Rule::BankState);
     }
-    if (t as u64) < d[BUSY] {
-        return 4;
-    }
-    if (t as u64) < d[COLUMN + b] {
-        return 8;
-    }
-    if (t as u64) < d[END] {
-        return 11;
-    }
-    if (t as u64) < d[READS] {
-        return 13;
-    }
+    over(d[BUSY], t, Rule::Busy)?;
+    over(d[COLUMN + b], t, Rule::RowToColumn)?;
+    over(d[bus], t, rule)?;
+    over(d[auto], t, Rule::AutoPrecharge)?;
     last_breaks(d, t)
 }
 
-pub fn write_breaks(d: &Deadlines, t: u32, b: usize) -> u32
+pub fn read_breaks(d: &Deadlines, t: u32, b: usize) -> Result<(), Rule>
     requires { b < 4 }
-    ensures { result ≡ is.write_breaks d.now t b }
+    ensures { broken result ≡ is.read_breaks d.now t b }
 {
-    if d[OPENED + b] == 0 {
-        return 3;
-    }
-    if (t as u64) < d[BUSY] {
-        return 4;
-    }
-    if (t as u64) < d[COLUMN + b] {
-        return 8;
-    }
-    if (t as u64) < d[BUS] {
-        return 12;
-    }
-    if (t as u64) < d[WRITES] {
-        return 13;
-    }
-    last_breaks(d, t)
+    burst_breaks(d, t, b, END, Rule::WriteToRead, READS)
 }
 
-pub fn terminate_breaks(d: &Deadlines, t: u32) -> u32
-    ensures { result ≡ is.terminate_breaks d.now t }
+pub fn write_breaks(d: &Deadlines, t: u32, b: usize) -> Result<(), Rule>
+    requires { b < 4 }
+    ensures { broken result ≡ is.write_breaks d.now t b }
 {
-    if (t as u64) < d[BUSY] {
-        return 4;
-    }
-    if (t as u64) < d[READS] {
-        return 13;
-    }
+    burst_breaks(d, t, b, BUS, Rule::Bus, WRITES)
+}
+
+pub fn terminate_breaks(d: &Deadlines, t: u32) -> Result<(), Rule>
+    ensures { broken result ≡ is.terminate_breaks d.now t }
+{
+    over(d[BUSY], t, Rule::Busy)?;
+    over(d[READS], t, Rule::AutoPrecharge)?;
     if !taken(d, t) {
-        return 13;
+        return Err(Rule::AutoPrecharge);
     }
     last_breaks(d, t)
 }
 
-pub fn close_breaks(d: &Deadlines, t: u32, b: usize) -> u32
+pub fn close_breaks(d: &Deadlines, t: u32, b: usize) -> Result<(), Rule>
     requires { b < 4 }
-    ensures { result ≡ is.close_breaks d.now t b }
+    ensures { broken result ≡ is.close_breaks d.now t b }
 {
-    if (t as u64) < d[BUSY] {
-        return 4;
-    }
+    over(d[BUSY], t, Rule::Busy)?;
     if d[OPENED + b] == 0 {
         return last_breaks(d, t);
     }
-    if (t as u64) < d[CLOSE + b] {
-        return 9;
-    }
-    if (t as u64) < d[WRITTEN + b] {
-        return 10;
-    }
+    over(d[CLOSE + b], t, Rule::RowHeld)?;
+    over(d[WRITTEN + b], t, Rule::WriteRecovery)?;
     last_breaks(d, t)
 }
 
-pub fn close_all_breaks(d: &Deadlines, t: u32) -> u32
-    ensures { result ≡ is.close_all_breaks d.now t }
+pub fn close_all_breaks(d: &Deadlines, t: u32) -> Result<(), Rule>
+    ensures { broken result ≡ is.close_all_breaks d.now t }
 {
-    if (t as u64) < d[BUSY] {
-        return 4;
-    }
-    let held = all_held(d, t);
-    if held != 0 {
-        return held;
-    }
-    let written = all_written(d, t);
-    if written != 0 {
-        return written;
-    }
+    over(d[BUSY], t, Rule::Busy)?;
+    open_over(d, t, CLOSE, Rule::RowHeld)?;
+    open_over(d, t, WRITTEN, Rule::WriteRecovery)?;
     last_breaks(d, t)
 }
 
-pub fn refresh_breaks(d: &Deadlines, t: u32) -> u32
-    ensures { result ≡ is.refresh_breaks d.now t }
+pub fn refresh_breaks(d: &Deadlines, t: u32) -> Result<(), Rule>
+    ensures { broken result ≡ is.refresh_breaks d.now t }
 {
     if !all_idle(d) {
-        return 3;
+        return Err(Rule::BankState);
     }
-    if (t as u64) < d[BUSY] {
-        return 4;
-    }
-    let rested = all_rested(d, t);
-    if rested != 0 {
-        return rested;
-    }
-    if (t as u64) < d[BUS] {
-        return 12;
-    }
+    over(d[BUSY], t, Rule::Busy)?;
+    all_rested(d, t)?;
+    over(d[BUS], t, Rule::Bus)?;
     last_breaks(d, t)
 }
 
@@ -275,47 +277,45 @@ fn register_fits(b: usize, word: u32) -> bool
     b == 2
 }
 
-pub fn mode_breaks(d: &Deadlines, t: u32, b: usize, word: u32) -> u32
-    ensures { result ≡ is.mode_breaks d.now t b word }
+pub fn mode_breaks(d: &Deadlines, t: u32, b: usize, word: u32) -> Result<(), Rule>
+    ensures { broken result ≡ is.mode_breaks d.now t b word }
 {
     if !register_fits(b, word) {
-        return 2;
+        return Err(Rule::ModeWord);
     }
     refresh_breaks(d, t)
 }
 
 // NOP and DESELECT that enter power-down.
-pub fn enter_breaks(d: &Deadlines, t: u32) -> u32
-    ensures { result ≡ is.enter_breaks d.now t }
+pub fn enter_breaks(d: &Deadlines, t: u32) -> Result<(), Rule>
+    ensures { broken result ≡ is.enter_breaks d.now t }
 {
     if !past(d[BUSY], t) {
-        return 4;
+        return Err(Rule::Busy);
     }
     if past(d[OVERDUE], t) {
-        return 14;
+        return Err(Rule::Refresh);
     }
     if !past(d[BUS], t) {
-        return 15;
+        return Err(Rule::Sleep);
     }
     if !taken(d, t) {
-        return 15;
+        return Err(Rule::Sleep);
     }
     if !past(d[WAKE], t) {
-        return 15;
+        return Err(Rule::Sleep);
     }
-    0
+    Ok(())
 }
 
-// AUTO REFRESH that enters self refresh.
-pub fn self_breaks(d: &Deadlines, t: u32) -> u32
-    ensures { result ≡ is.self_breaks d.now t }
+// AUTO REFRESH that enters self refresh. Inlined early: a self refresh costs an instruction an event more otherwise.
+#[inline(always)]
+pub fn self_breaks(d: &Deadlines, t: u32) -> Result<(), Rule>
+    ensures { broken result ≡ is.self_breaks d.now t }
 {
-    let rule = refresh_breaks(d, t);
-    if rule != 0 {
-        return rule;
-    }
+    refresh_breaks(d, t)?;
     if !taken(d, t) {
-        return 15;
+        return Err(Rule::Sleep);
     }
-    0
+    Ok(())
 }

@@ -9,6 +9,8 @@ use lib.Dec.{ltb, eqb}
 use lib.ListN.{length, take}
 use lib.Seq.{sets}
 use borrow.Author.Tests.{eqb-true, ltb-true, ltb-false, lt-ltb, le-ltb}
+use Rattle.std.specs.Prelude.{Result, Ok, Err}
+use Rattle.std.specs.Prelude as std
 use Rattle.reading.specs.Search.{given}
 use Rattle.reading.specs.Words.{bytes_of}
 use Rattle.reading.specs.Settings.{Settings, settings_count, settings_of, newer, out_of_range, bad_setting}
@@ -17,12 +19,11 @@ use Rattle.reading.specs.Schedule.{Schedule, planned, late, policy_fits, closes_
 use Rattle.reading.specs.Answers.{Answer, refused, answered, unless, leaves, when_planned, fitting, schedule_outcome}
 use Rattle.words.proofs.Events.{words-length}
 use Rattle.words.specs.Found.{place_of}
-use Rattle.words.specs.declared.Found.{Found}
-use Rattle.words.specs.declared.Found.TheVariants.{Nothing, At}
-use Rattle.settings.specs.Meaning as settings
+use Rattle.refusal.specs.Refusal.{number_of, told}
+use Rattle.refusal.specs.Refusal as refusal
+use Rattle.refusal.specs.declared.Refusal.{Refusal}
+use Rattle.refusal.specs.declared.Refusal.TheVariants.{Room}
 use Rattle.settings.specs.Meaning.{checked, padded}
-use Rattle.settings.specs.declared.Checked.{Checked}
-use Rattle.settings.specs.declared.Checked.TheVariants as check
 use Rattle.capture.proofs.Whole as capture
 use Rattle.settings.proofs.Padded.{padded-settings, padded-range}
 use Rattle.settings.proofs.Fitting.{each-in-range}
@@ -32,11 +33,7 @@ use Rattle.memory.specs.Serving.{Sized}
 use Rattle.plan.proofs.Captured.{settings-fit}
 use Rattle.plan.proofs.Ranged.{fourteen-old, ranged}
 use Rattle.plan.proofs.Ready.{few-requests, schedule-planned}
-use Rattle.schedule.specs.declared.Scheduled.{Scheduled}
-use Rattle.schedule.specs.declared.Scheduled.TheVariants.{Refused, Written}
-use Rattle.schedule.specs.declared.Planned.{Planned}
-use Rattle.schedule.specs.declared.Planned.TheVariants.{Late, Events}
-use Rattle.schedule.specs.Meaning.{means, plan_means, plan_answer, Noted, Plannable, Writable, size, written, writing}
+use Rattle.schedule.specs.Meaning.{plan_answer, Noted, Plannable, Writable, size, written, writing}
 
 -- whatever follows refusals 2 and 3
 followed : {A : Type 0} (x y : Option ℕ) (rest : Answer A) → unless 2 x (unless 3 y rest) ≡ follow (unless 2 x (unless 3 y (answered (tt {0})))) rest
@@ -54,12 +51,12 @@ right-count n e = go (eqb n settings_count) refl e
     go true k e = eqb-true n settings_count k
     go false k e = let z : ◌≡◌ {A = ℕ} 0 1 = cc in absurd (omega arith)
 
-pub refuses : (ws qs : List ℕ) (policy : ℕ) (out : List ℕ) {r : Checked} → settings.means r ≡ checked ws → {number place : ℕ} → r ≡ check.Refused number place →
-    Meets (refused number place) out (schedule_outcome ws qs policy out)
+pub refuses : (ws qs : List ℕ) (policy : ℕ) (out : List ℕ) {r : Result (Unit {0}) Refusal} → refusal.passed r ≡ checked ws → {x : Refusal} → r ≡ Err x →
+    Meets (refused (number_of x) (refusal.place_of x)) out (schedule_outcome ws qs policy out)
 unfolding schedule_outcome checked
 refuses ws qs policy out e f =
     refused-meets
-    (followed (given 0 (not (eqb (length ws) settings_count))) (bad_setting ws) _ ∙ follows-refused _ (sym e ∙ ap settings.means f))
+    (followed (given 0 (not (eqb (length ws) settings_count))) (bad_setting ws) _ ∙ follows-refused _ (sym e ∙ ap refusal.passed f))
 
 -- ---- settings that fit
 
@@ -67,10 +64,10 @@ pub record Right (ws : List ℕ) : Type 0 where
   pub count : length ws ≡ settings_count
   pub each : bad_setting ws ≡ none
 
-pub right : (ws : List ℕ) {r : Checked} → settings.means r ≡ checked ws → r ≡ check.Fine → Right ws
+pub right : (ws : List ℕ) {r : Result (Unit {0}) Refusal} → refusal.passed r ≡ checked ws → r ≡ Ok tt → Right ws
 unfolding checked
 right ws e f =
-    let (x, after) = passed 2 (given 0 (not (eqb (length ws) settings_count))) _ (sym e ∙ ap settings.means f) in
+    let (x, after) = passed 2 (given 0 (not (eqb (length ws) settings_count))) _ (sym e ∙ ap refusal.passed f) in
     record { count = right-count (length ws) x; each = (passed 3 (bad_setting ws) _ after).0 }
 
 module _ {ws : List ℕ} (fit : Right ws) {s : List ℕ} (loaded : s ≡ padded ws) where
@@ -107,12 +104,12 @@ module _ {ws : List ℕ} (fit : Right ws) {s : List ℕ} (loaded : s ≡ padded 
 
       -- ---- refusal 5
 
-      pub unserved : {r : Found} {i : ℕ} → place_of r ≡ bad_request (settings_of s) qs → r ≡ At i → Meets (refused 5 i) out (schedule_outcome ws qs policy out)
+      pub unserved : {r : std.Option ℕ} {i : ℕ} → place_of r ≡ bad_request (settings_of s) qs → r ≡ std.Some i → Meets (refused 5 i) out (schedule_outcome ws qs policy out)
       unserved {r} {i} e k =
           let b : bad_request (settings_of ws) qs ≡ some i = sym (ap (λ (x : Settings). bad_request x qs) same) ∙ sym e ∙ ap place_of k in
           rw (onward, b) (refl, refl)
 
-      module _ {r : Found} (e : place_of r ≡ bad_request (settings_of s) qs) (k : r ≡ Nothing) where
+      module _ {r : std.Option ℕ} (e : place_of r ≡ bad_request (settings_of s) qs) (k : r ≡ std.None) where
         pub asked-fine : bad_request (settings_of ws) qs ≡ none
         asked-fine = sym (ap (λ (x : Settings). bad_request x qs) same) ∙ sym e ∙ ap place_of k
 
@@ -123,16 +120,17 @@ module _ {ws : List ℕ} (fit : Right ws) {s : List ℕ} (loaded : s ≡ padded 
 
         -- ---- refusal 6
 
-        module _ {w : List ℕ} (t : Planned) (plans : plan_means t ≡ plan_answer (schedule_of (settings_of s) policy qs)) (fills : Noted (schedule_of (settings_of s) policy qs) w) where
-          planned-as : plan_means t ≡ plan_answer (schedule_of (settings_of ws) policy qs)
+        module _ {w : List ℕ} (t : Result ℕ Refusal) (plans : told (λ n. n) t ≡ plan_answer (schedule_of (settings_of s) policy qs)) (fills : Noted (schedule_of (settings_of s) policy qs) w) where
+          planned-as : told (λ n. n) t ≡ plan_answer (schedule_of (settings_of ws) policy qs)
           planned-as = plans ∙ ap (λ (x : Settings). plan_answer (schedule_of x policy qs)) same
 
-          pub too-late : {i : ℕ} → t ≡ Late i → Meets (refused 6 i) out (schedule_outcome ws qs policy out)
-          too-late {i} m = rw (onward, asked-fine) (go (schedule_of (settings_of ws) policy qs) (sym (ap plan_means m) ∙ planned-as))
+          pub too-late : {x : Refusal} → t ≡ Err x → Meets (refused (number_of x) (refusal.place_of x)) out (schedule_outcome ws qs policy out)
+          too-late {x} m = rw (onward, asked-fine) (go (schedule_of (settings_of ws) policy qs) (sym (ap (told (λ n. n)) m) ∙ planned-as))
             where
-              go : (x : Schedule) → plan_means (Late i) ≡ plan_answer x → Meets (refused 6 i) out (leaves (when_planned x (λ es. fitting out (capture_of ws es))) out)
+              go : (y : Schedule) → told (λ n. n) (Err x) ≡ plan_answer y →
+                  Meets (refused (number_of x) (refusal.place_of x)) out (leaves (when_planned y (λ es. fitting out (capture_of ws es))) out)
               go (planned es) p = let z : ◌≡◌ {A = ℕ} 0 1 = cc in absurd (omega arith)
-              go (late j) p = let z : i ≡ j = cc in rw z (refl, refl)
+              go (late j) p = rw p (refl, refl)
 
           -- ---- the schedule
 
@@ -142,16 +140,16 @@ module _ {ws : List ℕ} (fit : Right ws) {s : List ℕ} (loaded : s ≡ padded 
             pub counted : n ≡ length es
             pub noted : take (2 * length es) w ≡ event_words es
 
-          pub made : {n : ℕ} → t ≡ Events n → Made n
+          pub made : {n : ℕ} → t ≡ Ok n → Made n
           made {n} m =
               let f : Noted (schedule_of (settings_of ws) policy qs) w = subst (λ (x : Settings). Noted (schedule_of x policy qs) w) same fills in
-              go (schedule_of (settings_of ws) policy qs) refl (sym (ap plan_means m) ∙ planned-as) f
+              go (schedule_of (settings_of ws) policy qs) refl (sym (ap (told (λ n. n)) m) ∙ planned-as) f
             where
-              go : (x : Schedule) → schedule_of (settings_of ws) policy qs ≡ x → plan_means (Events n) ≡ plan_answer x → Noted x w → Made n
+              go : (x : Schedule) → schedule_of (settings_of ws) policy qs ≡ x → told (λ n. n) (Ok n) ≡ plan_answer x → Noted x w → Made n
               go (planned es) e p f = record { es = es; is = e; counted = (let z : n ≡ length es = cc in z); noted = f.front es refl }
               go (late j) e p f = let z : ◌≡◌ {A = ℕ} 0 1 = cc in absurd (omega arith)
 
-          module _ {n : ℕ} (m : t ≡ Events n) where
+          module _ {n : ℕ} (m : t ≡ Ok n) where
             few : n ≤ 8000
             few =
                 let y = made m in
@@ -185,11 +183,11 @@ module _ {ws : List ℕ} (fit : Right ws) {s : List ℕ} (loaded : s ≡ padded 
                 onward ∙ (λ i. leaves (unless 5 (asked-fine i) (when_planned ((made m).is i) (λ es. fitting out (capture_of ws es)))) out)
 
             final : (v : Bool) → ltb (length out) (size n) ≡ v →
-                Meets (means (cond v (Refused 7 (size n)) (Written (size n)))) (cond v out (sets out 0 cap)) (leaves (fitting out cap) out)
+                Meets (told (λ n. n) (cond v (Err (Room (size n))) (Ok (size n)))) (cond v out (sets out 0 cap)) (leaves (fitting out cap) out)
             final true k =
                 refused-meets (too_long out cap (omega (arith, long, ltb-true (length out) (size n) k)) ∙ ap (λ (x : ℕ). refused 7 x) long)
             final false k = wrote-meets out cap refl (omega (arith, long, ltb-false (length out) (size n) k)) (sym long) refl
 
-            pub ends : {r : Scheduled} {o : List ℕ} → r ≡ written out n → o ≡ writing ws w n out → Meets (means r) o (schedule_outcome ws qs policy out)
+            pub ends : {r : Result ℕ Refusal} {o : List ℕ} → r ≡ written out n → o ≡ writing ws w n out → Meets (told (λ n. n) r) o (schedule_outcome ws qs policy out)
             unfolding written writing
             ends e f = rw (e, f, whole, outcome-is) (final (ltb (length out) (size n)) refl)

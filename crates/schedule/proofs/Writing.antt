@@ -11,11 +11,12 @@ use Rattle.reading.specs.Settings.{settings_count}
 use Rattle.reading.specs.Capture.{events_start}
 use Rattle.reading.specs.Schedule.{header_of}
 use Rattle.words.proofs.Words.{sets-words}
-use Rattle.schedule.specs.declared.Scheduled.TheVariants.{Refused, Written}
+use Rattle.std.specs.Prelude.{Ok, Err}
+use Rattle.refusal.specs.declared.Refusal.TheVariants.{Room}
 use Rattle.schedule.specs.Meaning.{size, written, writing}
 
 module _ (settings list : List ℕ) (n : ℕ) (out : List ℕ) {bytes : ℕ} (is-size : bytes ≡ size n) where
-  pub too_short : length out < bytes → (Refused 7 bytes ≡ written out n) × (out ≡ writing settings list n out)
+  pub too_short : length out < bytes → (Err (Room bytes) ≡ written out n) × (out ≡ writing settings list n out)
   unfolding written writing
   too_short l = rw (is-size, lt-ltb (length out) (size n) (omega arith)) (refl, refl)
 
@@ -28,6 +29,6 @@ module _ (settings list : List ℕ) (n : ℕ) (out : List ℕ) {bytes : ℕ} (is
         b ∙ ap (λ (o : List ℕ). sets o (events_start settings_count) (bytes_of (take (2 * n) list))) a
         ∙ sets-words out 0 (events_start settings_count) (front ++ settings) (take (2 * n) list) (omega (arith, length-append front settings))
 
-    pub wrote : (Written bytes ≡ written out n) × (o₂ ≡ writing settings list n out)
+    pub wrote : (Ok bytes ≡ written out n) × (o₂ ≡ writing settings list n out)
     unfolding written writing
     wrote = rw (is-size, le-ltb (length out) (size n) (omega arith)) (refl, stored)

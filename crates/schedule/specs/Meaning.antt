@@ -1,5 +1,5 @@
--- What this crate's answers mean in document 01, and what its functions ask of each other.
-use Rattle.std.specs.Prelude.{ℕ, ◌+◌, ◌*◌, ◌≤◌, false, cond, List, ◌++◌, ◌≡◌, ltb, length, take}
+-- What this crate's functions ask of each other, and what they answer in document 01's words.
+use Rattle.std.specs.Prelude.{ℕ, ◌+◌, ◌*◌, ◌≤◌, false, cond, List, ◌++◌, ◌≡◌, ltb, length, take, Result, Ok, Err}
 use Rattle.std.proofs.Math.Option.{none}
 use Rattle.std.proofs.lemmas.List.Edits.{sets}
 use Rattle.reading.specs.Words.{bytes_of}
@@ -7,22 +7,10 @@ use Rattle.reading.specs.Settings.{settings_count, settings_of, newer, out_of_ra
 use Rattle.reading.specs.Capture.{Event, capture_size}
 use Rattle.reading.specs.Schedule.{Schedule, planned, late, bad_request, event_words, header_of}
 use Rattle.reading.specs.Answers.{Answer, refused, answered}
-use Rattle.schedule.specs.declared.Scheduled.{Scheduled}
-use Rattle.schedule.specs.declared.Scheduled.TheVariants.{Refused, Written}
-use Rattle.schedule.specs.declared.Planned.{Planned}
-use Rattle.schedule.specs.declared.Planned.TheVariants.{Late, Events}
-
--- document 01's number and place, or how many bytes were written
-abbrev pub means : Scheduled → Answer ℕ
-means (Refused number place) = refused number place
-means (Written bytes) = answered bytes
+use Rattle.refusal.specs.declared.Refusal.{Refusal}
+use Rattle.refusal.specs.declared.Refusal.TheVariants.{Room}
 
 -- ---- the walk over the requests
-
--- document 01's number and place, or how many events there are
-abbrev pub plan_means : Planned → Answer ℕ
-plan_means (Late request) = refused 6 request
-plan_means (Events count) = answered count
 
 -- so many events, or the request at which refresh cannot be kept
 abbrev pub plan_answer : Schedule → Answer ℕ
@@ -50,8 +38,8 @@ pub record Writable (settings list : List ℕ) (n : ℕ) : Type 0 where
 abbrev pub size : ℕ → ℕ
 size n = capture_size settings_count n
 
-unfoldable pub written : List ℕ → ℕ → Scheduled
-written out n = cond (ltb (length out) (size n)) (Refused 7 (size n)) (Written (size n))
+unfoldable pub written : List ℕ → ℕ → Result ℕ Refusal
+written out n = cond (ltb (length out) (size n)) (Err (Room (size n))) (Ok (size n))
 
 unfoldable pub writing : List ℕ → List ℕ → ℕ → List ℕ → List ℕ
 writing settings list n out =

@@ -7,28 +7,16 @@ ghost use Rattle.reading.specs.Rules.{placing};
 ghost use Rattle.reading.specs.Schedule.{schedule_by};
 ghost use Rattle.reading.specs.Answers.{schedule_outcome};
 ghost use Rattle.settings.specs.Meaning.{padded};
-ghost use Rattle.schedule.specs.Meaning.{means, plan_means, plan_answer, Noted, Plannable, Writable, written, writing};
+ghost use Rattle.refusal.specs.Refusal.{told};
+ghost use Rattle.schedule.specs.Meaning.{plan_answer, Noted, Plannable, Writable, written, writing};
 
 use capture::front;
 use deadlines::sums;
-use serving::Turn;
+use drafts::Scheduler;
+use refusal::Refusal;
 use settings::places::MODE;
-use settings::{COUNT, Checked, HELD, Settings};
-use words::Found;
-
-// What is said of settings, requests and a buffer.
-#[derive(Clone, Copy)]
-pub enum Scheduled {
-    Refused { number: u32, place: u32 },
-    Written { bytes: u32 },
-}
-
-// What becomes of the requests: so many events, or the request at which refresh cannot be kept.
-#[derive(Clone, Copy)]
-enum Planned {
-    Late(u32),
-    Events(u32),
-}
+use settings::{COUNT, HELD, Settings};
+use soonest::State;
 
 // Rows are left open, or closed behind each burst.
 pub const OPEN_ROWS: u32 = 0;
@@ -48,94 +36,77 @@ fn fourteen(settings: &[u32]) -> Settings
     ensures { result ≡ padded settings.now }
 {
     let mut s = [0u32; HELD];
-    'settings: for i in 0..COUNT {
-        s[i] = settings[i];
-    }
+    s[..COUNT].copy_from_slice(settings);
     s
 }
 
 // Request after request, until refresh cannot be kept. The words of the events stand from the front on.
-fn plan(s: &Settings, requests: &[u32], closed: bool, words: &mut [u32]) -> Planned
+fn plan(s: &Settings, requests: &[u32], closed: bool, words: &mut [u32]) -> Result<u32, Refusal>
     requires { Plannable s.now requests.now words.old }
-    ensures result_value { plan_means result ≡ plan_answer (schedule_by placing (settings_of s.now) closed requests.now) }
+    ensures result_value { told (λ n. n) result ≡ plan_answer (schedule_by placing (settings_of s.now) closed requests.now) }
     ensures noted { Noted (schedule_by placing (settings_of s.now) closed requests.now) words.new }
 {
-    let mut d = effects::start(s);
-    let mut k = [0u64; soonest::KEPT];
-    let pace = sums::pace(s[MODE]);
-    let margin = serving::margin(s, &pace);
+    let scheduler = Scheduler {
+        settings: s,
+        pace: sums::pace(s[MODE]),
+        closed,
+    };
+    let margin = serving::margin(&scheduler);
+    let mut state = State {
+        deadlines: effects::start(s),
+        rows: [0; 4],
+        read_end: 0,
+        write_end: 0,
+        free: 0,
+        events: 0,
+    };
     // Room for what a turn sets aside.
-    let mut earlier = d;
-    let mut stood = k;
-    'requests: for i in 0..requests.len() {
-        let turn = serving::serve(
-            s,
-            &mut d,
-            &mut k,
-            words,
-            &mut earlier,
-            &mut stood,
-            &pace,
-            closed,
-            margin,
-            requests[i],
-        );
-        let Turn::Kept = turn else {
-            return Planned::Late(i as u32);
+    let mut earlier = state;
+    'requests: for (i, q) in requests.iter().enumerate() {
+        let turn = serving::serve(&scheduler, &mut state, words, &mut earlier, margin, *q);
+        let Ok(()) = turn else {
+            return Err(Refusal::Late(i as u32));
         };
     }
-    Planned::Events(k[soonest::EVENTS] as u32)
+    Ok(state.events as u32)
 }
 
 // The capture of n events, if the buffer holds it.
-fn write(settings: &[u32], list: &[u32], n: u32, out: &mut [u8]) -> Scheduled
+fn write(settings: &[u32], list: &[u32], n: u32, out: &mut [u8]) -> Result<u32, Refusal>
     requires { Writable settings.now list.now n }
     ensures value { result ≡ written out.old n }
     ensures out_after { out.new ≡ writing settings.now list.now n out.old }
 {
     let bytes = front::size(n);
     if out.len() < bytes as usize {
-        return Scheduled::Refused {
-            number: 7,
-            place: bytes,
-        };
+        return Err(Refusal::Room(bytes));
     }
     front::put(settings, OLD_EDITION, n, out);
-    words::put_words(out, capture::EVENTS, list, 2 * (n as usize));
-    Scheduled::Written { bytes }
+    words::put_words(out, capture::EVENTS, &list[..2 * (n as usize)]);
+    Ok(bytes)
 }
 
-// What document 01 says of these settings, requests and row policy, and the schedule in the buffer; bytes behind it stay.
-pub fn schedule(settings: &[u32], requests: &[u32], policy: u32, out: &mut [u8]) -> Scheduled
-    ensures result_value { means result ≡ (schedule_outcome settings.now requests.now policy out.old).answer }
+// What document 01 says of these settings, requests and row policy, and the schedule in the buffer; bytes behind it stay. The
+// policy is a number, as C gives it.
+pub fn schedule(
+    settings: &[u32],
+    requests: &[u32],
+    policy: u32,
+    out: &mut [u8],
+) -> Result<u32, Refusal>
+    ensures result_value { told (λ n. n) result ≡ (schedule_outcome settings.now requests.now policy out.old).answer }
     ensures out_after { out.new ≡ (schedule_outcome settings.now requests.now policy out.old).buffer }
 {
-    let checked = settings::check(settings);
-    if let Checked::Refused { number, place } = checked {
-        return Scheduled::Refused { number, place };
-    }
+    settings::check(settings)?;
     if CLOSED_ROWS < policy {
-        return Scheduled::Refused {
-            number: 10,
-            place: 0,
-        };
+        return Err(Refusal::Policy);
     }
     let s = fourteen(settings);
-    let bad = requests::lowest_bad(&s, requests);
-    if let Found::At(i) = bad {
-        return Scheduled::Refused {
-            number: 5,
-            place: i,
-        };
+    if let Some(i) = requests::lowest_bad(&s, requests) {
+        return Err(Refusal::Request(i));
     }
     // Any word would do: none is read before it is noted.
     let mut list = [0u32; WORDS];
-    let planned = plan(&s, requests, policy == CLOSED_ROWS, &mut list);
-    match planned {
-        Planned::Late(i) => Scheduled::Refused {
-            number: 6,
-            place: i,
-        },
-        Planned::Events(n) => write(settings, &list, n, out),
-    }
+    let n = plan(&s, requests, policy == CLOSED_ROWS, &mut list)?;
+    write(settings, &list, n, out)
 }

@@ -13,6 +13,8 @@ use Rattle.reading.specs.Schedule.{cell_row, first_cell, cell_bank}
 use Rattle.deadlines.specs.Deadlines.{OPENED, at, all_idle}
 use Rattle.plan.specs.Behind.{ROW, FREE, EVENTS}
 use Rattle.plan.specs.Draft.{Draft, noted, activating, closing_bank, bursting, opening, requesting, closing_all, idling, refreshing_idle, refreshing}
+use Rattle.soonest.specs.declared.State.{State}
+use Rattle.soonest.specs.Standing.{standing}
 use Rattle.drafts.specs.Room.{Room, draft}
 
 pub record Grows (n : ℕ) (x y : Draft) : Type 0 where
@@ -79,16 +81,17 @@ module _ (s : Settings) where
   refresh-grows x = grows-on (idle-grows x) (noted-grows (idling s x) _ _ _ _)
 
 -- there is room for the rest
-pub room_after : {d k w : List ℕ} (n m : ℕ) → Room k w (n + m) → {y : Draft} → Grows n (draft d k w) y → {d' k' w' : List ℕ} → draft d' k' w' ≡ y → Room k' w' m
-room_after n m r {y} g {d'} {k'} {w'} e =
-    let count : at k' EVENTS ≡ at y.standing EVENTS = ap (λ (z : Draft). at z.standing EVENTS) e in
-    let size : length w' ≡ length y.words = ap (λ (z : Draft). length z.words) e in
-    record { more = omega (arith, r.more, g.count, g.size, count, size) }
-
-pub room_for : {k w : List ℕ} (n m : ℕ) → Room k w n → m ≤ n → Room k w m
+pub room_for : {x : State} {w : List ℕ} (n m : ℕ) → Room x w n → m ≤ n → Room x w m
 room_for n m r l = record { more = omega (arith, r.more) }
 
--- the standing of before, with words that are as many
-pub room-again : {d k w : List ℕ} (n m : ℕ) → Room k w n → m ≤ n → {l : ℕ} {y : Draft} → Grows l (draft d k w) y → {d' k' w' : List ℕ} → draft d' k' w' ≡ y → Room k w' m
-room-again n m r l g {w' = w'} e =
-    let size : length w' ≡ _ = ap (λ (z : Draft). length z.words) e in record { more = omega (arith, r.more, g.size, size) }
+module _ (x : State) {w : List ℕ} {y : Draft} where
+  pub room_after : (n m : ℕ) → Room x w (n + m) → Grows n (draft x w) y → (x' : State) → {w' : List ℕ} → draft x' w' ≡ y → Room x' w' m
+  room_after n m r g x' {w'} e =
+      let count : at (standing x') EVENTS ≡ at y.standing EVENTS = ap (λ (z : Draft). at z.standing EVENTS) e in
+      let size : length w' ≡ length y.words = ap (λ (z : Draft). length z.words) e in
+      record { more = omega (arith, r.more, g.count, g.size, count, size) }
+
+  -- the standing of before, with words that are as many
+  pub room-again : (n m : ℕ) → Room x w n → m ≤ n → {l : ℕ} → Grows l (draft x w) y → (x' : State) → {w' : List ℕ} → draft x' w' ≡ y → Room x w' m
+  room-again n m r l g x' {w'} e =
+      let size : length w' ≡ _ = ap (λ (z : Draft). length z.words) e in record { more = omega (arith, r.more, g.size, size) }

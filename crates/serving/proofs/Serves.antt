@@ -4,6 +4,7 @@ use mathlib.Core.Bool.{Bool, true, false}
 use mathlib.Core.List.{List, []}
 use mathlib.Core.Path.{◌≡◌, sym, ap, ◌∙◌}
 use lib.Dec.{ltb}
+use lib.ListN.{length}
 use borrow.Author.Tests.{eq-eqb, ne_eqb}
 use Rattle.reading.specs.Settings.{Settings}
 use Rattle.reading.specs.Schedule.{asks_write, first_cell, cell_bank, cell_row, burst_pins}
@@ -11,6 +12,9 @@ use Rattle.deadlines.specs.Deadlines.{OPENED, OVERDUE, at, pace_of, all_idle, cl
 use Rattle.plan.specs.Behind.{ROW, FREE}
 use Rattle.plan.specs.Soonest.{close_all_soonest, refresh_soonest}
 use Rattle.plan.specs.Draft.{Draft, cycle_for, activating, closing_bank, bursting, opening, requesting, closing_all, idling, refresh_at, refreshing_idle, refreshing, closed_refresh_at, timely}
+use Rattle.soonest.specs.declared.State.{State}
+use Rattle.soonest.specs.Standing.{standing}
+use Rattle.soonest.proofs.Places.{free-is}
 use Rattle.drafts.specs.Room.{draft}
 
 -- ---- the row
@@ -53,21 +57,23 @@ module _ (s : Settings) (x : Draft) {v : Bool} (told : v ≡ all_idle x.deadline
 
 -- ---- the test
 
-module _ (s : Settings) (d k : List ℕ) where
-  pub closed_at : {m : List ℕ} → m ≡ pace_of s.mode → {first t after soonest r : ℕ} → first ≡ close_all_soonest d k → t ≡ cycle_for (at k FREE) first →
-      {e : List ℕ} → e ≡ close_all_after s d m t → after ≡ t + 1 → soonest ≡ refresh_soonest e → r ≡ cycle_for after soonest → r ≡ closed_refresh_at s (draft d k [])
+module _ (s : Settings) (x : State) (four : length x.rows ≡ 4) where
+  pub closed_at : {m : List ℕ} → m ≡ pace_of s.mode → {first t after soonest r : ℕ} → first ≡ close_all_soonest x.deadlines (standing x) → t ≡ cycle_for x.free first →
+      {e : List ℕ} → e ≡ close_all_after s x.deadlines m t → after ≡ t + 1 → soonest ≡ refresh_soonest e → r ≡ cycle_for after soonest → r ≡ closed_refresh_at s (draft x [])
   unfolding closed_refresh_at
-  closed_at mm ff tt ee aa ss rr =
-      let at_once = tt ∙ ap (cycle_for (at k FREE)) ff in
-      let left = ee ∙ (λ i. close_all_after s d (mm i) (at_once i)) in
+  closed_at mm {first = first} ff tt ee aa ss rr =
+      let at_once = tt ∙ ap (λ (f : ℕ). cycle_for f first) (sym (free-is x four)) ∙ ap (cycle_for (at (standing x) FREE)) ff in
+      let left = ee ∙ (λ i. close_all_after s x.deadlines (mm i) (at_once i)) in
       rr ∙ (λ i. cycle_for ((aa ∙ ap (λ (u : ℕ). u + 1) at_once) i) ((ss ∙ ap refresh_soonest left) i))
 
-  module _ {v : Bool} (told : v ≡ all_idle d) where
-    pub timely-idle : v ≡ true → {soonest t : ℕ} → soonest ≡ refresh_soonest d → t ≡ cycle_for (at k FREE) soonest →
-        ltb t (at d OVERDUE) ≡ timely s (draft d k [])
+  module _ {v : Bool} (told : v ≡ all_idle x.deadlines) where
+    pub timely-idle : v ≡ true → {soonest t : ℕ} → soonest ≡ refresh_soonest x.deadlines → t ≡ cycle_for x.free soonest →
+        ltb t (at x.deadlines OVERDUE) ≡ timely s (draft x [])
     unfolding timely refresh_at
-    timely-idle e ss tt = rw (sym told ∙ e) (ap (λ (t : ℕ). ltb t (at d OVERDUE)) (tt ∙ ap (cycle_for (at k FREE)) ss))
+    timely-idle e {soonest} ss tt =
+        rw (sym told ∙ e)
+        (ap (λ (t : ℕ). ltb t (at x.deadlines OVERDUE)) (tt ∙ ap (λ (f : ℕ). cycle_for f soonest) (sym (free-is x four)) ∙ ap (cycle_for (at (standing x) FREE)) ss))
 
-    pub timely-open : v ≡ false → {t : ℕ} → t ≡ closed_refresh_at s (draft d k []) → ltb t (at d OVERDUE) ≡ timely s (draft d k [])
+    pub timely-open : v ≡ false → {t : ℕ} → t ≡ closed_refresh_at s (draft x []) → ltb t (at x.deadlines OVERDUE) ≡ timely s (draft x [])
     unfolding timely
-    timely-open e tt = rw (sym told ∙ e) (ap (λ (t : ℕ). ltb t (at d OVERDUE)) tt)
+    timely-open e tt = rw (sym told ∙ e) (ap (λ (t : ℕ). ltb t (at x.deadlines OVERDUE)) tt)

@@ -2,18 +2,18 @@
 use Rattle.std.specs.Prelude.{ℕ, ◌+◌, ◌^◌, ◌<◌, Bool, true, cond, List, ◌≡◌, ltb}
 use Rattle.reading.specs.Settings.{Settings}
 use Rattle.deadlines.specs.Deadlines.{OVERDUE, at}
-use Rattle.plan.specs.Behind.{FREE}
 use Rattle.plan.specs.Draft.{timely, alone}
+use Rattle.soonest.specs.declared.State.{State}
 use Rattle.drafts.specs.Room.{draft}
 
 -- the ninth refresh owed is more than the margin away
-abbrev pub far : ℕ → List ℕ → List ℕ → Bool
-far margin d k = ltb (at k FREE + margin) (at d OVERDUE)
+abbrev pub far : ℕ → State → Bool
+far margin x = ltb (x.free + margin) (at x.deadlines OVERDUE)
 
-pub record Sure (s : Settings) (closed : Bool) (q margin : ℕ) (d k words : List ℕ) : Type 0 where
-  pub small : at k FREE + margin < 2 ^ 64
-  pub sure : far margin d k ≡ true → timely s (alone s closed q (draft d k words)) ≡ true
+pub record Sure (s : Settings) (closed : Bool) (q margin : ℕ) (x : State) (words : List ℕ) : Type 0 where
+  pub small : x.free + margin < 2 ^ 64
+  pub sure : far margin x ≡ true → timely s (alone s closed q (draft x words)) ≡ true
 
 -- what stood before a request is set aside where it may have to be taken back
-abbrev pub set_aside : Bool → List ℕ → List ℕ → List ℕ
+abbrev pub set_aside : Bool → State → State → State
 set_aside sure old before = cond sure old before

@@ -13,8 +13,8 @@ use Rattle.reading.specs.Mode.{mode_word}
 use Rattle.reading.specs.Settings as reading
 use Rattle.reading.specs.Settings.{settings_of, setting_fits, out_of_range, contradiction, bad_setting}
 use Rattle.words.specs.Found.{place_of}
-use Rattle.words.specs.declared.Found.{Found}
-use Rattle.words.specs.declared.Found.TheVariants.{Nothing, At}
+use Rattle.std.specs.Prelude.{Some, None}
+use Rattle.std.specs.Prelude as std
 use Rattle.words.proofs.Search as search
 use Rattle.words.proofs.Search.{found_from}
 use Rattle.reading.specs.Answers.{refused, answered}
@@ -120,11 +120,11 @@ module _ (ws : List ℕ) where
   unfolding checked
   wrong-count h = rw (ne_eqb (length ws) 14 h)
 
-  module _ (h : length ws ≡ 14) (r : Found) where
-    pub all_fit : r ≡ Nothing → place_of r ≡ bad_among ws 14 → checked ws ≡ answered tt
+  module _ (h : length ws ≡ 14) (r : std.Option ℕ) where
+    pub all_fit : r ≡ None → place_of r ≡ bad_among ws 14 → checked ws ≡ answered tt
     unfolding checked bad_setting
     all_fit e p = rw (h, sym p, e)
 
-    pub one-unfit : {i : ℕ} → r ≡ At i → place_of r ≡ bad_among ws 14 → checked ws ≡ refused 3 i
+    pub one-unfit : {i : ℕ} → r ≡ Some i → place_of r ≡ bad_among ws 14 → checked ws ≡ refused 3 i
     unfolding checked bad_setting
     one-unfit e p = rw (h, sym p, e)

@@ -1,16 +1,9 @@
--- What this crate's types mean in document 01.
+-- What document 01 says of a list of settings, and the list of words that holds them.
 use Rattle.std.specs.Prelude.{ℕ, ◌+◌, ◌-◌, not, List, ◌++◌, length, replicate, set, eqb}
 use Rattle.std.proofs.Math.Option.{Option}
 use Rattle.reading.specs.Search.{or_else, given}
 use Rattle.reading.specs.Settings.{sleeping_count, settings_of, out_of_range, contradiction, bad_setting}
-use Rattle.reading.specs.Answers.{Answer, refused, answered, unless}
-use Rattle.settings.specs.declared.Checked.{Checked}
-use Rattle.settings.specs.declared.Checked.TheVariants.{Fine, Refused}
-
--- document 01's number and place
-abbrev pub means : Checked → Answer (Unit {0})
-means Fine = answered tt
-means (Refused number place) = refused number place
+use Rattle.reading.specs.Answers.{Answer, answered, unless}
 
 -- refusals 2 and 3 of a list of settings
 unfoldable pub checked : List ℕ → Answer (Unit {0})

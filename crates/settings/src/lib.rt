@@ -6,12 +6,13 @@ pub mod places;
 
 ghost use Rattle.std.specs.Prelude.{◌≡◌, ◌≤◌, ◌<◌, length};
 ghost use Rattle.words.specs.Found.{place_of};
+ghost use Rattle.refusal.specs.Refusal.{passed};
 ghost use Rattle.reading.specs.Mode.{mode_word};
 ghost use Rattle.reading.specs.Settings.{setting_fits};
-ghost use Rattle.settings.specs.Meaning.{means, checked, bad_among};
+ghost use Rattle.settings.specs.Meaning.{checked, bad_among};
 
 use places::{T_RAS, T_RC, T_RP};
-use words::Found;
+use refusal::Refusal;
 
 // How many settings there are, and how many with those of sleep.
 pub const COUNT: usize = 14;
@@ -46,32 +47,13 @@ const LIMITS: [Limits; SLEEPING] = [
     Limits(1, 10_000), // tXSR
 ];
 
-// What is wrong with a list of settings, or with a capture.
-#[derive(Clone, Copy)]
-pub enum Checked {
-    Fine,
-    Refused { number: u32, place: u32 },
-}
-
 // Rule 2's test of a mode word.
 pub fn mode_word(w: u32) -> bool
     ensures { result ≡ mode_word w }
 {
     let length = w % 8;
     let latency = mode::latency(w);
-    if length < 1 {
-        return false;
-    }
-    if 4 < length {
-        return false;
-    }
-    if latency < 2 {
-        return false;
-    }
-    if 3 < latency {
-        return false;
-    }
-    w < 128
+    1 <= length && length <= 4 && 2 <= latency && latency <= 3 && w < 128
 }
 
 // Word w may be setting i.
@@ -93,7 +75,7 @@ pub fn setting_fits(i: usize, w: u32) -> bool
 }
 
 // The lowest of n settings that is out of its row's limits or no mode word; where all fit, a tRC above tRAS + tRP.
-pub fn lowest_bad(words: &[u32], n: usize) -> Found
+pub fn lowest_bad(words: &[u32], n: usize) -> Option<u32>
     requires { (14 ≤ n) × (n ≤ 16) × (n ≤ length words.now) }
     ensures { place_of result ≡ bad_among words.now n }
 {
@@ -101,26 +83,23 @@ pub fn lowest_bad(words: &[u32], n: usize) -> Found
         if setting_fits(i, words[i]) {
             continue 'settings;
         }
-        return Found::At(i as u32);
+        return Some(i as u32);
     }
     if words[T_RAS] + words[T_RP] < words[T_RC] {
-        return Found::At(T_RC as u32);
+        return Some(T_RC as u32);
     }
-    Found::Nothing
+    None
 }
 
 // Refusals 2 and 3 of a list of settings.
-pub fn check(words: &[u32]) -> Checked
-    ensures { means result ≡ checked words.now }
+pub fn check(words: &[u32]) -> Result<(), Refusal>
+    ensures { passed result ≡ checked words.now }
 {
     if words.len() != COUNT {
-        return Checked::Refused {
-            number: 2,
-            place: 0,
-        };
+        return Err(Refusal::Header);
     }
-    let Found::At(place) = lowest_bad(words, COUNT) else {
-        return Checked::Fine;
+    let Some(place) = lowest_bad(words, COUNT) else {
+        return Ok(());
     };
-    Checked::Refused { number: 3, place }
+    Err(Refusal::Setting(place))
 }

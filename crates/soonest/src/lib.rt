@@ -1,10 +1,13 @@
-// When a command of a schedule may go: not before the deadlines that the rules ask of it, nor before the end of a burst that
-// it would cut (specs of `plan`).
+// Where a schedule stands, and when a command of it may go: not before the deadlines that the rules ask of it, nor before the
+// end of a burst that it would cut (specs of `plan`).
 #![tactic(auto)]
 
 ghost use Rattle.std.specs.Prelude.{◌≡◌, ◌+◌, ◌<◌};
-ghost use Rattle.deadlines.specs.Deadlines.{other_bank};
-ghost use Rattle.plan.specs.Soonest.{active_soonest, read_soonest, write_soonest, burst_soonest, close_soonest, open_till, all_till, close_all_soonest, refresh_soonest};
+ghost use Rattle.reading.specs.Search.{later};
+ghost use Rattle.deadlines.specs.Deadlines.{at, other_bank};
+ghost use Rattle.deadlines.specs.Deadlines as is;
+ghost use Rattle.plan.specs.Soonest.{active_soonest, burst_soonest, close_soonest, open_till, all_till, close_all_soonest, refresh_soonest};
+ghost use Rattle.soonest.specs.Standing.{standing};
 
 use deadlines::Deadlines;
 use deadlines::places::{
@@ -12,22 +15,19 @@ use deadlines::places::{
 };
 use deadlines::sums::{latest, pick};
 
-// How many numbers are kept beside the deadlines, and all of them.
-pub const KEPT: usize = 8;
-
-pub type Standing = [u64; KEPT];
-
-// The row that each bank was opened on; until when the last read and the last write can be cut, 0 with auto precharge; the
-// next free cycle, and how many events there are.
-pub const ROW: usize = 0;
-
-pub const READ_END: usize = 4;
-
-pub const WRITE_END: usize = 5;
-
-pub const FREE: usize = 6;
-
-pub const EVENTS: usize = 7;
+// What is kept of a schedule while it is written.
+#[derive(Clone, Copy)]
+pub struct State {
+    pub deadlines: Deadlines,
+    // The row that each bank was opened on.
+    pub rows: [u64; 4],
+    // Until when the last read and the last write can be cut, 0 with auto precharge.
+    pub read_end: u64,
+    pub write_end: u64,
+    // The next free cycle, and how many events there are.
+    pub free: u64,
+    pub events: usize,
+}
 
 // Rule 7 asks nothing of the bank itself.
 fn other(d: &Deadlines, b: usize, i: usize) -> u64
@@ -46,39 +46,36 @@ pub fn active(d: &Deadlines, b: usize) -> u64
     latest(d[BUSY], latest(d[REST + b], apart))
 }
 
-fn read(d: &Deadlines, k: &Standing, b: usize) -> u64
+// What READ and WRITE of bank b wait for alike, and what each waits for by itself: the bus, a burst of the other kind, and the end
+// of one that it would cut.
+fn waits(d: &Deadlines, b: usize, bus: u64, other: u64, end: u64) -> u64
     requires { b < 4 }
-    ensures { result ≡ read_soonest d.now k.now b }
+    ensures { result ≡ later (later (at d.now is.BUSY) (later (at d.now (is.COLUMN + b)) (later bus other))) end }
 {
-    let rules = latest(d[BUSY], latest(d[COLUMN + b], latest(d[END], d[READS])));
-    latest(rules, k[READ_END])
+    let rules = latest(d[BUSY], latest(d[COLUMN + b], latest(bus, other)));
+    latest(rules, end)
 }
 
-fn write(d: &Deadlines, k: &Standing, b: usize) -> u64
+// READ or WRITE of a bank that is open.
+pub fn burst(write: bool, state: &State, b: usize) -> u64
     requires { b < 4 }
-    ensures { result ≡ write_soonest d.now k.now b }
+    ensures { result ≡ burst_soonest write state.now.deadlines (standing state.now) b }
 {
-    let rules = latest(d[BUSY], latest(d[COLUMN + b], latest(d[BUS], d[WRITES])));
-    latest(rules, k[WRITE_END])
-}
-
-pub fn burst(asked: bool, d: &Deadlines, k: &Standing, b: usize) -> u64
-    requires { b < 4 }
-    ensures { result ≡ burst_soonest asked d.now k.now b }
-{
-    if asked {
-        return write(d, k, b);
+    let d = &state.deadlines;
+    if write {
+        return waits(d, b, d[BUS], d[WRITES], state.write_end);
     }
-    read(d, k, b)
+    waits(d, b, d[END], d[READS], state.read_end)
 }
 
 // PRECHARGE of a bank that is open.
-pub fn close(d: &Deadlines, k: &Standing, b: usize) -> u64
+pub fn close(state: &State, b: usize) -> u64
     requires { b < 4 }
-    ensures { result ≡ close_soonest d.now k.now b }
+    ensures { result ≡ close_soonest state.now.deadlines (standing state.now) b }
 {
+    let d = &state.deadlines;
     let rules = latest(d[BUSY], latest(d[CLOSE + b], d[WRITTEN + b]));
-    latest(rules, pick(d[LAST] == b as u64, k[READ_END], 0))
+    latest(rules, pick(d[LAST] == b as u64, state.read_end, 0))
 }
 
 // What is asked of bank i at some place of the deadlines, nothing if it is idle.
@@ -98,10 +95,11 @@ fn all_till(d: &Deadlines, place: usize, rest: u64) -> u64
 }
 
 // PRECHARGE of all banks.
-pub fn close_all(d: &Deadlines, k: &Standing) -> u64
-    ensures { result ≡ close_all_soonest d.now k.now }
+pub fn close_all(state: &State) -> u64
+    ensures { result ≡ close_all_soonest state.now.deadlines (standing state.now) }
 {
-    let written = all_till(d, WRITTEN, k[READ_END]);
+    let d = &state.deadlines;
+    let written = all_till(d, WRITTEN, state.read_end);
     latest(d[BUSY], all_till(d, CLOSE, written))
 }
 

@@ -124,8 +124,11 @@ module _ (s : Settings) (d m : List ℕ) (t w : ℕ) where
   -- so a function that tells and leaves what its command does meets the step's contract
   abbrev pub Meets : ℕ → List ℕ → List ℕ → Type 0
   Meets told d' m' =
-      (told ≡ step_breaks s d t w)
-      × ((d' ≡ left_by (step_breaks s d t w) (step_after s d m t w) d) × (m' ≡ left_by (step_breaks s d t w) (pace_after m w) m))
+      record {
+        value : told ≡ step_breaks s d t w;
+        d_after : d' ≡ left_by (step_breaks s d t w) (step_after s d m t w) d;
+        pace_after : m' ≡ left_by (step_breaks s d t w) (pace_after m w) m;
+      }
 
 pub untouched : (rule : ℕ) (x : List ℕ) → x ≡ left_by rule x x
 untouched rule x = sym (either_way (eqb rule 0) x)
@@ -133,7 +136,7 @@ untouched rule x = sym (either_way (eqb rule 0) x)
 module _ {s : Settings} {d m : List ℕ} {t w : ℕ} where
   pub met : {rule : ℕ} {after pace : List ℕ} → Does s d m t w rule after pace → {told : ℕ} {d' m' : List ℕ} →
       told ≡ rule → d' ≡ left_by rule after d → m' ≡ left_by rule pace m → Meets s d m t w told d' m'
-  met k a b e = rw (k.breaks, k.leaves, k.sets) (a, (b, e))
+  met k a b e = rw (k.breaks, k.leaves, k.sets) (record { value = a; d_after = b; pace_after = e })
 
   -- where h and CL are left alone
   pub met-paced : {rule : ℕ} {after : List ℕ} → Does s d m t w rule after m → {told : ℕ} {d' : List ℕ} →

@@ -22,15 +22,19 @@ never-left rule after before = go (eqb rule 0) refl
 
 module _ (s : Settings) (d : List ℕ) (t w : ℕ) where
   abbrev pub MeetsLow : ℕ → List ℕ → Type 0
-  MeetsLow told d' = (told ≡ step_breaks s d t w) × (d' ≡ left_by (step_breaks s d t w) (low_step_after d t w) d)
+  MeetsLow told d' =
+      record {
+        value : told ≡ step_breaks s d t w;
+        d_after : d' ≡ left_by (step_breaks s d t w) (low_step_after d t w) d;
+      }
 
   pub met-quiet : low_of w ≡ true → quiet_code (code_of w) ≡ true → {told : ℕ} {d' : List ℕ} →
       told ≡ low_breaks d t → d' ≡ left_by (low_breaks d t) (low_after d t) d → MeetsLow told d'
-  met-quiet l n a b = rw ((low-quiet s d [] t w refl l n).breaks, quiet-not (code_of w) 8 refl n) (a, b)
+  met-quiet l n a b = rw ((low-quiet s d [] t w refl l n).breaks, quiet-not (code_of w) 8 refl n) (record { value = a; d_after = b })
 
   pub met-refresh : low_of w ≡ true → code_of w ≡ 8 → {told : ℕ} {d' : List ℕ} →
       told ≡ self_breaks d t → d' ≡ left_by (self_breaks d t) (self_after d) d → MeetsLow told d'
-  met-refresh l e a b = rw ((low-refresh s d [] t w l e).breaks, e) (a, b)
+  met-refresh l e a b = rw ((low-refresh s d [] t w l e).breaks, e) (record { value = a; d_after = b })
 
   -- the six commands that may not come, by the rule that each breaks with CKE high
   pub met-barred : (k : ℕ) → eqb k 8 ≡ false → quiet_code k ≡ false → low_of w ≡ true → code_of w ≡ k → {rule told : ℕ} →
@@ -39,7 +43,7 @@ module _ (s : Settings) (d : List ℕ) (t w : ℕ) where
       let broken : step_breaks s d t w ≡ unless_lower (high_breaks s d t w) =
       (low-command s d [] t w l (ap (λ (c : ℕ). eqb c 8) e ∙ n) (ap quiet_code e ∙ q)).breaks
       in
-      rw broken (a ∙ ap unless_lower f, never-left (high_breaks s d t w) (low_step_after d t w) d)
+      rw broken (record { value = a ∙ ap unless_lower f; d_after = never-left (high_breaks s d t w) (low_step_after d t w) d })
 
   pub high-active : {b a : ℕ} → b ≡ bank_of w → a ≡ address_of w → code_of w ≡ 12 → active_breaks s d t b a ≡ high_breaks s d t w
   high-active f g e = rw (f, g, e)
@@ -77,4 +81,4 @@ module _ (s : Settings) (d m : List ℕ) (t w : ℕ) where
 
   pub met-low : low_of w ≡ true → {told : ℕ} {d' : List ℕ} → MeetsLow s d t w told d' → Meets s d m t w told d' m
   unfolding step_after
-  met-low l k = (k.0, (rw l k.1, paced l))
+  met-low l k = record { value = k.value; d_after = rw l k.d_after; pace_after = paced l }

@@ -7,24 +7,22 @@ use lib.ListN.{length, get_or}
 use Rattle.words.proofs.Search.{one_less, none_left}
 use Rattle.trials.specs.Stored.{stored, stored_from}
 
-pub record Storing (list out₀ out : List ℕ) (at i : ℕ) : Type 0 where
+pub record Storing (list out₀ out : List ℕ) (i : ℕ) : Type 0 where
   pub within : i ≤ 14
-  pub place : at ≡ 24 + 4 * i
   pub long : length out ≡ length out₀
   pub same : stored_from out list i (14 - i) ≡ stored_from out₀ list 0 14
 
-pub stores-none : (list out : List ℕ) → Storing list out out 24 0
-stores-none list out = record { within = omega arith; place = refl; long = refl; same = refl }
+pub stores-none : (list out : List ℕ) → Storing list out out 0
+stores-none list out = record { within = omega arith; long = refl; same = refl }
 
-module _ {list out₀ out : List ℕ} {at i : ℕ} (x : Storing list out₀ out at i) where
-  pub stores-on : (next : List ℕ) → next ≡ stored out at (get_or list i 0) → length next ≡ length out → i < 14 → Storing list out₀ next (at + 4) (i + 1)
+module _ {list out₀ out : List ℕ} {i : ℕ} (x : Storing list out₀ out i) where
+  pub stores-on : (next : List ℕ) → next ≡ stored out (24 + 4 * i) (get_or list i 0) → length next ≡ length out → i < 14 → Storing list out₀ next (i + 1)
   stores-on next stands long m =
       record {
         within = omega arith;
-        place = omega (arith, x.place);
         long = long ∙ x.long;
         same =
-            rw (stands, x.place)
+            rw stands
             (sym (ap (stored_from out list i) (one_less 14 i m)) ∙ x.same);
       }
 

@@ -19,9 +19,7 @@ pub fn store(out: &mut [u8], at: u32, word: u32)
 pub fn store_settings(out: &mut [u8], list: &[u32; settings::COUNT])
     ensures { out.new ≡ stored_from out.old list.now 0 14 }
 {
-    let mut at = 24;
-    for i in 0..settings::COUNT {
-        store(out, at, list[i]);
-        at += 4;
+    for (i, word) in list.iter().enumerate() {
+        store(out, 24 + 4 * i as u32, *word);
     }
 }

@@ -3,11 +3,29 @@ ghost use Rattle.std.specs.Prelude.{◌≡◌, ◌≤◌};
 ghost use Rattle.reading.specs.Settings.{settings_of, newer as is_newer};
 ghost use Rattle.wording.specs.Values.{shown, is_sleeping};
 
-use console::{Out, say, say_number, say_word};
-use settings::places::{EDITION, T_RAS, T_RC, T_RP, T_XP};
+use console::Out;
+use settings::places::{EDITION, MODE, T_RAS, T_RC, T_RP, T_XP};
 use settings::{COUNT, HELD, SLEEPING, Settings, mode};
 
-const MODE: u32 = settings::places::MODE as u32;
+// The names of the settings, in their order.
+const NAMES: [&str; SLEEPING] = [
+    "lane code",
+    "row bits",
+    "column bits",
+    "mode word",
+    "tRCD",
+    "tRP",
+    "tRAS",
+    "tRC",
+    "tRRD",
+    "tWR",
+    "tWTR",
+    "tRFC",
+    "tMRD",
+    "tREFI",
+    "tXP",
+    "tXSR",
+];
 
 // The settings and the edition; zeros where there is no room for them, as in no capture whose settings were looked at.
 pub fn settings_of(capture: &[u8]) -> Settings
@@ -22,54 +40,26 @@ pub fn settings_of(capture: &[u8]) -> Settings
     capture::settings_in(capture)
 }
 
-fn say_name(out: &mut Out, i: u32) {
-    match i {
-        0 => say(out, b"lane code"),
-        1 => say(out, b"row bits"),
-        2 => say(out, b"column bits"),
-        3 => say(out, b"mode word"),
-        4 => say(out, b"tRCD"),
-        5 => say(out, b"tRP"),
-        6 => say(out, b"tRAS"),
-        7 => say(out, b"tRC"),
-        8 => say(out, b"tRRD"),
-        9 => say(out, b"tWR"),
-        10 => say(out, b"tWTR"),
-        11 => say(out, b"tRFC"),
-        12 => say(out, b"tMRD"),
-        13 => say(out, b"tREFI"),
-        14 => say(out, b"tXP"),
-        _ => say(out, b"tXSR"),
-    }
-}
-
-fn say_setting(out: &mut Out, i: u32, word: u32) {
-    say_number(out, b"setting ", i);
-    say(out, b" ");
-    say_name(out, i);
+fn print_setting(out: &mut Out, i: usize, name: &str, word: u32) {
     if i == MODE {
-        say_word(out, b" ", word, 2);
-        return;
-    }
-    say_number(out, b" ", word);
-}
-
-fn say_mode(out: &mut Out, mode: u32) {
-    say_number(out, b", burst length ", mode::burst_length(mode));
-    if mode::interleaved(mode) {
-        say(out, b", interleaved");
+        write!(out, "setting {i} {name} {word:#04x}");
     } else {
-        say(out, b", sequential");
+        write!(out, "setting {i} {name} {word}");
     }
-    say_number(out, b", CAS latency ", mode::latency(mode));
 }
 
-fn print_setting(out: &mut Out, i: u32, word: u32) {
-    say_setting(out, i, word);
-    if i == MODE {
-        say_mode(out, word);
-    }
-    say(out, b"\n");
+fn print_mode(out: &mut Out, mode: u32) {
+    let order = if mode::interleaved(mode) {
+        "interleaved"
+    } else {
+        "sequential"
+    };
+    write!(
+        out,
+        ", burst length {}, {order}, CAS latency {}",
+        mode::burst_length(mode),
+        mode::latency(mode)
+    );
 }
 
 // No capture with sleep has a tXP of 0.
@@ -86,49 +76,42 @@ pub fn newer(settings: &Settings) -> bool
     settings[EDITION] == 1
 }
 
-fn shown_count(settings: &Settings) -> usize
-    ensures { result ≤ 16 }
-{
+fn shown_count(settings: &Settings) -> usize {
     if sleeps(settings) { SLEEPING } else { COUNT }
 }
 
-fn print_each(out: &mut Out, settings: &Settings) {
-    let n = shown_count(settings);
-    for i in 0..n {
-        print_setting(out, i as u32, settings[i]);
-    }
-}
-
 pub fn print_settings(out: &mut Out, settings: &Settings) {
-    print_each(out, settings);
+    let named = NAMES.iter().zip(settings).take(shown_count(settings));
+    for (i, (name, word)) in named.enumerate() {
+        print_setting(out, i, name, *word);
+        if i == MODE {
+            print_mode(out, *word);
+        }
+        writeln!(out);
+    }
     if newer(settings) {
-        say(
-            out,
-            b"edition 1: READ and PRECHARGE may cut a write short\n",
-        );
+        writeln!(out, "edition 1: READ and PRECHARGE may cut a write short");
     }
 }
 
 fn print_contradiction(out: &mut Out, settings: &Settings) {
-    say_number(
+    writeln!(
         out,
-        b"settings 5, 6 and 7 contradict each other: tRC (",
-        settings[T_RC],
+        "settings 5, 6 and 7 contradict each other: tRC ({}) is above tRAS ({}) + tRP ({})",
+        settings[T_RC], settings[T_RAS], settings[T_RP]
     );
-    say_number(out, b") is above tRAS (", settings[T_RAS]);
-    say_number(out, b") + tRP (", settings[T_RP]);
-    say(out, b")\n");
 }
 
 // The setting that was refused; a tRC in its range was refused because of tRAS and tRP.
 pub fn print_refused(out: &mut Out, capture: &[u8], i: u32) {
     let settings = settings_of(capture);
-    if SLEEPING <= i as usize {
+    let i = i as usize;
+    if SLEEPING <= i {
         return;
     }
-    say_setting(out, i, settings[i as usize]);
-    say(out, b"\n");
-    if i as usize == T_RC && settings::setting_fits(T_RC, settings[T_RC]) {
+    print_setting(out, i, NAMES[i], settings[i]);
+    writeln!(out);
+    if i == T_RC && settings::setting_fits(T_RC, settings[T_RC]) {
         print_contradiction(out, &settings);
     }
 }

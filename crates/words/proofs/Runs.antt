@@ -4,8 +4,10 @@ use native.Mathlib.Nat.{add-zero, zero-add, add-suc, suc-add}
 use native.Mathlib.Omega.{arith}
 use mathlib.Core.Path.{◌≡◌, refl, sym, ap, ◌∙◌}
 use mathlib.Core.List.{List, [], ◌∷◌, ◌++◌}
-use lib.ListN.{length, set, get_or, drop, length-set}
-use lib.Seq.{sets, sets-eq, set_comm, get_or-set_same, get_or-set_other}
+use borrow.Rule.Slice.PartMut.{put_mid}
+use lib.ListN.{length, set, get_or, take, drop, length-set}
+use Rattle.std.proofs.lemmas.List.{append_assoc}
+use lib.Seq.{sets, sets-eq, drop-drop, set_comm, get_or-set_same, get_or-set_other}
 
 next_place : (i n : ℕ) → i + suc n ≡ suc i + n
 next_place i n = add-suc i n ∙ sym (suc-add i n)
@@ -51,6 +53,12 @@ get_d-sets-in (v ∷ vs) l i zero h f =
 get_d-sets-in (v ∷ vs) l i (suc j) h f =
     ap (λ (k : ℕ). get_or (sets (set l i v) (suc i) vs) k 0) (next_place i j)
     ∙ get_d-sets-in vs (set l i v) (suc i) j (omega arith) (simp length-set (omega arith))
+
+-- a part of a slice that is written at once is a run
+pub part-sets : (l : List ℕ) (i k : ℕ) (vs : List ℕ) → length vs ≡ k → i + k ≤ length l → put_mid i k l vs ≡ sets l i vs
+part-sets l i k vs e h =
+    ap (λ (m : List ℕ). take i l ++ (vs ++ m)) (drop-drop k i l ∙ ap (λ (n : ℕ). drop (i + n) l) (sym e))
+    ∙ sym (append_assoc (take i l) vs _) ∙ sym (sets-eq vs l i (omega arith))
 
 -- behind the last there is nothing
 pub none-behind : {A : Type 0} (l : List A) (i : ℕ) → length l ≤ i → drop i l ≡ []

@@ -5,22 +5,23 @@ use mathlib.Core.Path.{◌≡◌, refl, sym, ap, ◌∙◌}
 use native.Mathlib.Numerals.{add-one}
 use native.Mathlib.Omega.{arith}
 use lib.ListN.{length, get_or, take, length-take}
-use lib.Seq.{sets, length-sets, take-suc}
+use lib.Seq.{sets, length-sets, take-suc, take_all}
 use Rattle.reading.specs.Words.{word_bytes, bytes_of}
 use Rattle.words.proofs.Words.{sets-words}
 
-pub record Storing (out₀ : List ℕ) (at : ℕ) (list : List ℕ) (n : ℕ) (out : List ℕ) (i : ℕ) : Type 0 where
-  pub within : i ≤ n
+-- the first i words stand
+pub record Storing (out₀ : List ℕ) (at : ℕ) (list out : List ℕ) (i : ℕ) : Type 0 where
+  pub within : i ≤ length list
   pub same : out ≡ sets out₀ at (bytes_of (take i list))
 
-pub stores-none : (out : List ℕ) (at : ℕ) (list : List ℕ) (n : ℕ) → Storing out at list n out 0
+pub stores-none : (out : List ℕ) (at : ℕ) (list : List ℕ) → Storing out at list out 0
 unfolding bytes_of
-stores-none out at list n = record { within = omega arith; same = refl }
+stores-none out at list = record { within = omega arith; same = refl }
 
-module _ {out₀ list out : List ℕ} {at n i : ℕ} (x : Storing out₀ at list n out i) where
-  pub stores-on : i < n → n ≤ length list → {next : List ℕ} → next ≡ sets out (at + 4 * i) (word_bytes (get_or list i 0)) → Storing out₀ at list n next (i + 1)
+module _ {out₀ list out : List ℕ} {at i : ℕ} (x : Storing out₀ at list out i) where
+  pub stores-on : i < length list → {next : List ℕ} → next ≡ sets out (at + 4 * i) (word_bytes (get_or list i 0)) → Storing out₀ at list next (i + 1)
   unfolding bytes_of word_bytes
-  stores-on l h {next} e =
+  stores-on l {next} e =
       let k : length (take i list) ≡ i = simp length-take (omega arith) in
       let m : take i list ++ (get_or list i 0 ∷ []) ≡ take (i + 1) list = sym (rw (add-one i) (take-suc list i 0 (omega arith))) in
       record {
@@ -34,5 +35,5 @@ module _ {out₀ list out : List ℕ} {at n i : ℕ} (x : Storing out₀ at list
   pub stored-length : length out ≡ length out₀
   stored-length = ap length x.same ∙ length-sets out₀ at (bytes_of (take i list))
 
-  pub stores-all : n ≤ i → out ≡ sets out₀ at (bytes_of (take n list))
-  stores-all l = let e : i ≡ n = omega (arith, x.within) in x.same ∙ ap (λ (k : ℕ). sets out₀ at (bytes_of (take k list))) e
+  pub stores-all : length list ≤ i → out ≡ sets out₀ at (bytes_of list)
+  stores-all l = x.same ∙ ap (λ (v : List ℕ). sets out₀ at (bytes_of v)) (take_all i list l)

@@ -5,24 +5,11 @@ ghost use Rattle.std.specs.Prelude.{◌≡◌, ◌&&◌, ◌+◌, ◌*◌, ◌�
 ghost use Rattle.std.proofs.lemmas.List.Edits.{sets};
 ghost use Rattle.reading.specs.Words.{word_at, word_bytes, bytes_of, half_at, half_bytes};
 
-// What a search for the lowest number of a kind answers.
-#[derive(Clone, Copy)]
-pub enum Found {
-    Nothing,
-    At(u32),
-}
-
 // Without a branch, for a walk over what most often fits.
 pub fn both(a: bool, b: bool) -> bool
     ensures { result ≡ (a && b) }
 {
-    if a { b } else { false }
-}
-
-fn wide(x: u8) -> u32
-    ensures { (result ≡ x) × (result < 256) }
-{
-    x as u32
+    a & b
 }
 
 // The word whose lowest byte stands at `at`.
@@ -30,7 +17,7 @@ pub fn word_at(s: &[u8], at: usize) -> u32
     requires { at + 4 ≤ length s.now }
     ensures { result ≡ word_at s.now at }
 {
-    wide(s[at]) + 256 * wide(s[at + 1]) + 65_536 * wide(s[at + 2]) + 16_777_216 * wide(s[at + 3])
+    u32::from_le_bytes([s[at], s[at + 1], s[at + 2], s[at + 3]])
 }
 
 // Stores `w` in the four bytes from `at` on; every other byte stays.
@@ -38,26 +25,21 @@ pub fn put_word(out: &mut [u8], at: usize, w: u32)
     requires { at + 4 ≤ length out.old }
     ensures { out.new ≡ sets out.old at (word_bytes w) }
 {
-    out[at] = (w % 256) as u8;
-    out[at + 1] = (w / 256 % 256) as u8;
-    out[at + 2] = (w / 65_536 % 256) as u8;
-    out[at + 3] = (w / 16_777_216 % 256) as u8;
+    let [lowest, low, high, highest] = w.to_le_bytes();
+    out[at] = lowest;
+    out[at + 1] = low;
+    out[at + 2] = high;
+    out[at + 3] = highest;
 }
 
-// Stores the first n words of the list in a row from byte `at` on; every other byte stays.
-pub fn put_words(out: &mut [u8], at: usize, list: &[u32], n: usize)
-    requires { (at + 4 * n ≤ length out.old) × (n ≤ length list.now) }
-    ensures { out.new ≡ sets out.old at (bytes_of (take n list.now)) }
+// Stores the words of the list in a row from byte `at` on; every other byte stays.
+pub fn put_words(out: &mut [u8], at: usize, list: &[u32])
+    requires { at + 4 * length list.now ≤ length out.old }
+    ensures { out.new ≡ sets out.old at (bytes_of list.now) }
 {
-    'words: for i in 0..n {
-        put_word(out, at + 4 * i, list[i]);
+    'words: for (i, w) in list.iter().enumerate() {
+        put_word(out, at + 4 * i, *w);
     }
-}
-
-fn half(x: u8) -> u16
-    ensures { (result ≡ x) × (result < 256) }
-{
-    x as u16
 }
 
 // The word of 16 bits whose lowest byte stands at `at`.
@@ -65,7 +47,7 @@ pub fn half_at(s: &[u8], at: usize) -> u16
     requires { at + 2 ≤ length s.now }
     ensures { result ≡ half_at s.now at }
 {
-    half(s[at]) + 256 * half(s[at + 1])
+    u16::from_le_bytes([s[at], s[at + 1]])
 }
 
 // Stores `w` in the two bytes from `at` on; every other byte stays.
@@ -73,6 +55,7 @@ pub fn put_half(out: &mut [u8], at: usize, w: u16)
     requires { at + 2 ≤ length out.old }
     ensures { out.new ≡ sets out.old at (half_bytes w) }
 {
-    out[at] = (w % 256) as u8;
-    out[at + 1] = (w / 256 % 256) as u8;
+    let [low, high] = w.to_le_bytes();
+    out[at] = low;
+    out[at + 1] = high;
 }

@@ -1,19 +1,16 @@
-use Rattle.asking.proofs.Refusing.{bad-bank, bad-event, bad-records, good-question}
-use native.Mathlib.Omega.{arith}
+use Rattle.asking.proofs.Refusing.{bad-question, bad-records, good-question}
 use Rattle.asking.proofs.question.Goals as goal
+use Rattle.asking.proofs.question.Goals.{then-bank-gt3-via-then-bank-gt3, then-bank-gt3-via-else-bank-gt3+then-n-event}
+use mathlib.Core.Logic.{inl, inr}
 
 pub returns-then-bank-gt3 : goal.returns-then-bank-gt3
-returns-then-bank-gt3 c = bad-bank c.args.n c.args.bank c.args.event c.args.records c.if-bank-gt3.true
-
-pub returns-then-n-event : goal.returns-then-n-event
-returns-then-n-event c = let a = c.args in
-    bad-event a.n a.bank a.event a.records (omega (arith, c.if-bank-gt3.false)) c.if-n-event.true
+returns-then-bank-gt3 c = elim c.then-bank-gt3.branch [
+  | then-bank-gt3-via-then-bank-gt3 w ↦ bad-question _ _ _ _ (inl w.if-bank-gt3.true)
+  | then-bank-gt3-via-else-bank-gt3+then-n-event w ↦ bad-question _ _ _ _ (inr w.if-n-event.true)
+]
 
 pub returns-then-records-lt4 : goal.returns-then-records-lt4
-returns-then-records-lt4 c = let a = c.args in
-    bad-records a.n a.bank a.event a.records (omega (arith, c.if-bank-gt3.false)) (omega (arith, c.if-n-event.false)) c.if-records-lt4.true
+returns-then-records-lt4 c = bad-records _ _ _ _ c.if-bank-gt3.false c.if-n-event.false c.if-records-lt4.true
 
 pub returns : goal.returns
-returns c = let a = c.args in
-    good-question a.n a.bank a.event a.records (omega (arith, c.if-bank-gt3.false)) (omega (arith, c.if-n-event.false))
-    (omega (arith, c.if-records-lt4.false))
+returns c = good-question _ _ _ _ c.if-bank-gt3.false c.if-n-event.false c.if-records-lt4.false

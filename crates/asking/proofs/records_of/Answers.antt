@@ -1,15 +1,16 @@
-use Rattle.asking.proofs.Finding.{four-records}
 use native.Mathlib.Omega.{arith}
+use Rattle.std.proofs.Common.{refl}
+use Rattle.asking.proofs.Finding.{tells-none, tells-room, tells-on, told-all}
 use Rattle.asking.proofs.records_of.Goals as goal
 
-pub overflow_add-result : goal.overflow_add-result
-overflow_add-result c = omega (arith, c.requires.each 0, c.requires.each 1)
+pub loop-bank-init : goal.loop-bank-init
+loop-bank-init c = tells-none _ refl
 
-pub overflow_add-result-2 : goal.overflow_add-result-2
-overflow_add-result-2 c = omega (arith, c.requires.each 0, c.requires.each 1)
+pub overflow_add-before : goal.overflow_add-before
+overflow_add-before c = omega (arith, tells-room c.requires c.loop-bank.invariant (omega (arith, c.requires.four)))
 
-pub overflow_add-result-3 : goal.overflow_add-result-3
-overflow_add-result-3 c = omega (arith, c.requires.each 0, c.requires.each 1, c.requires.each 2)
+pub loop-bank-preserved : goal.loop-bank-preserved
+loop-bank-preserved c = tells-on c.requires c.loop-bank.invariant (omega (arith, c.requires.four))
 
 pub returns : goal.returns
-returns c = four-records c.args.t.counts c.requires.four
+returns c = told-all c.requires c.loop-bank.invariant (omega (arith, c.requires.four))

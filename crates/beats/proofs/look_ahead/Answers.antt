@@ -6,73 +6,37 @@ use Rattle.beats.proofs.Columns.{half_le}
 use Rattle.beats.proofs.Looking.{begins, goes_on, cut_short, stops, ends}
 use Rattle.beats.proofs.look_ahead.Goals as goal
 
-pub pins_at-burst-requires : goal.pins_at-burst-requires
-pins_at-burst-requires c = omega (arith, c.requires.0.long)
-
-pub cycle_at-k-requires : goal.cycle_at-k-requires
-cycle_at-k-requires c = omega (arith, c.requires.0.long)
-
 pub overflow_add-end : goal.overflow_add-end
-overflow_add-end c = let a = c.args in
+overflow_add-end c = let x = c.args.events.now in
     rw c.half-half.ensures
-    (omega (arith, half_le a.mode, c.cycle_at-k.ensures, cycle-fits a.bytes.now a.i (c.requires.0.events a.i c.requires.1)))
-
-pub overflow_add-j : goal.overflow_add-j
-overflow_add-j c = omega arith
+    (omega (arith, half_le c.args.mode, c.cycle-k.ensures, cycle-fits x.bytes.now c.args.i (x.rise c.args.i c.requires)))
 
 pub later-init : goal.later-init
-later-init c = let a = c.args in
-    begins a.bytes.now a.n a.i a.mode c.requires.1
-
-pub overflow_cast-behind : goal.overflow_cast-behind
-overflow_cast-behind c = omega arith
-
-pub cycle_at-t-requires : goal.cycle_at-t-requires
-cycle_at-t-requires c = omega (arith, c.requires.0.long)
+later-init c = let x = c.args.events.now in
+    begins x.bytes.now x.count c.args.i c.args.mode c.requires
 
 pub returns-then-end-t : goal.returns-then-end-t
-returns-then-end-t c = let a = c.args in
-    stops a.bytes.now a.n a.i a.mode c.later.invariant c.pins_at-burst.ensures c.cycle_at-k.ensures
-    c.half-half.ensures c.later-test.true c.cycle_at-t.ensures c.if-end-t.true
-
-pub pins_at-w-requires : goal.pins_at-w-requires
-pins_at-w-requires c = omega (arith, c.requires.0.long)
+returns-then-end-t c = let x = c.args.events.now in
+    stops x.bytes.now x.count c.args.i c.args.mode c.later.invariant c.pins-burst.ensures c.cycle-k.ensures
+    c.half-half.ensures c.later-test.true c.cycle-t.ensures c.if-end-t.true
 
 pub overflow_sub-result : goal.overflow_sub-result
-overflow_sub-result c = let a = c.args in
-    omega (
-      arith,
-      c.cycle_at-k.ensures,
-      c.cycle_at-t.ensures,
-      cycles-rise a.bytes.now a.n c.requires.0.events a.i c.later.j c.later.invariant.behind
-          c.later-test.true,
-    )
+overflow_sub-result c = let x = c.args.events.now in
+    omega (arith, c.cycle-k.ensures, c.cycle-t.ensures, cycles-rise x.bytes.now x.count x.rise c.args.i c.later.j c.later.invariant.behind c.later-test.true)
 
 pub returns-then-cuts_burst : goal.returns-then-cuts_burst
-returns-then-cuts_burst c = let a = c.args in
-    cut_short a.bytes.now a.n a.i a.mode c.later.invariant c.pins_at-burst.ensures c.cycle_at-k.ensures
-    c.half-half.ensures c.later-test.true c.cycle_at-t.ensures
-    c.pins_at-w.ensures (omega (arith, c.if-end-t.false)) c.requires.0
-    (omega (
-      arith,
-      c.cycle_at-k.ensures,
-      c.cycle_at-t.ensures,
-      cycles-rise a.bytes.now a.n c.requires.0.events a.i c.later.j c.later.invariant.behind
-          c.later-test.true,
-    )) (sym c.if-cuts_burst.true ∙ c.cuts_burst.ensures)
-
-pub overflow_add-j-in-later : goal.overflow_add-j-in-later
-overflow_add-j-in-later c = omega arith
-
-pub later-smaller : goal.later-smaller
-later-smaller c = omega arith
+returns-then-cuts_burst c = let x = c.args.events.now in
+    cut_short x.bytes.now x.count c.args.i c.args.mode c.later.invariant c.pins-burst.ensures c.cycle-k.ensures
+    c.half-half.ensures c.later-test.true c.cycle-t.ensures c.pins.ensures (omega (arith, c.if-end-t.false)) x.rise
+    (omega (arith, c.cycle-k.ensures, c.cycle-t.ensures, cycles-rise x.bytes.now x.count x.rise c.args.i c.later.j c.later.invariant.behind c.later-test.true))
+    (sym c.if-cuts_burst.true ∙ c.cuts_burst.ensures)
 
 pub later-preserved : goal.later-preserved
-later-preserved c = let a = c.args in
-    goes_on a.bytes.now a.n a.i a.mode c.later.invariant c.pins_at-burst.ensures c.cycle_at-k.ensures
-    c.half-half.ensures c.later-test.true c.cycle_at-t.ensures
-    c.pins_at-w.ensures (omega (arith, c.if-end-t.false)) (sym c.if-cuts_burst.false ∙ c.cuts_burst.ensures)
+later-preserved c = let x = c.args.events.now in
+    goes_on x.bytes.now x.count c.args.i c.args.mode c.later.invariant c.pins-burst.ensures c.cycle-k.ensures
+    c.half-half.ensures c.later-test.true c.cycle-t.ensures c.pins.ensures (omega (arith, c.if-end-t.false))
+    (sym c.if-cuts_burst.false ∙ c.cuts_burst.ensures)
 
 pub returns : goal.returns
-returns c = let a = c.args in
-    ends a.bytes.now a.n a.i a.mode c.later.invariant c.half-half.ensures (omega arith)
+returns c = let x = c.args.events.now in
+    ends x.bytes.now x.count c.args.i c.args.mode c.later.invariant c.half-half.ensures (omega (arith, c.later-test.false))

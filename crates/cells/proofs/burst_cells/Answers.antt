@@ -1,27 +1,20 @@
-use native.Mathlib.Omega.{arith}
-use Rattle.reading.specs.Capture.{most_events}
-use Rattle.capture.proofs.Opened.{accepted-so, long, opens}
-use Rattle.cells.proofs.Listing.{refused-so, listable, listed-so}
+use Rattle.std.proofs.lemmas.Result.{err_from_is_err_and}
+use Rattle.capture.proofs.Opened.{opens-held}
+use Rattle.cells.proofs.Listing.{refused-held, listable, listed-so}
 use Rattle.cells.proofs.burst_cells.Goals as goal
 
-pub returns-in-Refused : goal.returns-in-Refused
-returns-in-Refused c = let a = c.args in
-    let p = refused-so a.capture.now a.out.now c.open-checked.ensures c.in-Refused.is in
-    record { result_value = p.0; out_after = p.1 }
-
-pub settings_in-settings-requires : goal.settings_in-settings-requires
-settings_in-settings-requires c = long most_events c.args.capture.now ((accepted-so most_events c.args.capture.now c.open-checked.ensures c.in_default.is))
-
-pub event_count-n-requires : goal.event_count-n-requires
-event_count-n-requires c = omega (arith, long most_events c.args.capture.now ((accepted-so most_events c.args.capture.now c.open-checked.ensures c.in_default.is)))
-
-pub event_bytes-bytes-requires : goal.event_bytes-bytes-requires
-event_bytes-bytes-requires c = long most_events c.args.capture.now ((accepted-so most_events c.args.capture.now c.open-checked.ensures c.in_default.is))
+pub returns-in_err-opened : goal.returns-in_err-opened
+returns-in_err-opened c =
+    let r = err_from_is_err_and c.from_residual.result c.from_residual.ensures.1 in
+    let p = refused-held c.args.capture.now c.args.out.now c.in_err-opened.ensures.answer in
+    rw (r.1, r.2) (record { result_value = p.0; out_after = p.1 })
 
 pub list-requires : goal.list-requires
-list-requires c = listable ((opens ((accepted-so most_events c.args.capture.now c.open-checked.ensures c.in_default.is)) c.settings_in-settings.ensures c.event_count-n.ensures c.event_bytes-bytes.ensures))
+list-requires c = let o = c.in_ok-opened in listable (opens-held o.ensures.answer o.opened o.ensures.holds)
 
 pub returns : goal.returns
-returns c =
-    let p = listed-so ((opens ((accepted-so most_events c.args.capture.now c.open-checked.ensures c.in_default.is)) c.settings_in-settings.ensures c.event_count-n.ensures c.event_bytes-bytes.ensures)) c.args.out.now (c.list.ensures.result_value, c.list.ensures.out_after) in
+returns c = let o = c.in_ok-opened in
+    let p =
+    listed-so (opens-held o.ensures.answer o.opened o.ensures.holds) c.args.out.now
+    (c.list.ensures.result_value, c.list.ensures.out_after) in
     record { result_value = p.0; out_after = p.1 }

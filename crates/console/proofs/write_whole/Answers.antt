@@ -4,5 +4,5 @@ use Rattle.console.proofs.write_whole.Goals as goal
 
 pub loop-done-preserved : goal.loop-done-preserved
 loop-done-preserved g c =
-    let written = c.write_from-n.ensures in
+    let written = c.in-Ok.ensures in
     (omega (arith, written.in_bounds), Appends-more _ _ _ _ _ _ c.loop-done.invariant.1 written.bytes)

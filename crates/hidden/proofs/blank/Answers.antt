@@ -1,42 +1,41 @@
 use native.Mathlib.Omega.{arith}
+use mathlib.Core.Path.{sym}
+use Rattle.std.proofs.lemmas.Result.{err_from_is_err_and}
 use Rattle.reading.specs.Capture.{most_events}
-use Rattle.capture.proofs.Opened.{accepted-so, long, opens}
+use Rattle.capture.proofs.Opened.{long, opens-held}
 use Rattle.hidden.proofs.Outcome.{refused-so, few, too_short, copies, writable, wrote}
 use Rattle.hidden.proofs.blank.Goals as goal
 
-pub returns-in-Refused : goal.returns-in-Refused
-returns-in-Refused c = let a = c.args in
-    let p = refused-so a.capture.now a.out.now c.open-checked.ensures c.in-Refused.is in
-    record { result_value = p.0; out_after = p.1 }
+pub returns-in_err-opened : goal.returns-in_err-opened
+returns-in_err-opened c = let a = c.args in
+    let e = err_from_is_err_and c.from_residual.result c.from_residual.ensures.1 in
+    let p = refused-so a.capture.now a.out.now _ c.in_err-opened.ensures.answer in
+    record { result_value = rw (e.1, e.2) p.0; out_after = p.1 }
 
 pub overflow_cast-size : goal.overflow_cast-size
-overflow_cast-size c = omega (arith, few c.args.capture.now ((accepted-so most_events c.args.capture.now c.open-checked.ensures c.in_default.is)))
+overflow_cast-size c = omega (arith, few c.args.capture.now (sym c.in_ok-opened.ensures.answer))
 
 pub returns-then-out-capture : goal.returns-then-out-capture
 returns-then-out-capture c =
-    let p = too_short c.args.capture.now ((accepted-so most_events c.args.capture.now c.open-checked.ensures c.in_default.is)) c.args.out.now c.if-out-capture.true in
+    let p = too_short c.args.capture.now (sym c.in_ok-opened.ensures.answer) c.args.out.now c.if-out-capture.true in
     record { result_value = p.0; out_after = p.1 }
 
-pub settings_in-settings-requires : goal.settings_in-settings-requires
-settings_in-settings-requires c = long most_events c.args.capture.now ((accepted-so most_events c.args.capture.now c.open-checked.ensures c.in_default.is))
-
-pub event_count-n-requires : goal.event_count-n-requires
-event_count-n-requires c = omega (arith, long most_events c.args.capture.now ((accepted-so most_events c.args.capture.now c.open-checked.ensures c.in_default.is)))
-
 pub events_start-start-requires : goal.events_start-start-requires
-events_start-start-requires c = omega (arith, long most_events c.args.capture.now ((accepted-so most_events c.args.capture.now c.open-checked.ensures c.in_default.is)))
-
-pub event_bytes-bytes-requires : goal.event_bytes-bytes-requires
-event_bytes-bytes-requires c = long most_events c.args.capture.now ((accepted-so most_events c.args.capture.now c.open-checked.ensures c.in_default.is))
+events_start-start-requires c = omega (arith, long most_events c.args.capture.now (sym c.in_ok-opened.ensures.answer))
 
 pub copy-requires : goal.copy-requires
-copy-requires c = copies ((opens ((accepted-so most_events c.args.capture.now c.open-checked.ensures c.in_default.is)) c.settings_in-settings.ensures c.event_count-n.ensures c.event_bytes-bytes.ensures)) c.args.out.now c.if-out-capture.false c.events_start-start.ensures.value
+copy-requires c = let o = c.in_ok-opened in
+    copies (opens-held o.ensures.answer o.opened o.ensures.holds) c.args.out.now c.if-out-capture.false c.events_start-start.ensures.value
 
 pub write_events-requires : goal.write_events-requires
-write_events-requires c = writable ((opens ((accepted-so most_events c.args.capture.now c.open-checked.ensures c.in_default.is)) c.settings_in-settings.ensures c.event_count-n.ensures c.event_bytes-bytes.ensures)) c.args.out.now c.if-out-capture.false c.events_start-start.ensures.value c.copy.ensures
+write_events-requires c = let o = c.in_ok-opened in
+    let x = opens-held o.ensures.answer o.opened o.ensures.holds in
+    writable x c.args.out.now c.if-out-capture.false c.events_start-start.ensures.value
+    c.copy.ensures
 
 pub returns : goal.returns
-returns c =
-    let p = wrote ((opens ((accepted-so most_events c.args.capture.now c.open-checked.ensures c.in_default.is)) c.settings_in-settings.ensures c.event_count-n.ensures c.event_bytes-bytes.ensures)) c.args.out.now c.if-out-capture.false c.events_start-start.ensures.value c.copy.ensures
-    c.write_events.ensures in
+returns c = let o = c.in_ok-opened in
+    let x = opens-held o.ensures.answer o.opened o.ensures.holds in
+    let p = wrote x c.args.out.now c.if-out-capture.false c.events_start-start.ensures.value
+    c.copy.ensures c.write_events.ensures in
     record { result_value = p.0; out_after = p.1 }

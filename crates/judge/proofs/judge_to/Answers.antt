@@ -1,23 +1,18 @@
-use native.Mathlib.Omega.{arith}
-use Rattle.capture.proofs.Opened.{accepted-so, long, opens}
-use Rattle.judge.proofs.Judging.{refused-so, fit, judged-so}
+use mathlib.Core.Path.{sym}
+use Rattle.std.proofs.lemmas.Result.{err_from_is_err_and}
+use Rattle.reading.specs.Answers.{judge_answer_to}
+use Rattle.capture.proofs.Accepted.{refused-to}
+use Rattle.capture.proofs.Opened.{opens-held}
+use Rattle.judge.proofs.Judging.{fit, judged-so}
 use Rattle.judge.proofs.judge_to.Goals as goal
 
-pub returns-in-Refused : goal.returns-in-Refused
-returns-in-Refused c = let a = c.args in
-    refused-so a.most a.capture.now c.open_to-checked.ensures c.in-Refused.is
+pub returns-in_err-opened : goal.returns-in_err-opened
+unfolding judge_answer_to
+returns-in_err-opened c = let p = err_from_is_err_and c.from_residual.result c.from_residual.ensures.1 in
+    rw (p.1, p.2) (sym (refused-to c.args.most c.args.capture.now _ (sym c.in_err-opened.ensures.answer)))
 
-pub settings_in-settings-requires : goal.settings_in-settings-requires
-settings_in-settings-requires c = long c.args.most c.args.capture.now ((accepted-so c.args.most c.args.capture.now c.open_to-checked.ensures c.in_default.is))
-
-pub event_count-n-requires : goal.event_count-n-requires
-event_count-n-requires c = omega (arith, long c.args.most c.args.capture.now ((accepted-so c.args.most c.args.capture.now c.open_to-checked.ensures c.in_default.is)))
-
-pub event_bytes-bytes-requires : goal.event_bytes-bytes-requires
-event_bytes-bytes-requires c = long c.args.most c.args.capture.now ((accepted-so c.args.most c.args.capture.now c.open_to-checked.ensures c.in_default.is))
-
-pub walk-requires : goal.walk-requires
-walk-requires c = record { fit = fit ((opens ((accepted-so c.args.most c.args.capture.now c.open_to-checked.ensures c.in_default.is)) c.settings_in-settings.ensures c.event_count-n.ensures c.event_bytes-bytes.ensures)); started = record { deadlines = c.start-deadlines.ensures; paced = c.pace-pace.ensures } }
+pub judged-requires : goal.judged-requires
+judged-requires c = let o = c.in_ok-opened in fit (opens-held o.ensures.answer o.opened o.ensures.holds)
 
 pub returns : goal.returns
-returns c = rw c.walk.ensures.value (judged-so ((opens ((accepted-so c.args.most c.args.capture.now c.open_to-checked.ensures c.in_default.is)) c.settings_in-settings.ensures c.event_count-n.ensures c.event_bytes-bytes.ensures)))
+returns c = let o = c.in_ok-opened in rw c.judged.ensures (judged-so (opens-held o.ensures.answer o.opened o.ensures.holds))

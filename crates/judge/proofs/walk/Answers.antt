@@ -23,13 +23,13 @@ events-smaller c = omega arith
 pub events-preserved : goal.events-preserved
 events-preserved c = kept_on c.args.s.now c.args.bytes.now c.args.n c.requires.fit c.events.invariant c.events-test.true
     c.cycle_at-cycle.ensures c.pins_at-pins.ensures
-    c.step-answer.result c.step-answer.ensures.result_value c.step-answer.ensures.d_after c.step-answer.ensures.pace_after c.in_default.is
+    c.step.result c.step.ensures.result_value c.step.ensures.d_after c.step.ensures.pace_after c.in_default.is
 
 pub returns-in-events : goal.returns-in-events
 returns-in-events c =
     let p = broke-at c.args.s.now c.args.bytes.now c.args.n c.requires.fit c.events.invariant c.events-test.true
     c.cycle_at-cycle.ensures c.pins_at-pins.ensures
-    c.step-answer.result c.step-answer.ensures.result_value c.step-answer.ensures.d_after c.step-answer.ensures.pace_after c.in-Broke.is in
+    c.step.result c.step.ensures.result_value c.step.ensures.d_after c.step.ensures.pace_after c.in-Err.is in
     record { value = p.0; d_after = p.1.0; pace_after = p.1.1 }
 
 pub returns : goal.returns

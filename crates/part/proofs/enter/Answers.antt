@@ -1,13 +1,10 @@
-use mathlib.Core.Path.{sym, ◌∙◌}
-use borrow.Author.Tests.{eq-eqb, ne_eqb}
+use mathlib.Core.Path.{◌∙◌}
+use Rattle.rules.proofs.Handed.{handed}
+use Rattle.part.proofs.Left.{stays}
 use Rattle.part.proofs.enter.Goals as goal
 
-pub returns-then-rule-ne0 : goal.returns-then-rule-ne0
-returns-then-rule-ne0 c = let told = c.enter_breaks-rule.ensures in
-    let broke = ne_eqb _ _ c.if-rule-ne0.true in
-    record { value = told; d_after = rw (← told, broke) }
+pub returns-in_err-enter_breaks : goal.returns-in_err-enter_breaks
+returns-in_err-enter_breaks c = let told = c.in_err-enter_breaks.ensures in record { value = handed _ _ c.from_residual.ensures.1 ∙ told; d_after = stays _ told _ _ }
 
 pub returns : goal.returns
-returns c = let told = c.enter_breaks-rule.ensures in
-    let kept = eq-eqb _ _ c.if-rule-ne0.false in
-    record { value = sym c.if-rule-ne0.false ∙ told; d_after = rw (← told, kept) c.enter_after.ensures }
+returns c = let told = c.in_ok-enter_breaks.ensures in record { value = told; d_after = rw (← told) c.enter_after.ensures }

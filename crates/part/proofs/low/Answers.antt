@@ -13,30 +13,26 @@ returns-then-ten c = let a = c.args in
     let (l, e) = low-at a.w 4 c.requires.code_value c.in-20.is in
     let all = sym c.ten.ensures ∙ c.if-ten.true in
     let high = steps.high-close-all (settings_of a.s.now) a.d.now a.t a.w e all in
-    let p = steps.met-barred (settings_of a.s.now) a.d.now a.t a.w 4 refl refl l e
-    (c.close_all_breaks.ensures ∙ high) c.barred-then-ten.ensures in
-    record { value = p.0; d_after = p.1 }
+    steps.met-barred (settings_of a.s.now) a.d.now a.t a.w 4 refl refl l e
+    (c.close_all_breaks.ensures ∙ high) c.barred-then-ten.ensures
 
 pub returns-in-30 : goal.returns-in-30
 returns-in-30 c = let a = c.args in
     let (l, e) = low-at a.w 14 c.requires.code_value c.in-30.is in
-    let p = steps.met-quiet (settings_of a.s.now) a.d.now a.t a.w l (ap quiet_code e)
-    c.quiet_low.ensures.value c.quiet_low.ensures.d_after in
-    record { value = p.0; d_after = p.1 }
+    steps.met-quiet (settings_of a.s.now) a.d.now a.t a.w l (ap quiet_code e)
+    c.quiet_low.ensures.value c.quiet_low.ensures.d_after
 
 pub returns-in-17 : goal.returns-in-17
 returns-in-17 c = let a = c.args in
     let (l, n) = deselects-low a.w c.requires.code_value c.in-17.is in
-    let p = steps.met-quiet (settings_of a.s.now) a.d.now a.t a.w l n
-    c.quiet_low-in-17.ensures.value c.quiet_low-in-17.ensures.d_after in
-    record { value = p.0; d_after = p.1 }
+    steps.met-quiet (settings_of a.s.now) a.d.now a.t a.w l n
+    c.quiet_low-in-17.ensures.value c.quiet_low-in-17.ensures.d_after
 
 pub returns-in-24 : goal.returns-in-24
 returns-in-24 c = let a = c.args in
     let (l, e) = low-at a.w 8 c.requires.code_value c.in-24.is in
-    let p = steps.met-refresh (settings_of a.s.now) a.d.now a.t a.w l e
-    c.refresh_low.ensures.value c.refresh_low.ensures.d_after in
-    record { value = p.0; d_after = p.1 }
+    steps.met-refresh (settings_of a.s.now) a.d.now a.t a.w l e
+    c.refresh_low.ensures.value c.refresh_low.ensures.d_after
 
 pub returns-in-28 : goal.returns-in-28
 returns-in-28 c = let a = c.args in
@@ -44,42 +40,37 @@ returns-in-28 c = let a = c.args in
     let bank = c.bank.ensures.0 in
     let address = c.address.ensures.0 in
     let high = steps.high-active (settings_of a.s.now) a.d.now a.t a.w bank address e in
-    let p = steps.met-barred (settings_of a.s.now) a.d.now a.t a.w 12 refl refl l e
-    (c.active_breaks.ensures ∙ high) c.barred.ensures in
-    record { value = p.0; d_after = p.1 }
+    steps.met-barred (settings_of a.s.now) a.d.now a.t a.w 12 refl refl l e
+    (c.active_breaks.ensures ∙ high) c.barred.ensures
 
 pub returns-in-26 : goal.returns-in-26
 returns-in-26 c = let a = c.args in
     let (l, e) = low-at a.w 10 c.requires.code_value c.in-26.is in
     let high = steps.high_read (settings_of a.s.now) a.d.now a.t a.w c.bank-in-26.ensures.0 e in
-    let p = steps.met-barred (settings_of a.s.now) a.d.now a.t a.w 10 refl refl l e
-    (c.read_breaks.ensures ∙ high) c.barred-in-26.ensures in
-    record { value = p.0; d_after = p.1 }
+    steps.met-barred (settings_of a.s.now) a.d.now a.t a.w 10 refl refl l e
+    (c.read_breaks.ensures ∙ high) c.barred-in-26.ensures
 
 pub returns-in-18 : goal.returns-in-18
 returns-in-18 c = let a = c.args in
     let (l, e) = low-at a.w 2 c.requires.code_value c.in-18.is in
     let high = steps.high_write (settings_of a.s.now) a.d.now a.t a.w c.bank-in-18.ensures.0 e in
-    let p = steps.met-barred (settings_of a.s.now) a.d.now a.t a.w 2 refl refl l e
-    (c.write_breaks.ensures ∙ high) c.barred-in-18.ensures in
-    record { value = p.0; d_after = p.1 }
+    steps.met-barred (settings_of a.s.now) a.d.now a.t a.w 2 refl refl l e
+    (c.write_breaks.ensures ∙ high) c.barred-in-18.ensures
 
 pub returns-else-ten : goal.returns-else-ten
 returns-else-ten c = let a = c.args in
     let (l, e) = low-at a.w 4 c.requires.code_value c.in-20.is in
     let one = sym c.ten.ensures ∙ c.if-ten.false in
     let high = steps.high-close (settings_of a.s.now) a.d.now a.t a.w c.bank-in-20.ensures.0 e one in
-    let p = steps.met-barred (settings_of a.s.now) a.d.now a.t a.w 4 refl refl l e
-    (c.close_breaks.ensures ∙ high) c.barred-in-20.ensures in
-    record { value = p.0; d_after = p.1 }
+    steps.met-barred (settings_of a.s.now) a.d.now a.t a.w 4 refl refl l e
+    (c.close_breaks.ensures ∙ high) c.barred-in-20.ensures
 
 pub returns-in-22 : goal.returns-in-22
 returns-in-22 c = let a = c.args in
     let (l, e) = low-at a.w 6 c.requires.code_value c.in-22.is in
     let high = steps.high-terminate (settings_of a.s.now) a.d.now a.t a.w e in
-    let p = steps.met-barred (settings_of a.s.now) a.d.now a.t a.w 6 refl refl l e
-    (c.terminate_breaks.ensures ∙ high) c.barred-in-22.ensures in
-    record { value = p.0; d_after = p.1 }
+    steps.met-barred (settings_of a.s.now) a.d.now a.t a.w 6 refl refl l e
+    (c.terminate_breaks.ensures ∙ high) c.barred-in-22.ensures
 
 pub returns-in-16 : goal.returns-in-16
 returns-in-16 c = let a = c.args in
@@ -87,16 +78,15 @@ returns-in-16 c = let a = c.args in
     let bank = c.bank-in-16.ensures.0 in
     let address = c.address-in-16.ensures.0 in
     let high = steps.high-mode-set (settings_of a.s.now) a.d.now a.t a.w bank address e in
-    let p = steps.met-barred (settings_of a.s.now) a.d.now a.t a.w 0 refl refl l e
-    (c.mode_breaks.ensures ∙ high) c.barred-in-16.ensures in
-    record { value = p.0; d_after = p.1 }
+    steps.met-barred (settings_of a.s.now) a.d.now a.t a.w 0 refl refl l e
+    (c.mode_breaks.ensures ∙ high) c.barred-in-16.ensures
 
 pub returns-in_default : goal.returns-in_default
 returns-in_default c = let a = c.args in
     let no = c.in_default.in_default-own.rest in
     let (l, above) = low-is a.w c.requires.code_value c.requires.le_code in
     let at : (k : ℕ) → code_of a.w ≡ k → a.code ≡ k + 16 = λ k e. above ∙ ap (λ (q : ℕ). q + 16) e in
-    let p = steps.met-quiet (settings_of a.s.now) a.d.now a.t a.w l
+    steps.met-quiet (settings_of a.s.now) a.d.now a.t a.w l
     (rw (
       ne_eqb (code_of a.w) 12 (λ e. no.0.0.0.0.0.1 (at 12 e)),
       ne_eqb (code_of a.w) 10 (λ e. no.0.0.0.0.1 (at 10 e)),
@@ -106,5 +96,4 @@ returns-in_default c = let a = c.args in
       ne_eqb (code_of a.w) 8 (λ e. no.0.0.0.0.0.0.1 (at 8 e)),
       ne_eqb (code_of a.w) 0 (λ e. no.1 (at 0 e)),
     ))
-    c.quiet_low-in_default.ensures.value c.quiet_low-in_default.ensures.d_after in
-    record { value = p.0; d_after = p.1 }
+    c.quiet_low-in_default.ensures.value c.quiet_low-in_default.ensures.d_after

@@ -1,31 +1,41 @@
-use mathlib.Core.Path.{ap, ◌∙◌}
-use native.Mathlib.Omega.{arith}
-use Rattle.reading.specs.Capture.{most_events}
-use Rattle.capture.proofs.Opened.{long, opens}
-use Rattle.player.specs.Playing.{clean_by}
-use Rattle.player.proofs.Calling.{clean-so, refused-play, opened-playable, opened-clean, played-so}
+use mathlib.Core.Path.{sym, ap, ◌∙◌}
+use Rattle.std.proofs.lemmas.Result.{err_from_is_err_and}
+use Rattle.reading.specs.Answers.{not_clean}
+use Rattle.capture.proofs.Opened.{opens-held}
+use Rattle.judge.specs.declared.Verdict.{Verdict}
+use Rattle.judge.specs.Meaning.{report_of}
+use Rattle.cells.proofs.Listing.{judged-accepted, judged-verdict}
+use Rattle.player.proofs.Calling.{refused-play, broken-play, opened-coded, played-so}
 use Rattle.player.proofs.play.Goals as goal
 
-pub returns-in-Refused : goal.returns-in-Refused
-returns-in-Refused c = let a = c.args in
-    let p = refused-play a.capture.now a.first a.window.now a.writes.now a.reads.now c.unclean-checked.result
-    (c.unclean-checked.ensures ∙ ap clean_by c.judge.ensures) c.in-Refused.is in
+pub returns-in_err-event : goal.returns-in_err-event
+returns-in_err-event c = let a = c.args in
+    let r = err_from_is_err_and c.from_residual.result c.from_residual.ensures.1 in
+    let p = refused-play a.capture.now a.first a.window.now a.writes.now a.reads.now c.in_err-event.ensures in
+    rw (r.1, r.2) (record { result_value = p.0; window_after = p.1.0; reads_after = p.1.1 })
+
+pub returns-in-Broken : goal.returns-in-Broken
+returns-in-Broken c = let a = c.args in
+    let p =
+    broken-play a.capture.now a.first a.window.now a.writes.now a.reads.now c.in_ok-event.ensures
+    (ap (λ (v : Verdict). not_clean (report_of v).verdict) c.in-Broken.is) in
     record { result_value = p.0; window_after = p.1.0; reads_after = p.1.1 }
 
-pub settings_in-settings-requires : goal.settings_in-settings-requires
-settings_in-settings-requires c = long most_events c.args.capture.now ((clean-so c.args.capture.now c.unclean-checked.result (c.unclean-checked.ensures ∙ ap clean_by c.judge.ensures) c.in_default.is)).0
-
-pub event_count-n-requires : goal.event_count-n-requires
-event_count-n-requires c = omega (arith, long most_events c.args.capture.now ((clean-so c.args.capture.now c.unclean-checked.result (c.unclean-checked.ensures ∙ ap clean_by c.judge.ensures) c.in_default.is)).0)
-
-pub event_bytes-bytes-requires : goal.event_bytes-bytes-requires
-event_bytes-bytes-requires c = long most_events c.args.capture.now ((clean-so c.args.capture.now c.unclean-checked.result (c.unclean-checked.ensures ∙ ap clean_by c.judge.ensures) c.in_default.is)).0
+pub judged-requires : goal.judged-requires
+judged-requires c = record {
+  accepted = judged-accepted c.args.capture.now c.in_ok-event.ensures;
+  clean = judged-verdict c.args.capture.now c.in_ok-event.ensures ∙ ap (λ (v : Verdict). (report_of v).verdict) c.in-Clean.is;
+}
 
 pub play_on-requires : goal.play_on-requires
-play_on-requires c = let x = (opens ((clean-so c.args.capture.now c.unclean-checked.result (c.unclean-checked.ensures ∙ ap clean_by c.judge.ensures) c.in_default.is)).0 c.settings_in-settings.ensures c.event_count-n.ensures c.event_bytes-bytes.ensures) in
-    record { playable = opened-playable x; clean = opened-clean x ((clean-so c.args.capture.now c.unclean-checked.result (c.unclean-checked.ensures ∙ ap clean_by c.judge.ensures) c.in_default.is)).1 }
+play_on-requires c =
+    opened-coded (opens-held (sym (judged-accepted c.args.capture.now c.in_ok-event.ensures)) c.judged.result.opened c.judged.ensures)
 
-pub returns : goal.returns
-returns c = let a = c.args in
-    let p = played-so ((opens ((clean-so c.args.capture.now c.unclean-checked.result (c.unclean-checked.ensures ∙ ap clean_by c.judge.ensures) c.in_default.is)).0 c.settings_in-settings.ensures c.event_count-n.ensures c.event_bytes-bytes.ensures)) ((clean-so c.args.capture.now c.unclean-checked.result (c.unclean-checked.ensures ∙ ap clean_by c.judge.ensures) c.in_default.is)).1 a.first a.window.now a.writes.now a.reads.now (c.play_on.ensures.result_value, (c.play_on.ensures.window_after, c.play_on.ensures.reads_after)) in
+pub returns-in-Clean : goal.returns-in-Clean
+returns-in-Clean c = let a = c.args in
+    let said = c.in_ok-event.ensures in
+    let p =
+    played-so (opens-held (sym (judged-accepted a.capture.now said)) c.judged.result.opened c.judged.ensures)
+    (ap not_clean (judged-verdict a.capture.now said) ∙ ap (λ (v : Verdict). not_clean (report_of v).verdict) c.in-Clean.is)
+    a.first a.window.now a.writes.now a.reads.now (c.play_on.ensures.result_value, (c.play_on.ensures.window_after, c.play_on.ensures.reads_after)) in
     record { result_value = p.0; window_after = p.1.0; reads_after = p.1.1 }

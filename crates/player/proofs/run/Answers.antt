@@ -1,149 +1,101 @@
 -- The invariant: the window shows what the cells hold, and the rest of the replay ends the whole (Running).
 use native.Mathlib.Omega.{arith}
 use lib.ListN.{get_or}
-use Rattle.player.proofs.Given.{found, found_none, in_row}
+use Rattle.player.proofs.Given.{found, found_none}
 use Rattle.player.proofs.Window.{data-length}
 use Rattle.player.proofs.Running.{as_wide, as_long, begins, passes, holds-all, all-taken, masks-fit, stores-on, reads_fit, reads_on, ends}
 use Rattle.player.proofs.run.Goals as goal
 
-pub bounds-s-0 : goal.bounds-s-0
-bounds-s-0 c = omega arith
-
-pub first_cells-firsts-requires : goal.first_cells-firsts-requires
-first_cells-firsts-requires c = c.requires.playable.listable.sized
-
-pub bounds-s-3 : goal.bounds-s-3
-bounds-s-3 c = omega arith
-
 pub events-init : goal.events-init
 events-init c = let a = c.args in
-    begins a.s.now a.bytes.now a.n a.first a.window.now a.writes.now a.reads.now c.requires.playable.listable c.requires.clean
-    c.first_cells-firsts.ensures c.requires.n_value c.requires.n_in_bounds
+    let x = a.clean.now in
+    let o = x.opened in
+    begins o.settings o.events.bytes.now o.events.count a.first a.window.now a.writes.now a.reads.now x.listable x.clean c.start-state.ensures c.requires.playable c.requires.room
 
-pub burst_at-event-requires : goal.burst_at-event-requires
-burst_at-event-requires c = record { listable = (c.requires.playable.listable, c.events-test.true); clean = c.requires.clean; at = c.events.invariant.at }
+pub burst_at-requires-clause-before : goal.burst_at-requires-clause-before
+burst_at-requires-clause-before c = c.events.invariant.at
 
-pub passed-mode-requires : goal.passed-mode-requires
-passed-mode-requires c = let z = c.requires.playable.listable in
-    record { sized = (z.sized, omega (arith, z.fit.long, c.events-test.true)); at = c.events.invariant.at }
-
-pub overflow_step-i : goal.overflow_step-i
-overflow_step-i c = omega arith
-
-pub events-smaller-in_default : goal.events-smaller-in_default
-events-smaller-in_default c = omega arith
+pub passed-requires-clause-at : goal.passed-requires-clause-at
+passed-requires-clause-at c = c.events.invariant.at
 
 pub events-preserved-in_default : goal.events-preserved-in_default
 events-preserved-in_default c = let a = c.args in
-    let x = c.events in
-    passes a.s.now a.bytes.now a.n a.first a.window.now a.writes.now a.reads.now c.requires.playable.listable c.requires.clean x.invariant
-    c.events-test.true
-    (found_none a.s.now a.bytes.now a.n x.i c.burst_at-event.ensures c.in_default.is)
-    (record { rowed = c.passed-mode.ensures.firsts_after; moded = c.passed-mode.ensures.value })
+    let x = a.clean.now in
+    let o = x.opened in
+    let w = c.events in
+    passes o.settings o.events.bytes.now o.events.count a.first a.window.now a.writes.now a.reads.now x.listable x.clean w.invariant c.events-test.true
+    (found_none o.settings o.events.bytes.now o.events.count w.i c.burst_at.ensures c.in_default.is) c.passed.ensures
 
 pub store-requires : goal.store-requires
 store-requires c = let a = c.args in
-    let x = c.events in
-    let f = found a.s.now a.bytes.now a.n x.i c.burst_at-event.ensures c.in-Burst.is in
-    let taken = c.events-test.true in
-    let z = c.requires.playable.listable in record {
-      in_row = in_row a.s.now a.bytes.now a.n x.i z c.requires.clean taken f;
-      pairs_value = holds-all a.s.now a.bytes.now a.n a.first a.window.now a.writes.now a.reads.now z c.requires.clean x.invariant taken f;
-      pairs_in_bounds = masks-fit a.s.now
-          a.bytes.now a.n a.first a.window.now a.writes.now a.reads.now z c.requires.clean x.invariant taken f (get_or a.s.now 0 0)
-          c.requires.playable.coded c.if-stores.true;
-    }
-
-pub overflow_cast-taken : goal.overflow_cast-taken
-overflow_cast-taken c = omega arith
+    let x = a.clean.now in
+    let o = x.opened in
+    let w = c.events in
+    let f = found o.settings o.events.bytes.now o.events.count w.i c.burst_at.ensures c.in-Some.is in
+    record { inside = holds-all o.settings o.events.bytes.now o.events.count a.first a.window.now a.writes.now a.reads.now x.listable x.clean w.invariant c.events-test.true f; supplied = masks-fit o.settings o.events.bytes.now o.events.count a.first a.window.now a.writes.now a.reads.now x.listable x.clean w.invariant c.events-test.true f (get_or o.settings 0 0) c.requires.coded c.if-burst.true }
 
 pub overflow_add-taken : goal.overflow_add-taken
 overflow_add-taken c = let a = c.args in
-    let x = c.events in
-    let f = found a.s.now a.bytes.now a.n x.i c.burst_at-event.ensures c.in-Burst.is in
-    let taken = c.events-test.true in
-    let z = c.requires.playable.listable in
+    let x = a.clean.now in
+    let o = x.opened in
+    let w = c.events in
+    let f = found o.settings o.events.bytes.now o.events.count w.i c.burst_at.ensures c.in-Some.is in
     omega (
       arith,
-      all-taken a.s.now a.bytes.now a.n a.first a.window.now a.writes.now a.reads.now z c.requires.clean x.invariant taken f (get_or a.s.now 0 0)
-          c.requires.playable.coded c.if-stores.true,
+      all-taken o.settings o.events.bytes.now o.events.count a.first a.window.now a.writes.now a.reads.now x.listable x.clean w.invariant c.events-test.true f (get_or o.settings 0 0) c.requires.coded c.if-burst.true,
       c.burst_length.ensures,
       data-length a.writes.now,
     )
 
-pub overflow_step-i-then-stores : goal.overflow_step-i-then-stores
-overflow_step-i-then-stores c = omega arith
-
-pub events-smaller-then-stores : goal.events-smaller-then-stores
-events-smaller-then-stores c = omega arith
-
-pub events-preserved-then-stores : goal.events-preserved-then-stores
-events-preserved-then-stores c = let a = c.args in
-    let x = c.events in
-    let f = found a.s.now a.bytes.now a.n x.i c.burst_at-event.ensures c.in-Burst.is in
-    let taken = c.events-test.true in
-    let z = c.requires.playable.listable in
-    stores-on a.s.now a.bytes.now a.n a.first a.window.now a.writes.now a.reads.now z c.requires.clean x.invariant taken f (get_or a.s.now 0 0)
-    c.requires.playable.coded c.if-stores.true c.burst_length.ensures c.store.ensures
+pub events-preserved-then-burst : goal.events-preserved-then-burst
+events-preserved-then-burst c = let a = c.args in
+    let x = a.clean.now in
+    let o = x.opened in
+    let w = c.events in
+    let f = found o.settings o.events.bytes.now o.events.count w.i c.burst_at.ensures c.in-Some.is in
+    stores-on o.settings o.events.bytes.now o.events.count a.first a.window.now a.writes.now a.reads.now x.listable x.clean w.invariant c.events-test.true f (get_or o.settings 0 0) c.requires.coded c.if-burst.true
+    c.burst_length.ensures c.store.ensures
 
 pub fetch-requires : goal.fetch-requires
 fetch-requires c = let a = c.args in
-    let x = c.events in
-    let f = found a.s.now a.bytes.now a.n x.i c.burst_at-event.ensures c.in-Burst.is in
-    let taken = c.events-test.true in
-    let z = c.requires.playable.listable in record {
-      in_row = in_row a.s.now a.bytes.now a.n x.i z c.requires.clean taken f;
-      pairs_value = holds-all a.s.now a.bytes.now a.n a.first a.window.now a.writes.now a.reads.now z c.requires.clean x.invariant taken f;
-      pairs_in_bounds = reads_fit a.s.now
-          a.bytes.now a.n a.first a.window.now a.writes.now a.reads.now z c.requires.clean x.invariant taken f (get_or a.s.now 0 0)
-          c.requires.playable.coded c.if-stores.false;
-    }
-
-pub overflow_cast-next : goal.overflow_cast-next
-overflow_cast-next c = omega arith
-
-pub overflow_mul-next : goal.overflow_mul-next
-overflow_mul-next c = omega arith
+    let x = a.clean.now in
+    let o = x.opened in
+    let w = c.events in
+    let f = found o.settings o.events.bytes.now o.events.count w.i c.burst_at.ensures c.in-Some.is in
+    record { inside = holds-all o.settings o.events.bytes.now o.events.count a.first a.window.now a.writes.now a.reads.now x.listable x.clean w.invariant c.events-test.true f; room = reads_fit o.settings o.events.bytes.now o.events.count a.first a.window.now a.writes.now a.reads.now x.listable x.clean w.invariant c.events-test.true f (get_or o.settings 0 0) c.requires.coded c.if-burst.false }
 
 pub overflow_add-next : goal.overflow_add-next
 overflow_add-next c = let a = c.args in
-    let x = c.events in
-    let f = found a.s.now a.bytes.now a.n x.i c.burst_at-event.ensures c.in-Burst.is in
-    let taken = c.events-test.true in
-    let z = c.requires.playable.listable in
+    let x = a.clean.now in
+    let o = x.opened in
+    let w = c.events in
+    let f = found o.settings o.events.bytes.now o.events.count w.i c.burst_at.ensures c.in-Some.is in
     omega (
       arith,
-      reads_fit a.s.now a.bytes.now a.n a.first a.window.now a.writes.now a.reads.now z c.requires.clean x.invariant taken f
-          (get_or a.s.now 0 0) c.requires.playable.coded c.if-stores.false,
-      as_long a.s.now a.bytes.now a.n a.first
-          a.window.now a.writes.now a.reads.now x.invariant,
+      reads_fit o.settings o.events.bytes.now o.events.count a.first a.window.now a.writes.now a.reads.now x.listable x.clean w.invariant c.events-test.true f (get_or o.settings 0 0) c.requires.coded c.if-burst.false,
+      as_long o.settings o.events.bytes.now o.events.count a.first a.window.now a.writes.now a.reads.now w.invariant,
     )
-
-pub overflow_step-i-in-events : goal.overflow_step-i-in-events
-overflow_step-i-in-events c = omega arith
-
-pub events-smaller : goal.events-smaller
-events-smaller c = omega arith
 
 pub events-preserved : goal.events-preserved
 events-preserved c = let a = c.args in
-    let x = c.events in
-    let f = found a.s.now a.bytes.now a.n x.i c.burst_at-event.ensures c.in-Burst.is in
-    let taken = c.events-test.true in
-    let z = c.requires.playable.listable in
-    reads_on a.s.now a.bytes.now a.n a.first a.window.now a.writes.now a.reads.now z c.requires.clean x.invariant taken f (get_or a.s.now 0 0)
-    c.requires.playable.coded c.if-stores.false c.fetch.ensures
+    let x = a.clean.now in
+    let o = x.opened in
+    let w = c.events in
+    let f = found o.settings o.events.bytes.now o.events.count w.i c.burst_at.ensures c.in-Some.is in
+    reads_on o.settings o.events.bytes.now o.events.count a.first a.window.now a.writes.now a.reads.now x.listable x.clean w.invariant c.events-test.true f (get_or o.settings 0 0) c.requires.coded c.if-burst.false c.fetch.ensures
 
 pub shape_of-window : goal.shape_of-window
-shape_of-window c = let a = c.args in as_wide a.s.now a.bytes.now a.n a.first a.window.now
-    a.writes.now a.reads.now c.events.invariant
+shape_of-window c = let a = c.args in
+    let o = a.clean.now.opened in
+    as_wide o.settings o.events.bytes.now o.events.count a.first a.window.now a.writes.now a.reads.now c.events.invariant
 
 pub shape_of-reads : goal.shape_of-reads
-shape_of-reads c = let a = c.args in as_long a.s.now a.bytes.now a.n a.first a.window.now
-    a.writes.now a.reads.now c.events.invariant
+shape_of-reads c = let a = c.args in
+    let o = a.clean.now.opened in
+    as_long o.settings o.events.bytes.now o.events.count a.first a.window.now a.writes.now a.reads.now c.events.invariant
 
 pub returns : goal.returns
-returns c =
-    let p = let a = c.args in ends a.s.now a.bytes.now a.n a.first a.window.now
-    a.writes.now a.reads.now c.events.invariant (omega (arith, c.events-test.false)) in
+returns c = let a = c.args in
+    let o = a.clean.now.opened in
+    let p = ends o.settings o.events.bytes.now o.events.count a.first a.window.now a.writes.now a.reads.now c.events.invariant (omega (arith, c.events-test.false)) in
     record { window_after = p.0; reads_after = p.1 }

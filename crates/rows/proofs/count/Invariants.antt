@@ -1,14 +1,8 @@
-use Rattle.std.proofs.Common.{◌-◌, ◌≡◌, ◌≤◌}
-use Rattle.rows.specs.Walks.{Few, none_yet, tallied_from}
+use Rattle.std.specs.Iterator.Adapters.{take_source, take_count}
+use Rattle.browser.specs.Browsed.{events_left}
+use Rattle.rows.proofs.Tallying.{Counting}
 use Rattle.rows.proofs.count.Given as goal
 
--- the reader stands at event i of the capture, and counting on from there gives what counting all gives
-abbrev pub invariant-loop-i : goal.invariant-loop-i
-invariant-loop-i l =
-    (l.i ≤ l.n)
-    × ((l.r.at ≡ l.i)
-    × ((l.r.capture.now ≡ l.capture)
-    × (Few l.t l.i × (tallied_from l.capture l.t l.i (l.n - l.i) ≡ tallied_from l.capture none_yet 0 l.n))))
-
-abbrev pub decreases-loop-i : goal.decreases-loop-i
-decreases-loop-i l = l.n - l.i
+-- counting on by the events that the reader has left gives what counting all gives
+abbrev pub invariant-loop-event : goal.invariant-loop-event
+invariant-loop-event l = Counting l.capture l.n l.t (events_left (take_source l.event-iterator)) (take_count l.event-iterator)

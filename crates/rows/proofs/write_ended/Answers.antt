@@ -7,12 +7,12 @@ returns-in_default c = let a = c.args in
     record { value = p.0; index_after = p.1 }
 
 pub overflow_sub-end : goal.overflow_sub-end
-overflow_sub-end c = begun-before c.args.index.now c.args.next c.args.x c.args.end c.in-Open.is c.requires.0
+overflow_sub-end c = begun-before c.args.index.now c.args.next c.args.x c.args.end c.in-Some.is c.requires.0
 
 pub write_opening-requires : goal.write_opening-requires
-write_opening-requires c = room-for-one c.args.index.now c.args.next c.args.x c.args.end c.in-Open.is c.requires.1
+write_opening-requires c = room-for-one c.args.index.now c.args.next c.args.x c.args.end c.in-Some.is c.requires.1
 
 pub returns : goal.returns
 returns c =
-    let p = ends-one c.args.index.now c.args.next c.args.x c.args.end c.in-Open.is c.write_opening.ensures in
+    let p = ends-one c.args.index.now c.args.next c.args.x c.args.end c.in-Some.is c.write_opening.ensures in
     record { value = p.0; index_after = p.1 }

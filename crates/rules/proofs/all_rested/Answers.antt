@@ -7,21 +7,6 @@ use Rattle.rules.proofs.all_rested.Goals as goal
 pub banks-init : goal.banks-init
 banks-init c = none_yet
 
-pub overflow_add-i : goal.overflow_add-i
-overflow_add-i c = omega arith
-
-pub offset_bounds-d-i : goal.offset_bounds-d-i
-offset_bounds-d-i c = omega arith
-
-pub bounds-d-i : goal.bounds-d-i
-bounds-d-i c = omega arith
-
-pub overflow_step-i : goal.overflow_step-i
-overflow_step-i c = omega arith
-
-pub banks-smaller : goal.banks-smaller
-banks-smaller c = omega arith
-
 pub banks-preserved : goal.banks-preserved
 banks-preserved c = one_more c.banks.invariant (sym c.past.ensures ∙ c.if-past.true)
 

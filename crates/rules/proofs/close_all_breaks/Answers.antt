@@ -1,37 +1,37 @@
-use borrow.Author.Tests.{le-leb, lt-leb}
-use Rattle.deadlines.specs.Deadlines.{all_held, all_written, close_all_breaks}
-use Rattle.rules.proofs.Banks.{told-broken, told-kept}
+use mathlib.Core.Path.{◌∙◌}
+use Rattle.deadlines.specs.Deadlines.{close_all_breaks}
+use Rattle.rules.proofs.Handed.{handed}
+use Rattle.rules.proofs.Timed.{kept, broke}
+use Rattle.rules.specs.declared.Rule.TheVariants.{Busy, RowHeld, WriteRecovery}
 use Rattle.rules.proofs.close_all_breaks.Goals as goal
 
-pub returns-then-t-d : goal.returns-then-t-d
+pub returns-in_err-over : goal.returns-in_err-over
 unfolding close_all_breaks
-returns-then-t-d c = rw (lt-leb _ _ c.if-t-d.true)
+returns-in_err-over c = let told = broke _ Busy c.in_err-over.ensures in handed _ _ c.from_residual.ensures.1
+    ∙ rw (told.fails) told.names
 
-pub returns-then-held-ne0 : goal.returns-then-held-ne0
+pub returns-in_err-open_over : goal.returns-in_err-open_over
 unfolding close_all_breaks
-returns-then-held-ne0 c = let a = c.args in
-    let told = told-broken (all_held a.d.now a.t) 9 c.all_held-held.ensures c.if-held-ne0.true in
-    rw (le-leb _ _ c.if-t-d.false, told.fails) told.named
-
-pub returns-then-written-ne0 : goal.returns-then-written-ne0
-unfolding close_all_breaks
-returns-then-written-ne0 c = let a = c.args in
-    let d = c.args.d.now in
-    let told = told-broken (all_written d a.t) 10 c.all_written-written.ensures c.if-written-ne0.true in
-    rw (
-      le-leb _ _ c.if-t-d.false,
-      told-kept (all_held d a.t) 8 c.all_held-held.ensures c.if-held-ne0.false,
+returns-in_err-open_over c = let told = broke _ RowHeld c.in_err-open_over.ensures in handed _ _ c.from_residual-in_err-open_over.ensures.1
+    ∙ rw (
+      kept _ Busy c.in_ok-over.ensures,
       told.fails,
-    )
-    told.named
+    ) told.names
+
+pub returns-in_err-open_over-2 : goal.returns-in_err-open_over-2
+unfolding close_all_breaks
+returns-in_err-open_over-2 c = let told = broke _ WriteRecovery c.in_err-open_over-2.ensures in handed _ _ c.from_residual-in_err-open_over-2.ensures.1
+    ∙ rw (
+      kept _ Busy c.in_ok-over.ensures,
+      kept _ RowHeld c.in_ok-open_over.ensures,
+      told.fails,
+    ) told.names
 
 pub returns : goal.returns
 unfolding close_all_breaks
-returns c = let a = c.args in
-    let d = c.args.d.now in
-    rw (
-      le-leb _ _ c.if-t-d.false,
-      told-kept (all_held d a.t) 8 c.all_held-held.ensures c.if-held-ne0.false,
-      told-kept (all_written d a.t) 9 c.all_written-written.ensures c.if-written-ne0.false,
-      c.last_breaks.ensures,
-    )
+returns c = rw (
+  kept _ Busy c.in_ok-over.ensures,
+  kept _ RowHeld c.in_ok-open_over.ensures,
+  kept _ WriteRecovery c.in_ok-open_over-2.ensures,
+  c.last_breaks.ensures,
+)

@@ -6,8 +6,8 @@ use Rattle.rules.proofs.late.Goals as goal
 pub returns-then-d-eq0 : goal.returns-then-d-eq0
 returns-then-d-eq0 c = let a = c.args in rw (le-ltb a.t (at a.d.now ASLEEP) (omega (arith, c.if-d-eq0.true)))
 
-pub returns-then-t-d : goal.returns-then-t-d
-returns-then-t-d c = rw (lt-ltb _ _ c.if-t-d.true)
+pub returns-then-from-d : goal.returns-then-from-d
+returns-then-from-d c = rw (← c.from.ensures, lt-ltb _ _ c.if-from-d.true)
 
 pub returns : goal.returns
-returns c = rw (le-ltb _ _ c.if-t-d.false)
+returns c = rw (← c.from.ensures, le-ltb _ _ c.if-from-d.false)

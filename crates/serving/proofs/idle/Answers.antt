@@ -4,8 +4,7 @@ use Rattle.serving.proofs.Serves.{idle-already, idle-closed}
 use Rattle.serving.proofs.idle.Goals as goal
 
 pub returns-then-all_idle : goal.returns-then-all_idle
-returns-then-all_idle c = idle-already (settings_of c.args.s.now) (draft c.args.d.now c.args.k.now c.args.words.now) c.all_idle.ensures c.if-all_idle.true
+returns-then-all_idle c = idle-already (settings_of c.args.scheduler.now.settings.now) (draft c.args.state.now c.args.words.now) c.all_idle.ensures c.if-all_idle.true
 
 pub returns : goal.returns
-returns c = idle-closed (settings_of c.args.s.now) (draft c.args.d.now c.args.k.now c.args.words.now)
-    c.all_idle.ensures c.if-all_idle.false c.close_all.ensures
+returns c = idle-closed (settings_of c.args.scheduler.now.settings.now) (draft c.args.state.now c.args.words.now) c.all_idle.ensures c.if-all_idle.false c.close_all.ensures

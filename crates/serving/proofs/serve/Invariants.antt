@@ -4,4 +4,4 @@ use Rattle.serving.proofs.Tries.{Trying}
 use Rattle.serving.proofs.serve.Given as goal
 
 abbrev pub invariant-tries : goal.invariant-tries
-invariant-tries l = Trying (settings_of l.s) l.closed l.q l.margin l.initial.d l.initial.k l.initial.words l.sure l.d l.k l.words l.refreshed
+invariant-tries l = Trying (settings_of l.scheduler.settings.now) l.scheduler.closed l.q l.margin l.initial.state l.initial.words l.sure l.state l.words l.refreshed

@@ -11,4 +11,4 @@ returns-in_default c = let call = c.lowest_bad in
 
 pub returns : goal.returns
 returns c = let call = c.lowest_bad in
-    sym (one-unfit c.args.words.now c.if-words-ne-COUNT.false call.result c.in-At.is call.ensures)
+    sym (one-unfit c.args.words.now c.if-words-ne-COUNT.false call.result c.in-Some.is call.ensures)

@@ -1,4 +1,6 @@
+use native.Mathlib.Omega.{arith}
 use Rattle.plan.specs.Soonest.{close_all_soonest}
+use Rattle.soonest.proofs.Places.{read-end-is}
 use Rattle.soonest.proofs.close_all.Goals as goal
 
 pub returns : goal.returns
@@ -7,4 +9,5 @@ returns c = rw (
   c.latest.ensures,
   c.all_till.ensures,
   c.all_till-written.ensures,
+  read-end-is c.args.state.now (omega arith),
 )

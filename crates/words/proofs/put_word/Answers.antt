@@ -1,18 +1,7 @@
-use native.Mathlib.Omega.{arith}
 use native.Mathlib.Numerals.{add-one, add-two, add-three}
-use lib.ListN.{length-set}
 use Rattle.reading.specs.Words.{word_bytes}
 use Rattle.words.proofs.put_word.Goals as goal
 
-pub bounds-out-at-2 : goal.bounds-out-at-2
-bounds-out-at-2 c = simp length-set (omega arith)
-
-pub bounds-out-at-3 : goal.bounds-out-at-3
-bounds-out-at-3 c = simp length-set (omega arith)
-
-pub bounds-out-at-4 : goal.bounds-out-at-4
-bounds-out-at-4 c = simp length-set (omega arith)
-
 pub returns : goal.returns
 unfolding word_bytes
-returns c = rw (add-one, add-two, add-three)
+returns c = rw (c.to_le_bytes.ensures, add-one, add-two, add-three)

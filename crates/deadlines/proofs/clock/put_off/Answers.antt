@@ -3,10 +3,10 @@ use native.Mathlib.Omega.{arith}
 use borrow.Author.Tests.{le-leb, lt-leb}
 use Rattle.deadlines.proofs.clock.put_off.Goals as goal
 
-pub returns-then-due-t : goal.returns-then-due-t
-returns-then-due-t c = let a = c.args in
-    rw (le-leb a.due (a.t + 8 * a.refi) (omega (arith, c.if-due-t.true)))
+pub returns-then-due-from : goal.returns-then-due-from
+returns-then-due-from c = let a = c.args in
+    rw (le-leb a.due (a.t + 8 * a.refi) (omega (arith, c.if-due-from.true)), c.from-then-due-from.ensures)
 
 pub returns : goal.returns
 returns c = let a = c.args in
-    rw (lt-leb a.due (a.t + 8 * a.refi) (omega (arith, c.if-due-t.false)))
+    rw (lt-leb a.due (a.t + 8 * a.refi) (omega (arith, c.if-due-from.false)))

@@ -1,9 +1,0 @@
-use Prim.Native.Nat.{◌+◌}
-use mathlib.Core.Bool.{◌||◌}
-use lib.Dec.{leb, eqb}
-use Rattle.deadlines.specs.Deadlines.{OPENED, WRITTEN, at}
-use Rattle.reading.proofs.Laws.{Passed}
-use Rattle.rules.proofs.all_written.Given as goal
-
-abbrev pub invariant-banks : goal.invariant-banks
-invariant-banks l = Passed (λ j. leb (at l.d (WRITTEN + j)) l.t || eqb (at l.d (OPENED + j)) 0) l.i

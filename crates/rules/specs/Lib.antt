@@ -1,0 +1,2 @@
+-- Rules by their numbers.
+pub mod Rule

@@ -1,0 +1,2 @@
+-- What stands at each place, and what a store to it leaves.
+pub mod Places
