@@ -1,10 +1,11 @@
 // The judge: refused by document 01's table, or judged event by event until one breaks a rule.
 #![tactic(auto)]
 
-ghost use Rattle.std.specs.Prelude.{◌≡◌};
+ghost use Rattle.std.specs.Prelude.{◌≡◌, IfOk};
 ghost use Rattle.reading.specs.Settings.{settings_of};
-ghost use Rattle.reading.specs.Answers.{judge_answer_to, judge_answer};
-ghost use Rattle.refusal.specs.Refusal.{told};
+ghost use Rattle.reading.specs.Answers.{answered, accepted_to, judge_answer_to, judge_answer};
+ghost use Rattle.refusal.specs.Refusal.{told, passed};
+ghost use Rattle.capture.specs.Holding.{Holds};
 ghost use Rattle.judge.specs.Meaning.{report_of, Fit, Started, report_on, deadlines_on, pace_on};
 
 use capture::held::Opened;
@@ -63,6 +64,15 @@ pub fn walk(s: &Settings, d: &mut Deadlines, pace: &mut Pace, bytes: &[u8], n: u
     }
 }
 
+// Refusals 1 to 4, else what the capture holds. Out of `judge_to`, so that what opening needs is gone before the walk begins.
+#[inline(never)]
+fn accepted<'a>(capture: &'a [u8], most: u32) -> Result<Opened<'a>, Refusal>
+    ensures answer { passed result ≡ accepted_to most capture.now (answered tt) }
+    ensures holds { IfOk result (Holds capture.now) }
+{
+    capture::open_to(capture, most)
+}
+
 // What is said of the events of an accepted capture. Out of `judge_to`, whose frame has the capture that was opened.
 #[inline(never)]
 fn judged(opened: &Opened<'_>) -> Verdict
@@ -81,7 +91,7 @@ fn judged(opened: &Opened<'_>) -> Verdict
 pub fn judge_to(capture: &[u8], most: u32) -> Result<Verdict, Refusal>
     ensures { told report_of result ≡ judge_answer_to most capture.now }
 {
-    let opened = capture::open_to(capture, most)?;
+    let opened = accepted(capture, most)?;
     Ok(judged(&opened))
 }
 

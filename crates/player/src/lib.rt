@@ -218,7 +218,8 @@ fn run(clean: &Clean<'_>, first: u32, window: &mut [u32], writes: &[u32], reads:
 
 // ---- the call
 
-// Refusals 15 and 7, in this order; else the play.
+// Refusals 15 and 7, in this order; else the play. Out of `play`, so that its frame does not lie below the judging.
+#[inline(never)]
 fn play_on(
     clean: &Clean<'_>,
     first: u32,
