@@ -113,7 +113,7 @@ def hold_constants(folder, out):
 
 # ---- 2: header, manual page, archive
 
-def hold_header(folder):
+def hold_header(folder, allowed):
     header = read(folder, "include", "morgazell.h")
     exported = set(re.findall(r"^uint\w+ (morgazell_\w+)\(", header, re.M))
     helping = set(re.findall(r"^static inline \w+ (morgazell_\w+)\(", header, re.M))
@@ -121,7 +121,7 @@ def hold_header(folder):
     hold("functions of the manual page", set(re.findall(r"\b(morgazell_\w+)\(", page)), exported | helping)
     data, = elf.members(os.path.join(folder, "lib", "libmorgazell.a"))
     hold("functions of the archive", elf.exported(data), exported)
-    hold("what the archive wants", elf.wanted(data) - {"memcpy", "memset"}, set())
+    hold("what the archive wants", elf.wanted(data) - allowed, set())
     for compiler, language in LANGUAGES.items():
         words = [X86, *language, *STRICT, *pkg_config(folder, "--cflags"), "-fsyntax-only", "-"]
         text = "#include <morgazell.h>\n#include <morgazell.h>\nint main(void) { return morgazell_rule(0) != 0; }\n"
@@ -451,7 +451,7 @@ def main():
         with tempfile.TemporaryDirectory() as empty, tempfile.TemporaryDirectory() as out:
             folder = unpacked(name, empty)
             hold_folder(folder)
-            hold_header(folder)
+            hold_header(folder, set() if build == "smallest" else {"memcpy", "memset"})
             hold_constants(folder, out)
             for compiler in LANGUAGES:
                 program = compiled(folder, compiler, "judge_files", os.path.join(out, "judge_files"))

@@ -30,13 +30,16 @@ const WORDS: usize = 16_002;
 // The edition that schedules keep to.
 const OLD_EDITION: u32 = 0;
 
-// All settings, of the fourteen words that a schedule takes; those of sleep are 0, and so is the edition.
+// All settings, of the fourteen words that a schedule takes; those of sleep are 0, and so is the edition. Word by word: the
+// library's copy would make the smallest build want `memcpy`, which the header rules out.
 fn fourteen(settings: &[u32]) -> Settings
     requires { length settings.now ≡ settings_count }
     ensures { result ≡ padded settings.now }
 {
     let mut s = [0u32; HELD];
-    s[..COUNT].copy_from_slice(settings);
+    'settings: for (i, word) in settings.iter().enumerate() {
+        s[i] = *word;
+    }
     s
 }
 
