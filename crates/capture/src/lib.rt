@@ -257,12 +257,11 @@ fn lowest_bad_event(limit: u32, bytes: &[u8], n: usize) -> Option<u32>
     None
 }
 
-// Refusals 1 to 4, in this order, where there may be so many events; else what the capture holds. In place, so that the answer is
-// not moved from frame to frame: the header states how much stack a call takes.
-#[inline(always)]
-pub fn open_to<'a>(capture: &'a [u8], most: u32) -> Result<Opened<'a>, Refusal>
-    ensures answer { passed result ≡ accepted_to most capture.now (answered tt) }
-    ensures holds { IfOk result (Holds capture.now) }
+// Refusals 1 to 4, in this order, where there may be so many events. Never in place: what it needs of stack is gone before a call
+// goes on, and the header states how much a call takes.
+#[inline(never)]
+fn checked_to(capture: &[u8], most: u32) -> Result<(), Refusal>
+    ensures { passed result ≡ accepted_to most capture.now (answered tt) }
 {
     if bad_length(capture, most) {
         return Err(Refusal::Length);
@@ -270,19 +269,32 @@ pub fn open_to<'a>(capture: &'a [u8], most: u32) -> Result<Opened<'a>, Refusal>
     if bad_header(capture, most) {
         return Err(Refusal::Header);
     }
-    let mut settings = setting_words(capture);
+    let settings = setting_words(capture);
     let stated = settings_count(capture) as usize;
     if let Some(place) = settings::lowest_bad(&settings, stated) {
         return Err(Refusal::Setting(place));
     }
-    settings[EDITION] = edition(capture);
     let count = event_count(capture);
     let bytes = event_bytes(capture);
     if let Some(place) = lowest_bad_event(pin_limit(capture), bytes, count as usize) {
         return Err(Refusal::Event(place));
     }
-    let events = Events { bytes, count };
-    Ok(Opened { settings, events })
+    Ok(())
+}
+
+// Those refusals, else what the capture holds. In place, so that this is not moved from frame to frame.
+#[inline(always)]
+pub fn open_to<'a>(capture: &'a [u8], most: u32) -> Result<Opened<'a>, Refusal>
+    ensures answer { passed result ≡ accepted_to most capture.now (answered tt) }
+    ensures holds { IfOk result (Holds capture.now) }
+{
+    checked_to(capture, most)?;
+    let count = event_count(capture);
+    let bytes = event_bytes(capture);
+    Ok(Opened {
+        settings: settings_in(capture),
+        events: Events { bytes, count },
+    })
 }
 
 // Those of a capture.

@@ -5,7 +5,7 @@ use Rattle.std.specs.Prelude.{⊤, Result}
 use Rattle.std.specs.Result.{IsErrAnd}
 use Rattle.std.proofs.lemmas.Result.{err_from_is_err_and}
 use Rattle.rules.specs.declared.Rule.{Rule}
-use Rattle.rules.specs.declared.Rule.TheVariants.{Row, ModeWord, BankState, Busy, Precharge, OtherActive, RowToColumn, RowHeld, WriteRecovery, WriteToRead, Bus, AutoPrecharge, Refresh, Sleep}
+use Rattle.rules.specs.declared.Rule.TheVariants.{Row, ModeWord, BankState, Busy, Precharge, RowCycle, OtherActive, RowToColumn, RowHeld, WriteRecovery, WriteToRead, Bus, AutoPrecharge, Refresh, Sleep}
 use Rattle.rules.specs.Rule.{number_of, broken}
 
 pub handed : (r : Result ⊤ Rule) (rule : Rule) → IsErrAnd r (λ e. e ≡ rule) → broken r ≡ number_of rule
@@ -17,6 +17,7 @@ some_rule ModeWord e = absurd (omega (arith, e))
 some_rule BankState e = absurd (omega (arith, e))
 some_rule Busy e = absurd (omega (arith, e))
 some_rule Precharge e = absurd (omega (arith, e))
+some_rule RowCycle e = absurd (omega (arith, e))
 some_rule OtherActive e = absurd (omega (arith, e))
 some_rule RowToColumn e = absurd (omega (arith, e))
 some_rule RowHeld e = absurd (omega (arith, e))

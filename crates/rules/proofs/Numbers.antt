@@ -4,7 +4,7 @@ use mathlib.Core.Bool.{cond}
 use mathlib.Core.Path.{◌≡◌, refl}
 use lib.Dec.{eqb}
 use Rattle.rules.specs.declared.Rule.{Rule}
-use Rattle.rules.specs.declared.Rule.TheVariants.{Row, ModeWord, BankState, Busy, Precharge, OtherActive, RowToColumn, RowHeld, WriteRecovery, WriteToRead, Bus, AutoPrecharge, Refresh, Sleep}
+use Rattle.rules.specs.declared.Rule.TheVariants.{Row, ModeWord, BankState, Busy, Precharge, RowCycle, OtherActive, RowToColumn, RowHeld, WriteRecovery, WriteToRead, Bus, AutoPrecharge, Refresh, Sleep}
 use Rattle.rules.specs.Rule.{number_of}
 
 pub numbered : ℕ → Rule
@@ -14,6 +14,7 @@ numbered n =
     (cond (eqb n 3) BankState
     (cond (eqb n 4) Busy
     (cond (eqb n 5) Precharge
+    (cond (eqb n 6) RowCycle
     (cond (eqb n 7) OtherActive
     (cond (eqb n 8) RowToColumn
     (cond (eqb n 9) RowHeld
@@ -21,7 +22,7 @@ numbered n =
     (cond (eqb n 11) WriteToRead
     (cond (eqb n 12) Bus
     (cond (eqb n 13) AutoPrecharge
-    (cond (eqb n 14) Refresh Sleep))))))))))))
+    (cond (eqb n 14) Refresh Sleep)))))))))))))
 
 pub numbered_is : (rule : Rule) → numbered (number_of rule) ≡ rule
 unfolding numbered
@@ -30,6 +31,7 @@ numbered_is ModeWord = refl
 numbered_is BankState = refl
 numbered_is Busy = refl
 numbered_is Precharge = refl
+numbered_is RowCycle = refl
 numbered_is OtherActive = refl
 numbered_is RowToColumn = refl
 numbered_is RowHeld = refl

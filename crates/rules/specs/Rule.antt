@@ -3,7 +3,7 @@ use Rattle.std.specs.Prelude.{ℕ, ◌+◌, Bool, not, ◌||◌, List, [], ◌�
 use Rattle.reading.specs.Rules.{every_bank}
 use Rattle.deadlines.specs.Deadlines.{OPENED, COLUMN, BUSY, at, rule_unless, asks, unmet, last_breaks}
 use Rattle.rules.specs.declared.Rule.{Rule}
-use Rattle.rules.specs.declared.Rule.TheVariants.{Row, ModeWord, BankState, Busy, Precharge, OtherActive, RowToColumn, RowHeld, WriteRecovery, WriteToRead, Bus, AutoPrecharge, Refresh, Sleep}
+use Rattle.rules.specs.declared.Rule.TheVariants.{Row, ModeWord, BankState, Busy, Precharge, RowCycle, OtherActive, RowToColumn, RowHeld, WriteRecovery, WriteToRead, Bus, AutoPrecharge, Refresh, Sleep}
 
 abbrev pub number_of : Rule → ℕ
 number_of Row = 1
@@ -11,6 +11,7 @@ number_of ModeWord = 2
 number_of BankState = 3
 number_of Busy = 4
 number_of Precharge = 5
+number_of RowCycle = 6
 number_of OtherActive = 7
 number_of RowToColumn = 8
 number_of RowHeld = 9

@@ -111,6 +111,7 @@ fn ask_of(out: &mut Out, settings: &Settings, rule: Rule) {
             "ACTIVE at least tRP ({}) cycles after its bank's precharge; AUTO REFRESH and MODE REGISTER SET after every bank's",
             settings[T_RP]
         ),
+        Rule::RowCycle => write!(out, "nothing is asked by this number"),
         Rule::OtherActive => write!(
             out,
             "ACTIVE at least tRRD ({}) cycles after the last ACTIVE of another bank",

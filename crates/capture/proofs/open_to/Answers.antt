@@ -1,99 +1,19 @@
 use native.Mathlib.Omega.{arith}
-use mathlib.Core.Bool.{Bool, true, false, not}
-use mathlib.Core.Path.{◌≡◌, sym, ap, ◌∙◌}
-use borrow.Author.Tests.{not-true, not-false}
-use Rattle.std.specs.Prelude as std
-use Prim.Native.Nat.{ℕ}
-use Rattle.reading.specs.Answers.{Answer, answered, unless}
-use Rattle.words.specs.Found.{place_of}
-use Rattle.settings.specs.Meaning.{held}
-use Rattle.capture.specs.Calls.{AcceptedTo}
-use Rattle.capture.proofs.Accepted.{long-enough, sized, accepted-sound}
-use Rattle.capture.proofs.Opening.{events-within, settings-are, wrong-length, wrong-header, wrong-setting, right-settings}
+use mathlib.Core.Path.{sym, ap, ◌∙◌}
+use Rattle.refusal.specs.Refusal.{passed}
+use Rattle.capture.proofs.Opened.{long, opens}
 use Rattle.capture.proofs.open_to.Goals as goal
 
--- what a test for what is wrong told
-fits : {b : Bool} {f : Bool} → b ≡ not f → b ≡ false → f ≡ true
-fits {b} {f} e p = not-false f (sym e ∙ p)
-
-fails : {b : Bool} {f : Bool} → b ≡ not f → b ≡ true → f ≡ false
-fails {b} {f} e p = not-true f (sym e ∙ p)
-
--- what the walk over the events leads to
-abbrev of-event : std.Option ℕ → Answer (Unit {0})
-of-event r = unless 4 (place_of r) (answered tt)
-
-pub returns-then-bad_length-clause-answer : goal.returns-then-bad_length-clause-answer
-returns-then-bad_length-clause-answer c = let a = c.args in
-    wrong-length a.capture.now a.most (fails c.bad_length.ensures c.if-bad_length.true)
-
-pub bad_header-requires : goal.bad_header-requires
-bad_header-requires c = let a = c.args in
-    omega (arith, long-enough a.capture.now a.most (fits c.bad_length.ensures c.if-bad_length.false))
-
-pub returns-then-bad_header-clause-answer : goal.returns-then-bad_header-clause-answer
-returns-then-bad_header-clause-answer c = let a = c.args in
-    wrong-header a.capture.now a.most (fits c.bad_length.ensures c.if-bad_length.false) (fails c.bad_header.ensures c.if-bad_header.true)
-
-pub setting_words-settings-requires : goal.setting_words-settings-requires
-setting_words-settings-requires c = long-enough c.args.capture.now c.args.most (fits c.bad_length.ensures c.if-bad_length.false)
-
-pub settings_count-stated-requires : goal.settings_count-stated-requires
-settings_count-stated-requires c = omega (arith, long-enough c.args.capture.now c.args.most (fits c.bad_length.ensures c.if-bad_length.false))
-
-pub returns-in-Some-clause-answer : goal.returns-in-Some-clause-answer
-returns-in-Some-clause-answer c = let a = c.args in
-    wrong-setting a.capture.now a.most (fits c.bad_length.ensures c.if-bad_length.false) (fits c.bad_header.ensures c.if-bad_header.false)
-    c.lowest_bad.result (c.lowest_bad.ensures ∙ settings-are a.capture.now c.setting_words-settings.ensures c.settings_count-stated.ensures.value) c.in-Some.is
-
-pub edition-requires : goal.edition-requires
-edition-requires c = omega (arith, long-enough c.args.capture.now c.args.most (fits c.bad_length.ensures c.if-bad_length.false))
-
 pub event_count-count-requires : goal.event_count-count-requires
-event_count-count-requires c = omega (arith, long-enough c.args.capture.now c.args.most (fits c.bad_length.ensures c.if-bad_length.false))
+event_count-count-requires c = omega (arith, long c.args.most c.args.capture.now (sym c.checked_to.ensures ∙ ap passed c.in_ok-checked_to.was))
 
 pub event_bytes-bytes-requires : goal.event_bytes-bytes-requires
-event_bytes-bytes-requires c = long-enough c.args.capture.now c.args.most (fits c.bad_length.ensures c.if-bad_length.false)
+event_bytes-bytes-requires c = long c.args.most c.args.capture.now (sym c.checked_to.ensures ∙ ap passed c.in_ok-checked_to.was)
 
-pub pin_limit-requires : goal.pin_limit-requires
-pin_limit-requires c = omega (arith, long-enough c.args.capture.now c.args.most (fits c.bad_length.ensures c.if-bad_length.false))
+pub settings_in-requires : goal.settings_in-requires
+settings_in-requires c = long c.args.most c.args.capture.now (sym c.checked_to.ensures ∙ ap passed c.in_ok-checked_to.was)
 
-pub lowest_bad_event-requires : goal.lowest_bad_event-requires
-lowest_bad_event-requires c = let a = c.args in
-    let fit = sized a.capture.now a.most (fits c.bad_length.ensures c.if-bad_length.false) (fits c.bad_header.ensures c.if-bad_header.false) in
-    (omega arith, rw c.event_bytes-bytes.ensures (events-within a.capture.now fit c.event_count-count.ensures))
-
-pub returns-in-Some-lowest_bad_event-clause-answer : goal.returns-in-Some-lowest_bad_event-clause-answer
-returns-in-Some-lowest_bad_event-clause-answer c = let a = c.args in
-    sym (ap of-event c.in-Some-lowest_bad_event.is)
-    ∙ right-settings a.capture.now a.most (fits c.bad_length.ensures c.if-bad_length.false) (fits c.bad_header.ensures c.if-bad_header.false)
-    c.lowest_bad.result (c.lowest_bad.ensures ∙ settings-are a.capture.now c.setting_words-settings.ensures c.settings_count-stated.ensures.value) c.in_default.is
-    c.lowest_bad_event.result c.event_count-count.ensures (rw (c.event_bytes-bytes.ensures, c.pin_limit.ensures) at c.lowest_bad_event.ensures)
-
-pub invariant_of-events : goal.invariant_of-events
-invariant_of-events c = let a = c.args in
-    let fit = sized a.capture.now a.most (fits c.bad_length.ensures c.if-bad_length.false) (fits c.bad_header.ensures c.if-bad_header.false) in
-    let is-open : AcceptedTo a.most a.capture.now = sym
-    (sym (ap of-event c.in_default-lowest_bad_event.is)
-    ∙ right-settings a.capture.now a.most (fits c.bad_length.ensures c.if-bad_length.false) (fits c.bad_header.ensures c.if-bad_header.false)
-    c.lowest_bad.result (c.lowest_bad.ensures ∙ settings-are a.capture.now c.setting_words-settings.ensures c.settings_count-stated.ensures.value) c.in_default.is
-    c.lowest_bad_event.result c.event_count-count.ensures (rw (c.event_bytes-bytes.ensures, c.pin_limit.ensures) at c.lowest_bad_event.ensures)) in
-    record {
-      held = rw c.event_bytes-bytes.ensures (events-within a.capture.now fit c.event_count-count.ensures);
-      rise = λ i l. rw c.event_bytes-bytes.ensures ((accepted-sound a.capture.now is-open).events i (rw c.event_count-count.ensures at l));
-    }
-
-pub returns-clause-answer : goal.returns-clause-answer
-returns-clause-answer c = let a = c.args in
-    sym (ap of-event c.in_default-lowest_bad_event.is)
-    ∙ right-settings a.capture.now a.most (fits c.bad_length.ensures c.if-bad_length.false) (fits c.bad_header.ensures c.if-bad_header.false)
-    c.lowest_bad.result (c.lowest_bad.ensures ∙ settings-are a.capture.now c.setting_words-settings.ensures c.settings_count-stated.ensures.value) c.in_default.is
-    c.lowest_bad_event.result c.event_count-count.ensures (rw (c.event_bytes-bytes.ensures, c.pin_limit.ensures) at c.lowest_bad_event.ensures)
-
-pub returns-clause-holds : goal.returns-clause-holds
-unfolding held
-returns-clause-holds c = record {
-  settings-are = rw (c.setting_words-settings.ensures, c.edition.ensures);
-  bytes-are = c.event_bytes-bytes.ensures;
-  count-is = c.event_count-count.ensures;
-}
+pub invariant_of-result : goal.invariant_of-result
+invariant_of-result c =
+    let z = opens {most = c.args.most} (sym c.checked_to.ensures ∙ ap passed c.in_ok-checked_to.was) c.settings_in.ensures c.event_count-count.ensures c.event_bytes-bytes.ensures in
+    record { held = z.there; rise = z.rise }
