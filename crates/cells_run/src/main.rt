@@ -51,9 +51,9 @@ fn store_capture(capture: &mut [u8], total: u32, n: u32, mode: u32, cycle: u32, 
 
 // ---- lines
 
-// The first n elements of a list, or all that it has, with a space between any two.
-fn print_list(to: &mut Out, list: &[u32], n: u32) {
-    for (i, cell) in list.iter().take(n as usize).enumerate() {
+// With a space between any two.
+fn print_list(to: &mut Out, list: &[u32]) {
+    for (i, cell) in list.iter().enumerate() {
         if 0 < i {
             write!(to, " ");
         }
@@ -64,7 +64,7 @@ fn print_list(to: &mut Out, list: &[u32], n: u32) {
 
 fn print_listed(to: &mut Out, answer: Result<u32, Refusal>, out: &[u32]) {
     match answer {
-        Ok(cells) => print_list(to, out, cells),
+        Ok(cells) => print_list(to, &out[..out.len().min(cells as usize)]),
         Err(refusal) => writeln!(to, "{refusal}"),
     }
 }
@@ -100,10 +100,10 @@ fn print_short(to: &mut Out) {
     store_capture(&mut capture, 96, 2, SEQUENTIAL | 2, 3, 5);
     let answer = cells::burst_cells(&capture, &mut out);
     print_listed(to, answer, &out);
-    print_list(to, &out, 3);
+    print_list(to, &out);
 }
 
-// The rows of a length, for its code in the mode word.
+// The rows of a length, for its code in the mode word: each starting column is a number of the row.
 fn print_rows(to: &mut Out, length: u32, code: u32) {
     for start in 0..length {
         write!(to, "{length},{start},sequential,");

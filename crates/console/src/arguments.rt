@@ -1,5 +1,7 @@
 // What the arguments ask of a program. A name is an argument that does not begin with `-`, or `-` alone, which stands for
 // standard input; any other is an option.
+ghost use Rattle.std.specs.Prelude.{◌≤◌, length, IfSome};
+
 use std::env::{Env, FillError};
 
 #[derive(Clone, Copy, Debug, PartialEq, Eq)]
@@ -19,7 +21,9 @@ pub enum Stray {
 // ---- one argument
 
 // Argument i at the start of the buffer; none where there is none or it is longer than the buffer.
-pub(crate) fn copy<'a>(rt: &HostRuntime, i: usize, buf: &'a mut [u8]) -> Option<&'a mut [u8]> {
+pub(crate) fn copy<'a>(rt: &HostRuntime, i: usize, buf: &'a mut [u8]) -> Option<&'a mut [u8]>
+    ensures { IfSome result (λ text. length text.now ≤ length buf.old) }
+{
     let n = rt.arg(i, buf).ok()?;
     Some(&mut buf[..n])
 }
@@ -78,6 +82,7 @@ pub fn asked_for(rt: &HostRuntime, option: Option<&[u8]>, names: usize) -> Resul
     if n == 2 && is(rt, 1, b"--version") {
         return Ok(Asked::Version);
     }
+    // Arguments go by their numbers.
     let mut left = names;
     for i in 1..n {
         left = left_after(rt, i, option, left)?;

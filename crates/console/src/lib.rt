@@ -7,7 +7,7 @@ pub mod line;
 pub mod number;
 pub mod program;
 
-ghost use Rattle.std.specs.Prelude.{◌≡◌, ◌+◌, ◌≤◌, length, take, drop, true, IfOk};
+ghost use Rattle.std.specs.Prelude.{◌≡◌, ◌+◌, ◌≤◌, length, take, drop, true, is_ok};
 ghost use Rattle.std.specs.Io.{WritesAtMost};
 ghost use Rattle.std.specs.Io.KnownBytes.{WriteAppends};
 ghost use Rattle.console.specs.Counts.{IsPrefixLen};
@@ -19,7 +19,8 @@ use std::fmt;
 use std::fmt::Display;
 use std::io::{Error, ErrorKind, IsTerminal, Read, Stdout, Write};
 
-// How often a call that signals interrupt is made before it counts as failed: every loop has to end.
+// How often a call that signals interrupt is made before it counts as failed. Two loops count these tries, since every loop
+// has to end.
 const TRIES: u32 = 1_000;
 
 // Room for the longest text that is formatted.
@@ -74,6 +75,7 @@ fn read_from<R: Read>(from: &mut R, buf: &mut [u8], done: usize) -> Result<usize
 }
 
 // All bytes up to the end of the input or of the buffer. A read that fails settles it, whatever a later one would say.
+// How much a read gave says where the next one starts, so no iterator has these steps.
 pub fn read_input<R: Read>(from: &mut R, buf: &mut [u8]) -> Result<usize, Failure>
     ensures in_bounds { IsPrefixLen (size_of result) buf.new }
     ensures bytes { Reads (R.remaining from.old) (R.remaining from.new) result buf.new }
@@ -127,35 +129,25 @@ fn write_piece<W: Write>(to: &mut W, text: &[u8]) -> Result<usize, Error>
     Err(Error::from(ErrorKind::Interrupted))
 }
 
-// A write of text from index `done` on.
-fn write_from<W: Write>(to: &mut W, text: &[u8], done: usize) -> Result<usize, Error>
-    requires { done ≤ length text.now }
-    ensures in_bounds { IfOk result (λ n. done + n ≤ length text.now) }
-    ensures bytes { WriteAppends (W.contents to.old) (W.contents to.new) result (drop done text.now) }
+// The text up to the first byte that cannot be written, and nothing behind it. Where the library's `write_all` fails, nothing
+// is known of what it wrote.
+fn write_whole<W: Write>(to: &mut W, text: &[u8]) -> Result<(), Error>
+    ensures { Writes (W.contents to.old) (W.contents to.new) (is_ok result) text.now }
 {
-    write_piece(to, &text[done..])
-}
-
-// The text up to the first byte that cannot be written, and nothing behind it; answers whether that is all of it.
-fn write_whole<W: Write>(to: &mut W, text: &[u8]) -> bool
-    ensures { Writes (W.contents to.old) (W.contents to.new) result text.now }
-{
-    let mut done: usize = 0;
-    while done < text.len() {
-        let Ok(n) = write_from(to, text, done) else {
-            return false;
-        };
+    let mut rest = text;
+    while !rest.is_empty() {
+        let n = write_piece(to, rest)?;
         if n == 0 {
-            return false;
+            return Err(Error::from(ErrorKind::WriteZero));
         }
-        done += n;
+        rest = &rest[n..];
     }
-    true
+    Ok(())
 }
 
 // A program has no exit status, so this is the only sign that something went wrong.
 pub fn complain(rt: &HostRuntime, text: &[u8]) {
-    write_whole(&mut rt.stderr(), text);
+    let _ = write_whole(&mut rt.stderr(), text);
 }
 
 // Whether a person may be looking at standard error.
@@ -168,7 +160,7 @@ pub fn say(out: &mut Out, text: &[u8])
     ensures { Stays out.old.whole out.new.whole }
 {
     if out.whole {
-        out.whole = write_whole(&mut out.to, text);
+        out.whole = write_whole(&mut out.to, text).is_ok();
     }
 }
 

@@ -35,16 +35,12 @@ fn digit_count(n: u64, base: u64, width: usize) -> usize
     requires width_nonzero { 0 < width }
     ensures { IsDigitCount base width n result }
 {
-    let mut k = 1;
-    let mut rest = n / base;
-    while rest > 0 {
-        rest /= base;
-        k += 1;
-    }
-    if k < width { width } else { k }
+    let k = n.checked_ilog(base).unwrap_or(0) as usize + 1;
+    k.max(width)
 }
 
-// Puts the last k digits of n in a base at the start of out.
+// Puts the last k digits of n in a base at the start of out. The last one comes first, and the clauses say which place each
+// has, so the loop goes over places.
 fn write_digits(n: u64, base: u64, k: usize, out: &mut [u8])
     requires base_nonzero { 0 < base }
     requires base_small { base ≤ 16 }
@@ -52,10 +48,8 @@ fn write_digits(n: u64, base: u64, k: usize, out: &mut [u8])
     ensures digits { take k out.new ≡ last_digits base k n }
     ensures rest { drop k out.new ≡ drop k out.old }
 {
-    let mut i = k;
     let mut rest = n;
-    while i > 0 {
-        i -= 1;
+    for i in (0..k).rev() {
         out[i] = digit_to_ascii(rest % base);
         rest /= base;
     }

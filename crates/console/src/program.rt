@@ -103,7 +103,9 @@ pub fn standard(rt: &HostRuntime, place: Option<usize>) -> bool {
 // ---- complaints
 
 // An argument, as a terminal may show it; none where it is empty or too long.
-fn shown<'a>(rt: &HostRuntime, place: usize, room: &'a mut [u8]) -> Option<&'a [u8]> {
+fn shown<'a>(rt: &HostRuntime, place: usize, room: &'a mut [u8]) -> Option<&'a [u8]>
+    ensures { IfSome result (λ text. length text.now ≤ length room.old) }
+{
     let text = arguments::copy(rt, place, room)?;
     if text.is_empty() {
         return None;
@@ -113,7 +115,9 @@ fn shown<'a>(rt: &HostRuntime, place: usize, room: &'a mut [u8]) -> Option<&'a [
 }
 
 // Of an argument, or of standard input.
-fn put_place<const N: usize>(rt: &HostRuntime, line: &mut Line<N>, place: Option<usize>) {
+fn put_place<const N: usize>(rt: &HostRuntime, line: &mut Line<N>, place: Option<usize>)
+    ensures { line.new.len ≤ N }
+{
     let Some(place) = place else {
         line.put(b"standard input");
         return;

@@ -3,7 +3,7 @@
 // so that it is never taken for a capture.
 #![tactic(auto)]
 
-ghost use Rattle.std.specs.Prelude.{◌≤◌, length, IfSome};
+ghost use Rattle.std.specs.Prelude.{◌≤◌, length, IfOk};
 
 use console::program::{Program, Source};
 use console::{Failure, arguments, program, read_input};
@@ -30,7 +30,8 @@ const FRONT: usize = capture::EVENTS + 8;
 // One record more than there may be, so that a longer export is seen to have too many.
 const RECORDS: usize = exports::LONGEST + exports::RECORD;
 
-// So often is the rest of an export that is too long read, a longest export at a time; no file is so long.
+// So often is the rest of an export that is too long read, a longest export at a time; no file is so long. Rounds are
+// counted, since every loop has to end.
 const ROUNDS: u64 = 0x1_0000_0000;
 
 // These records under the settings and the edition of a capture that begins so.
@@ -70,11 +71,18 @@ fn ends_whole(from: &mut Source) -> Result<bool, Failure> {
 
 // Those of the bytes that were read that tell what the whole export tells: all, or where there are too many records and it does not
 // end with one, a byte less.
-fn told<'r>(records: &'r [u8], from: &mut Source) -> Result<&'r [u8], Failure> {
-    if records.len() < RECORDS || ends_whole(from)? {
+fn told<'r>(records: &'r [u8], from: &mut Source) -> Result<&'r [u8], Failure>
+    ensures { IfOk result (λ told. length told.now ≤ 48006) }
+{
+    if records.len() < RECORDS {
         return Ok(records);
     }
-    Ok(&records[..RECORDS - 1])
+    let end = if ends_whole(from)? {
+        RECORDS
+    } else {
+        RECORDS - 1
+    };
+    Ok(&records[..end])
 }
 
 // The records of an export, or of one that is too long as many as show that.

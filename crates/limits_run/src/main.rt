@@ -1,6 +1,6 @@
 // Captures and lists of settings at the limits of document 01 ("01" below), each with the number and the place that 01's
 // table of refusals gives it, or 0 and 0 where it is accepted. A line is written for each: what was tried and what was
-// answered, and "WRONG" where 01 says otherwise.
+// answered, and "WRONG" where 01 says otherwise. Cases stand line by line where each has a reason of its own.
 #![tactic(auto)]
 
 ghost use Rattle.std.specs.Prelude.{◌<◌, ◌≤◌};
@@ -98,7 +98,7 @@ fn store_header(out: &mut [u8], size: u32, count: u32) {
     store(out, EDITION, 0);
 }
 
-// Event i is a NOP (CS# low, RAS#, CAS# and WE# high) at cycle 10 i.
+// Event i is a NOP (CS# low, RAS#, CAS# and WE# high) at cycle 10 i: its number says where it stands and when it is.
 fn store_events(out: &mut [u8], events: u32)
     requires { events ≤ 88 }
 {
@@ -224,12 +224,14 @@ fn lengths(to: &mut Out) {
 // ---- refusal 2: "another header word is not as above, or the total is not 80 + 8N", place 0
 
 fn header_words(to: &mut Out) {
-    changed(to, 80, SETTINGS_COUNT, 13, 2, 0);
-    changed(to, 80, SETTINGS_COUNT, 15, 2, 0);
-    changed(to, 80, SETTINGS_OFFSET, 23, 2, 0);
-    changed(to, 80, SETTINGS_OFFSET, 25, 2, 0);
-    changed(to, 80, EVENTS_OFFSET, 79, 2, 0);
-    changed(to, 80, EVENTS_OFFSET, 81, 2, 0);
+    for (at, below, above) in [
+        (SETTINGS_COUNT, 13, 15),
+        (SETTINGS_OFFSET, 23, 25),
+        (EVENTS_OFFSET, 79, 81),
+    ] {
+        changed(to, 80, at, below, 2, 0);
+        changed(to, 80, at, above, 2, 0);
+    }
     changed(to, 80, EDITION, 1, 0, 0); // the newer edition
     changed(to, 80, EDITION, 2, 2, 0);
     changed(to, 80, EDITION, 0x8000_0000, 2, 0);
@@ -251,6 +253,7 @@ fn event_counts(to: &mut Out) {
 fn pins(to: &mut Out) {
     changed(to, 104, PINS_1, 0, 0, 0);
     changed(to, 104, PINS_1, 0x000F_FFFF, 0, 0); // bits 0 to 19
+    // Bits go by their numbers: each word is 1, shifted by one of them.
     for bit in 20u32..32 {
         changed(to, 104, PINS_1, 1 << bit, 4, 1);
     }
@@ -376,47 +379,38 @@ fn rows(to: &mut Out) {
     row(to, 0, 0, 1, 2, 3);
     row(to, 1, 11, 12, 14, 15);
     row(to, 2, 7, 8, 11, 12);
+    // Settings go by their numbers.
     for i in 4..13 {
         row(to, i, 0, 1, 10_000, 10_001);
     }
     row(to, 13, 0, 1, 1_000_000, 1_000_001);
 }
 
-fn mode(to: &mut Out, word: u32, number: u32, place: u32) {
-    setting(to, 3, word, number, place);
+// Words of row 3, of which all fit or none.
+fn modes(to: &mut Out, words: &[u32], fit: bool) {
+    let (number, place) = if fit { (0, 0) } else { (3, 3) };
+    for word in words {
+        setting(to, 3, *word, number, place);
+    }
 }
 
 // Row 3: from 0 to 127, and "bits 0-2 are 1, 2, 3, 4; bit 3 is 0 sequential, 1 interleaved; bits 4-6 are 2 or 3".
 fn burst_lengths(to: &mut Out) {
-    mode(to, 0x20, 3, 3);
-    mode(to, 0x21, 0, 0);
-    mode(to, 0x22, 0, 0);
-    mode(to, 0x23, 0, 0);
-    mode(to, 0x24, 0, 0);
-    mode(to, 0x25, 3, 3);
-    mode(to, 0x27, 3, 3);
-    mode(to, 0x28, 3, 3);
-    mode(to, 0x29, 0, 0);
-    mode(to, 0x3C, 0, 0);
+    modes(to, &[0x20], false);
+    modes(to, &[0x21, 0x22, 0x23, 0x24], true);
+    modes(to, &[0x25, 0x27, 0x28], false);
+    modes(to, &[0x29, 0x3C], true);
 }
 
 fn latencies(to: &mut Out) {
-    mode(to, 0x02, 3, 3);
-    mode(to, 0x12, 3, 3);
-    mode(to, 0x22, 0, 0);
-    mode(to, 0x32, 0, 0);
-    mode(to, 0x42, 3, 3);
-    mode(to, 0x52, 3, 3);
-    mode(to, 0x62, 3, 3);
-    mode(to, 0x72, 3, 3);
+    modes(to, &[0x02, 0x12], false);
+    modes(to, &[0x22, 0x32], true);
+    modes(to, &[0x42, 0x52, 0x62, 0x72], false);
 }
 
+// The last two are 0x32 with bit 7 and with bit 31.
 fn mode_range(to: &mut Out) {
-    mode(to, 0, 3, 3);
-    mode(to, 127, 3, 3);
-    mode(to, 128, 3, 3);
-    mode(to, 0xB2, 3, 3); // 0x32 and bit 7
-    mode(to, 0x8000_0032, 3, 3);
+    modes(to, &[0, 127, 128, 0xB2, 0x8000_0032], false);
 }
 
 // ---- refusal 2 of a list: "a settings list not of 14 words", before refusal 3
@@ -477,19 +471,18 @@ fn sleeping_headers(to: &mut Out) {
 
 // tXP and tXSR from 1 to 10,000.
 fn sleeping_settings(to: &mut Out) {
-    sleeping(to, 88, T_XP, 0, 3, 14);
-    sleeping(to, 88, T_XP, 1, 0, 0);
-    sleeping(to, 88, T_XP, 10_000, 0, 0);
-    sleeping(to, 88, T_XP, 10_001, 3, 14);
-    sleeping(to, 88, T_XSR, 0, 3, 15);
-    sleeping(to, 88, T_XSR, 1, 0, 0);
-    sleeping(to, 88, T_XSR, 10_000, 0, 0);
-    sleeping(to, 88, T_XSR, 10_001, 3, 15);
+    for (at, place) in [(T_XP, 14), (T_XSR, 15)] {
+        sleeping(to, 88, at, 0, 3, place);
+        sleeping(to, 88, at, 1, 0, 0);
+        sleeping(to, 88, at, 10_000, 0, 0);
+        sleeping(to, 88, at, 10_001, 3, place);
+    }
 }
 
 // The second of three events has its pins at byte 100.
 fn sleeping_pins(to: &mut Out) {
     sleeping(to, 112, 100, 0x001F_FFFF, 0, 0); // bits 0 to 20
+    // Bits go by their numbers, as above.
     for bit in 21u32..32 {
         sleeping(to, 112, 100, 1 << bit, 4, 1);
     }

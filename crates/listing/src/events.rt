@@ -119,7 +119,8 @@ fn kind_at(bytes: &[u8], i: u32) -> usize
     kind(pins_before(bytes, i), event_at(bytes, i).pins)
 }
 
-// The last event of each kind before event `end`; `end` where there is none.
+// The last event of each kind before event `end`; `end` where there is none. This loop and the two below go over numbers and
+// not over events: the number is kept, compared and printed, and an event's kind depends on the event before it.
 fn last_of_each(bytes: &[u8], end: u32) -> [u32; 9] {
     let mut last = [end; 9];
     for i in 0..end {

@@ -27,6 +27,7 @@ pub struct Open<'a> {
 impl Display for Open<'_> {
     fn fmt<W: fmt::Write>(&self, f: &mut fmt::Formatter<W>) -> fmt::Result {
         let mut idle = true;
+        // Banks go by their numbers, which are printed.
         for bank in 0..4 {
             if let Some(OpenRow { row, .. }) = stands(&self.events, bank, self.n) {
                 if idle {

@@ -37,7 +37,9 @@ const ROOM: usize = capture::MOST;
 // ---- the stream
 
 // The bytes of the next capture, as far as there are any: its total word, and what that says.
-fn next<'b>(from: &mut Source, buffer: &'b mut [u8; ROOM]) -> Result<&'b [u8], Failure> {
+fn next<'b>(from: &mut Source, buffer: &'b mut [u8; ROOM]) -> Result<&'b [u8], Failure>
+    ensures { IfOk result (λ capture. length capture.now ≤ 64088) }
+{
     let buffer = &mut buffer[..];
     let got = read_input(from, &mut buffer[..4])?;
     if got < 4 {
@@ -103,7 +105,8 @@ fn last<F: Form>(rt: &HostRuntime, out: &mut Out, from: &mut Source, t: Totals)
     }
 }
 
-// Answers how many captures there were. Nothing is read behind a line that could not be written.
+// Answers how many captures there were. Nothing is read behind a line that could not be written. The totals count the
+// captures, so the loop has no counter of its own.
 fn walk<F: Form>(rt: &HostRuntime, out: &mut Out, from: &mut Source) -> u64 {
     let mut buffer = [0u8; ROOM];
     let mut totals = monthly::nothing();

@@ -55,8 +55,26 @@ none-held =
       cycles = omega arith;
     }
 
-pub are-zeros : {t : sums.Totals} → (t.captures ≡ 0) × ((t.clean ≡ 0) × ((t.broken ≡ 0) × ((t.refused ≡ 0) × ((t.events ≡ 0) × ((t.judged ≡ 0) × ((t.read ≡ 0) × ((t.written ≡ 0) × ((t.cycles ≡ 0))))))))) → t ≡ zeros
-are-zeros e = λ i. record { captures = e.0 i; clean = e.1.0 i; broken = e.1.1.0 i; refused = e.1.1.1.0 i; events = e.1.1.1.1.0 i; judged = e.1.1.1.1.1.0 i; read = e.1.1.1.1.1.1.0 i; written = e.1.1.1.1.1.1.1.0 i; cycles = e.1.1.1.1.1.1.1.1 i }
+pub are-zeros : {t : sums.Totals}
+    → (t.captures ≡ 0)
+    × ((t.clean ≡ 0)
+    × ((t.broken ≡ 0)
+    × ((t.refused ≡ 0)
+    × ((t.events ≡ 0) × ((t.judged ≡ 0) × ((t.read ≡ 0) × ((t.written ≡ 0) × (t.cycles ≡ 0))))))))
+    → t ≡ zeros
+are-zeros e =
+    λ i.
+    record {
+      captures = e.0 i;
+      clean = e.1.0 i;
+      broken = e.1.1.0 i;
+      refused = e.1.1.1.0 i;
+      events = e.1.1.1.1.0 i;
+      judged = e.1.1.1.1.1.0 i;
+      read = e.1.1.1.1.1.1.0 i;
+      written = e.1.1.1.1.1.1.1.0 i;
+      cycles = e.1.1.1.1.1.1.1.1 i;
+    }
 
 -- what was added up is what should be
 pub added-so : (t : sums.Totals) (x : line.Line) {c : Counts} → c ≡ counts_of (told report_of x.verdict) →

@@ -35,7 +35,8 @@ pub struct Counts {
     pub judged: u32,
 }
 
-// The sums of lines. Ten thousand words of 32 bits do not fill 64.
+// The sums of lines. Ten thousand words of 32 bits do not fill 64. `Held` stands in clauses and is no invariant of this type:
+// `has_room` takes any totals, and everyone may write some down, since the fields are public.
 #[derive(Clone, Copy, Default)]
 pub struct Totals {
     pub captures: u64,

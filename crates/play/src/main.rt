@@ -49,9 +49,9 @@ fn fill(room: &mut [u32], bytes: &[u8]) {
 
 // ---- the output
 
-fn print_read(out: &mut Out, reads: &[u32], read: u32) {
-    writeln!(out, "words {read}");
-    for word in reads.iter().take(read as usize) {
+fn print_read(out: &mut Out, reads: &[u32]) {
+    writeln!(out, "words {}", reads.len());
+    for word in reads {
         writeln!(out, "word {word:#010x}");
     }
 }
@@ -70,7 +70,7 @@ fn play(rt: &HostRuntime, capture: &[u8], first: u32, window: &mut [u32], writes
     let mut out = Out::new(rt.stdout());
     match played {
         Ok(read) => {
-            print_read(&mut out, &reads, read);
+            print_read(&mut out, &reads[..reads.len().min(read as usize)]);
             print_cells(&mut out, first, window);
         }
         Err(refusal) => writeln!(out, "{refusal}"),

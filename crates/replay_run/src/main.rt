@@ -78,7 +78,7 @@ fn is_write(capture: &[u8], event: usize) -> bool {
     if capture.len() < 88 + 8 * event {
         return false;
     }
-    words::word_at(capture, 84 + 8 * event) / 65_536 % 16 == 2
+    pins::code(words::word_at(capture, 84 + 8 * event)) == pins::WRITE
 }
 
 // The event of burst b: without AUTO REFRESH each is behind an ACTIVE of its own, or all behind one.

@@ -14,49 +14,10 @@ const WRITE: u32 = 0x8000_0000;
 // The first cell of bank 1, with 13 row bits and 10 column bits.
 const BANK_1: u32 = 8_388_608;
 
-// The requests of case m, ten times over.
-const TEN_TIMES_M: [u32; 40] = [
-    5,
-    0x8080_0000,
-    5,
-    8_388_608,
-    5,
-    0x8080_0000,
-    5,
-    8_388_608,
-    5,
-    0x8080_0000,
-    5,
-    8_388_608,
-    5,
-    0x8080_0000,
-    5,
-    8_388_608,
-    5,
-    0x8080_0000,
-    5,
-    8_388_608,
-    5,
-    0x8080_0000,
-    5,
-    8_388_608,
-    5,
-    0x8080_0000,
-    5,
-    8_388_608,
-    5,
-    0x8080_0000,
-    5,
-    8_388_608,
-    5,
-    0x8080_0000,
-    5,
-    8_388_608,
-    5,
-    0x8080_0000,
-    5,
-    8_388_608,
-];
+// The requests of case m.
+const CASE_M: [u32; 4] = [5, WRITE | BANK_1, 5, BANK_1];
+
+const TEN_TIMES_M: [[u32; 4]; 10] = [CASE_M; 10];
 
 // The settings of 01's cases but for tREFI.
 fn settings(refi: u32) -> [u32; settings::COUNT] {
@@ -76,15 +37,15 @@ fn load(capture: &[u8], at: u32) -> u32 {
 
 // ---- lines
 
-// CS#, RAS#, CAS#, WE#, CS# the lowest.
+// A PRECHARGE of all banks has A10 high and every other address pin low.
 fn command(pins: u32) -> &'static str {
-    match pins / 65_536 % 16 {
-        12 => "ACTIVE",
-        10 => "READ",
-        2 => "WRITE",
-        4 if pins % 16_384 == 1_024 => "PRECHARGE all",
-        4 => "PRECHARGE",
-        8 => "AUTO REFRESH",
+    match pins::code(pins) {
+        pins::ACTIVE => "ACTIVE",
+        pins::READ => "READ",
+        pins::WRITE => "WRITE",
+        pins::PRECHARGE if pins::address(pins) == 1_024 => "PRECHARGE all",
+        pins::PRECHARGE => "PRECHARGE",
+        pins::REFRESH => "AUTO REFRESH",
         _ => "WRONG",
     }
 }
@@ -98,7 +59,7 @@ fn print_event(to: &mut Out, capture: &[u8], i: u32) {
     write!(to, "{} {cycle}", command(pins));
 }
 
-// The first nine events.
+// The first nine events, by their numbers, as each is printed by its number.
 fn print_events(to: &mut Out, capture: &[u8]) {
     for i in 0..load(capture, 12).min(9) {
         write!(to, ", ");
@@ -155,23 +116,23 @@ fn print_nines(to: &mut Out, name: &str, rest: &[u8]) {
 
 // With tREFI 4 nine are owed at 36, behind all of it; with tREFI 2 at 18, and the third request would end behind that.
 fn print_case_m(to: &mut Out) {
-    let requests = [5, WRITE | BANK_1, 5, BANK_1];
     let mut out = [0u8; 200];
-    let loose = schedule::schedule(&settings(4), &requests, CLOSED_ROWS, &mut out);
+    let loose = schedule::schedule(&settings(4), &CASE_M, CLOSED_ROWS, &mut out);
     print_scheduled(to, "case m, tREFI 4", loose, &out);
-    let tight = schedule::schedule(&settings(2), &requests, CLOSED_ROWS, &mut out);
+    let tight = schedule::schedule(&settings(2), &CASE_M, CLOSED_ROWS, &mut out);
     print_scheduled(to, "case m, tREFI 2", tight, &out);
 }
 
 // Its list ten times over. With tREFI 24 the first AUTO REFRESH comes at 215, before request 38 and so behind 76 events.
 fn print_case_m_ten_times(to: &mut Out) {
+    let requests = TEN_TIMES_M.as_flattened();
     let mut out = [0u8; 1_000];
-    let paid = schedule::schedule(&settings(24), &TEN_TIMES_M, CLOSED_ROWS, &mut out);
+    let paid = schedule::schedule(&settings(24), requests, CLOSED_ROWS, &mut out);
     print_scheduled(to, "ten times over, tREFI 24", paid, &out);
     write!(to, "its event 76: ");
     print_event(to, &out, 76);
     writeln!(to);
-    let late = schedule::schedule(&settings(16), &TEN_TIMES_M, CLOSED_ROWS, &mut out);
+    let late = schedule::schedule(&settings(16), requests, CLOSED_ROWS, &mut out);
     print_scheduled(to, "ten times over, tREFI 16", late, &out);
 }
 
@@ -231,11 +192,11 @@ fn print_too_many(to: &mut Out) {
 
 // The second requests of both banks find their rows open. Ten times over the last event is at 131, with closed rows at 252.
 fn print_open_case_m(to: &mut Out) {
-    let requests = [5, WRITE | BANK_1, 5, BANK_1];
     let mut out = [0u8; 1_000];
-    let once = schedule::schedule(&settings(4), &requests, OPEN_ROWS, &mut out);
+    let once = schedule::schedule(&settings(4), &CASE_M, OPEN_ROWS, &mut out);
     print_scheduled(to, "open rows, case m", once, &out);
-    let ten_times = schedule::schedule(&settings(24), &TEN_TIMES_M, OPEN_ROWS, &mut out);
+    let requests = TEN_TIMES_M.as_flattened();
+    let ten_times = schedule::schedule(&settings(24), requests, OPEN_ROWS, &mut out);
     print_scheduled(to, "open rows, ten times over", ten_times, &out);
 }
 
@@ -252,6 +213,7 @@ fn print_open_rows(to: &mut Out) {
     print_scheduled(to, "open rows, one row", row, &out);
 }
 
+// Events go by their numbers here, as in the line.
 fn print_around_refresh(to: &mut Out, capture: &[u8]) {
     write!(to, "from event 104 on:");
     for i in 104..110 {

@@ -76,7 +76,9 @@ pub fn newer(settings: &Settings) -> bool
     settings[EDITION] == 1
 }
 
-fn shown_count(settings: &Settings) -> usize {
+fn shown_count(settings: &Settings) -> usize
+    ensures { result ≤ 16 }
+{
     if sleeps(settings) { SLEEPING } else { COUNT }
 }
 

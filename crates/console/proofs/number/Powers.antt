@@ -1,33 +1,24 @@
 -- What the proofs of `digit_count`, `decimal` and `hex` want of powers of a base.
-use Prim.Native.Nat.{ℕ, ◌+◌, ◌-◌, ◌*◌, ◌/◌, ◌^◌, ◌≤◌, ◌<◌}
-use native.Mathlib.Nat.{le_trans, le_of_suc-le-suc, mul-le-mul_right, mul-div-le, one-mul, pow-zero, pow-suc, one-le-pow, pow-le-pow_right, div-div-eq-div-mul, le-div_iff_mul-le, div-lt_iff_lt-mul, lt_of_not-le}
+use Prim.Native.Nat.{ℕ, zero, suc, ◌+◌, ◌-◌, ◌*◌, ◌^◌, ◌≤◌, ◌<◌}
+use native.Mathlib.Nat.{le_of_suc-le-suc, mul_comm, pow-suc, one-le-pow, pow-le-pow_right, lt_of_not-le}
 use native.Mathlib.Numerals.{add-one}
 use native.Mathlib.Omega.{arith}
-use mathlib.Core.Path.{◌≡◌, sym, ap, subst, ◌∙◌}
+use mathlib.Core.Path.{◌≡◌, ap, subst, ◌∙◌}
+use Rattle.std.specs.Prelude.{max, Option, Some, None, IfSome, IsSome, unwrap_or}
 use Rattle.console.specs.Digits.{IsDigitCount}
 
-pub two-mul-div-le : (n b : ℕ) → 1 < b → 2 * (n / b) ≤ n
-two-mul-div-le n b h = le_trans (mul-le-mul_right (n / b) h) (mul-div-le n b)
-
-pub div-pow-one : (n b : ℕ) → n / b ≡ n / b ^ 1
-div-pow-one n b = ap (λ (d : ℕ). n / d) (sym (pow-suc b 0 ∙ ap (λ (p : ℕ). p * b) (pow-zero b) ∙ one-mul b))
-
-pub div-pow-div : (n b k : ℕ) → n / b ^ k / b ≡ n / b ^ (k + 1)
-div-pow-div n b k = div-div-eq-div-mul n (b ^ k) b ∙ ap (λ (d : ℕ). n / d) (sym (pow-suc b k) ∙ ap (λ (j : ℕ). b ^ j) (sym (add-one k)))
-
--- something is left of n after k digits, so one more is wanted
-pub pow-le_of_div_pos : (n b k : ℕ) → 0 < b → 0 < n / b ^ k → b ^ (k + 1 - 1) ≤ n
-pow-le_of_div_pos n b k h some =
-    let e : k ≡ k + 1 - 1 = omega arith in
-    let p : 1 * b ^ k ≤ n = (le-div_iff_mul-le (one-le-pow k b h)).0 some in
-    subst (λ (j : ℕ). b ^ j ≤ n) e (omega arith)
-
--- nothing is left of n after k digits, so k digits hold it, and so do more
-pub lt-pow_of_div-zero : (n b k j : ℕ) → 0 < b → n / b ^ k < 1 → k ≤ j → n < b ^ j
-lt-pow_of_div-zero n b k j h none more =
-    let p : n < 1 * b ^ k = (div-lt_iff_lt-mul (one-le-pow k b h)).0 none in
-    let q : b ^ k ≤ b ^ j = pow-le-pow_right h more in
-    omega arith
+-- the logarithm and one more is how many digits n takes; 0 takes one
+pub digits_by_log : (n b width m : ℕ) (r : Option ℕ) → 1 < b → 0 < width → (0 < n → IsSome r) → IfSome r (λ k. b ^ k ≤ n)
+    → IfSome r (λ k. n < b * b ^ k) → m ≡ max (unwrap_or r 0 + 1) width → IsDigitCount b width n m
+digits_by_log zero b width m None h w some low high e = (omega (arith, e), one-le-pow m b (omega arith), λ more. absurd (omega (arith, e)))
+digits_by_log (suc n) b width m None h w some low high e = absurd (cc (some (omega arith)))
+digits_by_log n b width m (Some k) h w some low high e =
+    let wider : b ^ (k + 1) ≤ b ^ m = pow-le-pow_right (omega arith) (omega (arith, e)) in
+    let next : b ^ (k + 1) ≡ b ^ k * b = ap (λ (j : ℕ). b ^ j) (add-one k) ∙ pow-suc b k in (
+      omega (arith, e),
+      omega (arith, wider, next, high, mul_comm b (b ^ k)),
+      λ more. let same : k ≡ m - 1 = omega (arith, e, more) in subst (λ (j : ℕ). b ^ j ≤ n) same low,
+    )
 
 digit_count_not_above : (b width n k most : ℕ) → 0 < b → IsDigitCount b width n k → width ≤ most → n < b ^ most → most < k → ⊥
 digit_count_not_above b width n k most h fewest within holds over =

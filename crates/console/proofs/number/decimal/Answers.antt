@@ -13,4 +13,10 @@ pub write_digits-requires : goal.write_digits-requires
 write_digits-requires c = omega (arith, count_fits (goal.at.write_digits-requires c).After-digit_count-k)
 
 pub returns : goal.returns
-returns c = record { in_bounds = prefix_len_of_le _ _ (omega (arith, count_fits (goal.at.returns c).After-digit_count-k)); len = c.digit_count-k.ensures; digits = c.write_digits.ensures.digits; rest = c.write_digits.ensures.rest }
+returns c =
+    record {
+      in_bounds = prefix_len_of_le _ _ (omega (arith, count_fits (goal.at.returns c).After-digit_count-k));
+      len = c.digit_count-k.ensures;
+      digits = c.write_digits.ensures.digits;
+      rest = c.write_digits.ensures.rest;
+    }

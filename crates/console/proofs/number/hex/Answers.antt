@@ -18,5 +18,10 @@ write_digits-requires c = omega (arith, count_fits (goal.at.write_digits-require
 pub returns : goal.returns
 returns c =
     let n = c.args.n in
-    let fewest = subst (λ (width : ℕ). IsDigitCount 16 width n c.digit_count-k.result) (c.min.ensures ∙ ap (λ (m : ℕ). min m 16) c.max.ensures) c.digit_count-k.ensures in
-    record { in_bounds = prefix_len_of_le _ _ (omega (arith, count_fits (goal.at.returns c).After-digit_count-k)); len = fewest; digits = c.write_digits.ensures.digits; rest = c.write_digits.ensures.rest }
+    let width = c.min.ensures ∙ ap (λ (m : ℕ). min m 16) c.max.ensures in
+    record {
+      in_bounds = prefix_len_of_le _ _ (omega (arith, count_fits (goal.at.returns c).After-digit_count-k));
+      len = subst (λ (w : ℕ). IsDigitCount 16 w n c.digit_count-k.result) width c.digit_count-k.ensures;
+      digits = c.write_digits.ensures.digits;
+      rest = c.write_digits.ensures.rest;
+    }
