@@ -82,7 +82,7 @@ pub fn column(s: &Settings, w: u32) -> u32
     (a % 1024 + 1024 * (a / 2048 % 2)) % power(s[COLUMN_BITS])
 }
 
-// The number of a row's first cell.
+// The number of a row's first cell. A clause and no type for bank and row: five of six calls name them by numbers.
 pub fn first_cell(s: &Settings, bank: u32, row: u32) -> u32
     requires { Sized (settings_of s.now) × ((bank < 4) × (row < 16384)) }
     ensures { result ≡ first_in_row (settings_of s.now) bank row }

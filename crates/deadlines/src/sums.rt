@@ -1,5 +1,5 @@
-// Sums of cycles and times, wide enough to hold them; choices without a branch.
-ghost use Rattle.std.specs.Prelude.{◌≡◌, cond, ◌+◌, ◌^◌, ◌%◌, leb};
+// Sums of cycles and times, wide enough to hold them.
+ghost use Rattle.std.specs.Prelude.{◌≡◌, ◌+◌, ◌^◌, ◌%◌, leb};
 ghost use Rattle.reading.specs.Search.{lesser, later};
 ghost use Rattle.deadlines.specs.Deadlines.{pace_of};
 
@@ -39,6 +39,8 @@ pub fn data_after2(t: u32, a: u32, b: u32, c: u32) -> u64
     u64::from(t) + 1 + u64::from(a) + u64::from(b) + u64::from(c)
 }
 
+// The library's `min` and `max` in the reading's words. Their clauses have words of their own: in place most callers' proofs would
+// need the law that both are the same.
 pub fn least(a: u64, b: u64) -> u64
     ensures { result ≡ lesser a b }
 {
@@ -49,12 +51,6 @@ pub fn latest(a: u64, b: u64) -> u64
     ensures { result ≡ later a b }
 {
     a.max(b)
-}
-
-pub fn pick(c: bool, a: u64, b: u64) -> u64
-    ensures { result ≡ cond c a b }
-{
-    if c { a } else { b }
 }
 
 // h and CL of a mode word.

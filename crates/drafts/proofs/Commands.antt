@@ -1,6 +1,6 @@
 -- What a command's function leaves is what the command makes of a draft.
 use Prim.Native.Nat.{ℕ, ◌+◌, ◌*◌}
-use mathlib.Core.Bool.{Bool, true, false, cond}
+use mathlib.Core.Bool.{Bool, true, false}
 use mathlib.Core.List.{List, [], ◌∷◌}
 use mathlib.Core.Path.{◌≡◌, sym, ap, ◌∙◌}
 use lib.ListN.{length, set}
@@ -8,7 +8,7 @@ use lib.Seq.{sets}
 use Rattle.reading.specs.Settings.{Settings}
 use Rattle.reading.specs.Commands.{ACTIVE, PRECHARGE, pins_of}
 use Rattle.reading.specs.Schedule.{close_all_pins, refresh_pins}
-use Rattle.deadlines.specs.Deadlines.{PAIRS, at, pace_of, active_after, read_after, write_after, close_after, close_all_after, refresh_after}
+use Rattle.deadlines.specs.Deadlines.{at, pace_of, active_after, read_after, write_after, close_after, close_all_after, refresh_after}
 use Rattle.plan.specs.Behind.{ROW, READ-END, WRITE-END, FREE, EVENTS}
 use Rattle.plan.specs.Soonest.{active_soonest, burst_soonest, close_soonest, close_all_soonest, refresh_soonest}
 use Rattle.plan.specs.Draft.{cycle_for, noted, placed_at, end_of, burst_after, burst_ends, activating, closing_bank, bursting, closing_all, refresh_at, refreshing_idle}
@@ -72,11 +72,7 @@ module _ (x : State) (w₀ : List ℕ) (four : length x.rows ≡ 4) {t soonest :
 
 -- ---- READ or WRITE: what is given by it
 
-module _ (s : Settings) (D K : List ℕ) (t b : ℕ) (closed : Bool) {m : List ℕ} (mm : m ≡ pace_of s.mode) {sum end : ℕ} (add : sum ≡ t + at m PAIRS)
-    (pick : end ≡ cond closed 0 sum) where
-  ends : end ≡ end_of closed s t
-  ends = pick ∙ ap (cond closed 0) (add ∙ ap (λ (l : List ℕ). t + at l PAIRS) mm)
-
+module _ (s : Settings) (D K : List ℕ) (t b : ℕ) (closed : Bool) {m : List ℕ} (mm : m ≡ pace_of s.mode) {end : ℕ} (ends : end ≡ end_of closed s t) where
   pub gave-write : {write : Bool} → write ≡ true → {d : List ℕ} → d ≡ write_after s D m t b closed →
       (d ≡ burst_after closed write s D t b) × (set K WRITE-END end ≡ burst_ends closed write s K t)
   gave-write e dd = rw e (dd ∙ ap (λ (l : List ℕ). write_after s D l t b closed) mm, ap (set K WRITE-END) ends)

@@ -7,14 +7,15 @@ ghost use Rattle.std.proofs.lemmas.List.Edits.{sets};
 ghost use Rattle.reading.specs.Settings.{settings_of};
 ghost use Rattle.deadlines.specs.Deadlines.{pace_of};
 ghost use Rattle.plan.specs.Behind as is;
-ghost use Rattle.plan.specs.Draft.{cycle_for, burst_after, burst_ends, activating, closing_bank, bursting, closing_all, refreshing_idle};
+ghost use Rattle.plan.specs.Draft.{cycle_for, end_of, burst_after, burst_ends, activating, closing_bank, bursting, closing_all, refreshing_idle};
 ghost use Rattle.soonest.specs.Standing.{standing};
 ghost use Rattle.drafts.specs.Room.{Room, draft};
 
 use deadlines::Pace;
+use deadlines::banks::Bank;
 use deadlines::places::PAIRS;
-use deadlines::sums::{after, latest, pick};
-use requests::{CLOSE_ALL_PINS, REFRESH_PINS};
+use deadlines::sums::{after, latest};
+use requests::{BankRow, CLOSE_ALL_PINS, REFRESH_PINS};
 use settings::Settings;
 use soonest::State;
 
@@ -49,37 +50,45 @@ fn note(state: &mut State, words: &mut [u32], t: u32, pins: u32)
 }
 
 impl Scheduler<'_> {
-    // ACTIVE of bank b, which is idle.
-    pub fn activate(&self, state: &mut State, words: &mut [u32], b: usize, row: u32)
-        requires b_bound { (b < 4) × (row < 16384) }
-        requires room { Room state.old words.old 1 }
-        ensures { draft state.new words.new ≡ activating (settings_of self.now.settings.now) b row (draft state.old words.old) }
+    // ACTIVE of a row, whose bank is idle.
+    pub fn activate(&self, state: &mut State, words: &mut [u32], row: BankRow)
+        requires { Room state.old words.old 1 }
+        ensures { draft state.new words.new ≡ activating (settings_of self.now.settings.now) row.bank.number row.number (draft state.old words.old) }
     {
+        let b = row.bank;
         let t = cycle_for(state.free, soonest::active(&state.deadlines, b));
         effects::active_after(self.settings, &mut state.deadlines, t, b);
-        state.rows[b] = row as u64;
-        note(state, words, t, requests::active_pins(b as u32, row));
+        state.rows[b.number] = u64::from(row.number);
+        note(state, words, t, requests::active_pins(row));
     }
 
     // PRECHARGE of bank b, which is open.
-    pub fn close(&self, state: &mut State, words: &mut [u32], b: usize)
-        requires b_bound { b < 4 }
-        requires room { Room state.old words.old 1 }
-        ensures { draft state.new words.new ≡ closing_bank (settings_of self.now.settings.now) b (draft state.old words.old) }
+    pub fn close(&self, state: &mut State, words: &mut [u32], b: Bank)
+        requires { Room state.old words.old 1 }
+        ensures { draft state.new words.new ≡ closing_bank (settings_of self.now.settings.now) b.number (draft state.old words.old) }
     {
         let t = cycle_for(state.free, soonest::close(&*state, b));
         effects::close_after(self.settings, &mut state.deadlines, &self.pace, t, b);
-        note(state, words, t, requests::close_pins(b as u32));
+        note(state, words, t, requests::close_pins(b));
     }
 
-    // What a burst at t makes of the deadlines, and until when it can be cut: not at all with auto precharge.
-    fn give(&self, state: &mut State, write: bool, t: u32, b: usize)
-        requires { b < 4 }
-        ensures deadlines_after { state.new.deadlines ≡ burst_after self.now.closed write (settings_of self.now.settings.now) state.old.deadlines t b }
+    // Until when a burst at t can be cut: not at all with auto precharge.
+    fn end_of(&self, t: u32) -> u64
+        ensures { result ≡ end_of self.now.closed (settings_of self.now.settings.now) t }
+    {
+        if self.closed {
+            return 0;
+        }
+        after(t, self.pace[PAIRS])
+    }
+
+    // What a burst at t makes of the deadlines, and until when it can be cut.
+    fn give(&self, state: &mut State, write: bool, t: u32, b: Bank)
+        ensures deadlines_after { state.new.deadlines ≡ burst_after self.now.closed write (settings_of self.now.settings.now) state.old.deadlines t b.number }
         ensures standing_after { standing state.new ≡ burst_ends self.now.closed write (settings_of self.now.settings.now) (standing state.old) t }
         ensures same_events { state.new.events ≡ state.old.events }
     {
-        let end = pick(self.closed, 0, after(t, self.pace[PAIRS]));
+        let end = self.end_of(t);
         let d = &mut state.deadlines;
         if write {
             effects::write_after(self.settings, d, &self.pace, t, b, self.closed);
@@ -91,10 +100,9 @@ impl Scheduler<'_> {
     }
 
     // READ or WRITE of bank b, which is open.
-    pub fn burst(&self, state: &mut State, words: &mut [u32], write: bool, b: usize, pins: u32)
-        requires b_bound { b < 4 }
-        requires room { Room state.old words.old 1 }
-        ensures { draft state.new words.new ≡ bursting (settings_of self.now.settings.now) self.now.closed write b pins (draft state.old words.old) }
+    pub fn burst(&self, state: &mut State, words: &mut [u32], write: bool, b: Bank, pins: u32)
+        requires { Room state.old words.old 1 }
+        ensures { draft state.new words.new ≡ bursting (settings_of self.now.settings.now) self.now.closed write b.number pins (draft state.old words.old) }
     {
         let t = cycle_for(state.free, soonest::burst(write, &*state, b));
         self.give(state, write, t, b);

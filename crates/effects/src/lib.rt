@@ -1,15 +1,16 @@
 // What a command makes of the deadlines.
 #![tactic(auto)]
 
-ghost use Rattle.std.specs.Prelude.{◌≡◌, ◌+◌, ◌<◌};
+ghost use Rattle.std.specs.Prelude.{◌≡◌, ◌+◌};
 ghost use Rattle.reading.specs.Settings.{settings_of};
 ghost use Rattle.deadlines.specs.Deadlines as is;
 
+use deadlines::banks::Bank;
 use deadlines::places::{
     ASLEEP, BUS, BUSY, CLOSE, COLUMN, END, LAST, LATENCY, LOCKED, OPENED, OTHER, OVERDUE, PAIRS,
     READS, REST, SELF, WAKE, WRITER, WRITES, WRITTEN,
 };
-use deadlines::sums::{after, after2, data_after, data_after2, latest, least, pick};
+use deadlines::sums::{after, after2, data_after, data_after2, latest, least};
 use deadlines::{Deadlines, KEPT, Pace, clock};
 use settings::Settings;
 use settings::places::{
@@ -17,31 +18,28 @@ use settings::places::{
 };
 
 #[tactic(auto, unfolding(deadlines::specs::Deadlines::active_after))]
-pub fn active_after(s: &Settings, d: &mut Deadlines, t: u32, b: usize)
-    requires { b < 4 }
-    ensures { d.new ≡ is.active_after (settings_of s.now) d.old t b }
+pub fn active_after(s: &Settings, d: &mut Deadlines, t: u32, b: Bank)
+    ensures { d.new ≡ is.active_after (settings_of s.now) d.old t b.number }
 {
-    d[OPENED + b] = 1;
-    d[OTHER + b] = after(t, s[T_RRD]);
-    d[COLUMN + b] = after(t, s[T_RCD]);
-    d[CLOSE + b] = after(t, s[T_RAS]);
-    d[WRITTEN + b] = 0;
-    d[LOCKED + b] = after2(t, s[T_RAS], s[T_RP]);
+    d[OPENED + b.number] = 1;
+    d[OTHER + b.number] = after(t, s[T_RRD]);
+    d[COLUMN + b.number] = after(t, s[T_RCD]);
+    d[CLOSE + b.number] = after(t, s[T_RAS]);
+    d[WRITTEN + b.number] = 0;
+    d[LOCKED + b.number] = after2(t, s[T_RAS], s[T_RP]);
 }
 
 // The bank of a burst with auto precharge is idle, and is let open again from a cycle on that is at least `from`.
 #[tactic(auto, unfolding(deadlines::specs::Deadlines::auto_after))]
-fn auto_after(d: &mut Deadlines, b: usize, from: u64)
-    requires { b < 4 }
-    ensures { d.new ≡ is.auto_after d.old b from }
+fn auto_after(d: &mut Deadlines, b: Bank, from: u64)
+    ensures { d.new ≡ is.auto_after d.old b.number from }
 {
-    d[OPENED + b] = 0;
-    d[REST + b] = latest(d[LOCKED + b], from);
+    d[OPENED + b.number] = 0;
+    d[REST + b.number] = latest(d[LOCKED + b.number], from);
 }
 
-pub fn read_after(s: &Settings, d: &mut Deadlines, pace: &Pace, t: u32, b: usize, auto: bool)
-    requires { b < 4 }
-    ensures { d.new ≡ is.read_after (settings_of s.now) d.old pace.now t b auto }
+pub fn read_after(s: &Settings, d: &mut Deadlines, pace: &Pace, t: u32, b: Bank, auto: bool)
+    ensures { d.new ≡ is.read_after (settings_of s.now) d.old pace.now t b.number auto }
 {
     let pairs = pace[PAIRS];
     d[BUS] = after2(t, pace[LATENCY], pairs);
@@ -51,7 +49,7 @@ pub fn read_after(s: &Settings, d: &mut Deadlines, pace: &Pace, t: u32, b: usize
         auto_after(d, b, after2(t, pairs, s[T_RP]));
         return;
     }
-    d[LAST] = b as u64;
+    d[LAST] = b.number as u64;
 }
 
 // A write to bank b cuts the last one; where that is of the same bank, its deadline is about to be overwritten.
@@ -66,45 +64,41 @@ fn cut_write(s: &Settings, d: &mut Deadlines, t: u32, b: usize)
 }
 
 #[tactic(auto, unfolding(deadlines::specs::Deadlines::new_write))]
-fn new_write(s: &Settings, d: &mut Deadlines, t: u32, pairs: u32, b: usize)
-    requires { b < 4 }
-    ensures { d.new ≡ is.new_write (settings_of s.now) d.old t pairs b }
+fn new_write(s: &Settings, d: &mut Deadlines, t: u32, pairs: u32, b: Bank)
+    ensures { d.new ≡ is.new_write (settings_of s.now) d.old t pairs b.number }
 {
-    d[WRITTEN + b] = data_after(t, pairs, s[T_WR]);
+    d[WRITTEN + b.number] = data_after(t, pairs, s[T_WR]);
     d[END] = data_after(t, pairs, s[T_WTR]);
     d[LAST] = data_after(t, pairs, 5);
 }
 
 // A write without auto precharge; in the newer edition rules 10 and 11 count from its first pair.
-fn plain_write(s: &Settings, d: &mut Deadlines, t: u32, b: usize)
-    requires { b < 4 }
-    ensures { d.new ≡ is.plain_write (settings_of s.now) d.old t b }
+fn plain_write(s: &Settings, d: &mut Deadlines, t: u32, b: Bank)
+    ensures { d.new ≡ is.plain_write (settings_of s.now) d.old t b.number }
 {
     // A cast: u64 has no From of usize.
-    d[WRITER] = b as u64;
+    d[WRITER] = b.number as u64;
     if s[EDITION] != 1 {
         return;
     }
-    d[WRITTEN + b] = after2(t, 2, s[T_WR]);
+    d[WRITTEN + b.number] = after2(t, 2, s[T_WR]);
     d[END] = after2(t, 2, s[T_WTR]);
 }
 
 #[tactic(auto, unfolding(deadlines::specs::Deadlines::auto_write))]
-fn auto_write(s: &Settings, d: &mut Deadlines, t: u32, pairs: u32, b: usize)
-    requires { b < 4 }
-    ensures { d.new ≡ is.auto_write (settings_of s.now) d.old t pairs b }
+fn auto_write(s: &Settings, d: &mut Deadlines, t: u32, pairs: u32, b: Bank)
+    ensures { d.new ≡ is.auto_write (settings_of s.now) d.old t pairs b.number }
 {
     d[WRITES] = after(t, pairs);
-    d[WRITER] = (b as u64) + 4;
+    d[WRITER] = (b.number as u64) + 4;
     auto_after(d, b, data_after2(t, pairs, s[T_WR], s[T_RP]));
 }
 
-pub fn write_after(s: &Settings, d: &mut Deadlines, pace: &Pace, t: u32, b: usize, auto: bool)
-    requires { b < 4 }
-    ensures { d.new ≡ is.write_after (settings_of s.now) d.old pace.now t b auto }
+pub fn write_after(s: &Settings, d: &mut Deadlines, pace: &Pace, t: u32, b: Bank, auto: bool)
+    ensures { d.new ≡ is.write_after (settings_of s.now) d.old pace.now t b.number auto }
 {
     let pairs = pace[PAIRS];
-    cut_write(s, d, t, b);
+    cut_write(s, d, t, b.number);
     new_write(s, d, t, pairs, b);
     if auto {
         auto_write(s, d, t, pairs, b);
@@ -117,25 +111,27 @@ pub fn write_after(s: &Settings, d: &mut Deadlines, pace: &Pace, t: u32, b: usiz
 pub fn cut_read(d: &mut Deadlines, pace: &Pace, t: u32, cut: bool)
     ensures { d.new ≡ is.cut_read d.old pace.now t cut }
 {
-    d[BUS] = pick(cut, least(d[BUS], after(t, pace[LATENCY])), d[BUS]);
+    if cut {
+        d[BUS] = least(d[BUS], after(t, pace[LATENCY]));
+    }
 }
 
 #[tactic(auto, unfolding(deadlines::specs::Deadlines::rest_after))]
-fn rest_after(d: &mut Deadlines, b: usize, from: u64)
-    requires { b < 4 }
-    ensures { d.new ≡ is.rest_after d.old b from }
+fn rest_after(d: &mut Deadlines, b: Bank, from: u64)
+    ensures { d.new ≡ is.rest_after d.old b.number from }
 {
-    d[REST + b] = pick(d[OPENED + b] == 0, d[REST + b], from);
-    d[OPENED + b] = 0;
+    if d[OPENED + b.number] != 0 {
+        d[REST + b.number] = from;
+    }
+    d[OPENED + b.number] = 0;
 }
 
 #[tactic(auto, unfolding(deadlines::specs::Deadlines::close_after))]
-pub fn close_after(s: &Settings, d: &mut Deadlines, pace: &Pace, t: u32, b: usize)
-    requires { b < 4 }
-    ensures { d.new ≡ is.close_after (settings_of s.now) d.old pace.now t b }
+pub fn close_after(s: &Settings, d: &mut Deadlines, pace: &Pace, t: u32, b: Bank)
+    ensures { d.new ≡ is.close_after (settings_of s.now) d.old pace.now t b.number }
 {
     rest_after(d, b, after(t, s[T_RP]));
-    let cut = d[LAST] == b as u64;
+    let cut = d[LAST] == b.number as u64;
     cut_read(d, pace, t, cut);
 }
 
@@ -143,7 +139,7 @@ fn rest_all(d: &mut Deadlines, from: u64)
     ensures { d.new ≡ is.rest_all d.old from }
 {
     'banks: for b in 0..4 {
-        rest_after(d, b, from);
+        rest_after(d, Bank { number: b }, from);
     }
 }
 

@@ -6,7 +6,8 @@ use Rattle.reading.specs.Bursts.{Burst}
 use Rattle.reading.specs.Schedule.{request_fits}
 use Rattle.reading.specs.Memory.{requested}
 
--- all that is asked of the settings: rows and columns have their pins, and the mode has a burst length
+-- All that is asked of the settings: rows and columns have their pins, and the mode has a burst length. A clause and no type: the
+-- settings stay the array that the deadlines' functions take, so a type round it would be taken off at each call.
 pub record Sized (s : Settings) : Type 0 where
   pub rows : s.row_bits ≤ 14
   pub columns : s.column_bits ≤ 11

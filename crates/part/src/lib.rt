@@ -4,23 +4,33 @@
 ghost use Rattle.std.specs.Prelude.{◌≡◌, true, cond, ◌≤◌, ◌<◌, eqb};
 ghost use Rattle.reading.specs.Settings.{settings_of};
 ghost use Rattle.deadlines.specs.Deadlines as is;
-ghost use Rattle.pins.specs.Pins.{wide_code_of};
+ghost use Rattle.pins.specs.Pins.{wide_code_of, bank_of};
 ghost use Rattle.steps.specs.Steps.{rule_of, left_by, unless_lower, low_step_after, step_breaks, step_after, pace_after};
 ghost use Rattle.rules.specs.Rule.{broken};
 ghost use Rattle.part.specs.Means.{means};
 
+use deadlines::banks::Bank;
 use deadlines::places::{ASLEEP, OVERDUE};
 use deadlines::{Deadlines, Pace};
 use rules::Rule;
 use settings::Settings;
 
-// Each command: the lowest rule that it breaks, if any, and the deadlines after it, which stay as they were where it breaks one.
+// The bank that BA0 and BA1 name.
+fn bank(w: u32) -> Bank
+    ensures { result.number ≡ bank_of w }
+{
+    Bank {
+        number: pins::bank(w),
+    }
+}
 
-fn active(s: &Settings, d: &mut Deadlines, t: u32, b: usize, row: u32) -> Result<(), Rule>
-    requires { b < 4 }
-    ensures value { broken result ≡ is.active_breaks (settings_of s.now) d.old t b row }
-    ensures d_after { d.new ≡ left_by (is.active_breaks (settings_of s.now) d.old t b row)
-        (is.active_after (settings_of s.now) d.old t b) d.old }
+// Each command: the lowest rule that it breaks, if any, and the deadlines after it, which stay as they were where it breaks one.
+// Two calls and no frame that is lent both: the calls would stand in it as closures, and each command's clauses would stay.
+
+fn active(s: &Settings, d: &mut Deadlines, t: u32, b: Bank, row: u32) -> Result<(), Rule>
+    ensures value { broken result ≡ is.active_breaks (settings_of s.now) d.old t b.number row }
+    ensures d_after { d.new ≡ left_by (is.active_breaks (settings_of s.now) d.old t b.number row)
+        (is.active_after (settings_of s.now) d.old t b.number) d.old }
 {
     rules::active_breaks(s, &*d, t, b, row)?;
     effects::active_after(s, d, t, b);
@@ -32,13 +42,12 @@ fn read(
     d: &mut Deadlines,
     pace: &Pace,
     t: u32,
-    b: usize,
+    b: Bank,
     auto: bool,
 ) -> Result<(), Rule>
-    requires { b < 4 }
-    ensures value { broken result ≡ is.read_breaks d.old t b }
-    ensures d_after { d.new ≡ left_by (is.read_breaks d.old t b)
-        (is.read_after (settings_of s.now) d.old pace.now t b auto) d.old }
+    ensures value { broken result ≡ is.read_breaks d.old t b.number }
+    ensures d_after { d.new ≡ left_by (is.read_breaks d.old t b.number)
+        (is.read_after (settings_of s.now) d.old pace.now t b.number auto) d.old }
 {
     rules::read_breaks(&*d, t, b)?;
     effects::read_after(s, d, pace, t, b, auto);
@@ -50,13 +59,12 @@ fn write(
     d: &mut Deadlines,
     pace: &Pace,
     t: u32,
-    b: usize,
+    b: Bank,
     auto: bool,
 ) -> Result<(), Rule>
-    requires { b < 4 }
-    ensures value { broken result ≡ is.write_breaks d.old t b }
-    ensures d_after { d.new ≡ left_by (is.write_breaks d.old t b)
-        (is.write_after (settings_of s.now) d.old pace.now t b auto) d.old }
+    ensures value { broken result ≡ is.write_breaks d.old t b.number }
+    ensures d_after { d.new ≡ left_by (is.write_breaks d.old t b.number)
+        (is.write_after (settings_of s.now) d.old pace.now t b.number auto) d.old }
 {
     rules::write_breaks(&*d, t, b)?;
     effects::write_after(s, d, pace, t, b, auto);
@@ -75,11 +83,10 @@ fn close_all(s: &Settings, d: &mut Deadlines, pace: &Pace, t: u32) -> Result<(),
 
 // Inlined early: random commands cost half an instruction an event more otherwise.
 #[inline(always)]
-fn close(s: &Settings, d: &mut Deadlines, pace: &Pace, t: u32, b: usize) -> Result<(), Rule>
-    requires { b < 4 }
-    ensures value { broken result ≡ is.close_breaks d.old t b }
-    ensures d_after { d.new ≡ left_by (is.close_breaks d.old t b)
-        (is.close_after (settings_of s.now) d.old pace.now t b) d.old }
+fn close(s: &Settings, d: &mut Deadlines, pace: &Pace, t: u32, b: Bank) -> Result<(), Rule>
+    ensures value { broken result ≡ is.close_breaks d.old t b.number }
+    ensures d_after { d.new ≡ left_by (is.close_breaks d.old t b.number)
+        (is.close_after (settings_of s.now) d.old pace.now t b.number) d.old }
 {
     rules::close_breaks(&*d, t, b)?;
     effects::close_after(s, d, pace, t, b);
@@ -206,20 +213,14 @@ fn low(s: &Settings, d: &mut Deadlines, t: u32, code: u32, w: u32) -> Result<(),
         pins::NOP_LOW => quiet_low(d, t),
         17 | 19 | 21 | 23 | 25 | 27 | 29 => quiet_low(d, t),
         pins::REFRESH_LOW => refresh_low(d, t),
-        pins::ACTIVE_LOW => barred(rules::active_breaks(
-            s,
-            &*d,
-            t,
-            pins::bank(w),
-            pins::address(w),
-        )),
-        pins::READ_LOW => barred(rules::read_breaks(&*d, t, pins::bank(w))),
-        pins::WRITE_LOW => barred(rules::write_breaks(&*d, t, pins::bank(w))),
+        pins::ACTIVE_LOW => barred(rules::active_breaks(s, &*d, t, bank(w), pins::address(w))),
+        pins::READ_LOW => barred(rules::read_breaks(&*d, t, bank(w))),
+        pins::WRITE_LOW => barred(rules::write_breaks(&*d, t, bank(w))),
         pins::PRECHARGE_LOW => {
             if pins::ten(w) {
                 return barred(rules::close_all_breaks(&*d, t));
             }
-            barred(rules::close_breaks(&*d, t, pins::bank(w)))
+            barred(rules::close_breaks(&*d, t, bank(w)))
         }
         pins::TERMINATE_LOW => barred(rules::terminate_breaks(&*d, t)),
         pins::MODE_SET_LOW => barred(rules::mode_breaks(&*d, t, pins::bank(w), pins::address(w))),
@@ -239,14 +240,14 @@ fn command(s: &Settings, d: &mut Deadlines, pace: &mut Pace, t: u32, w: u32) -> 
 {
     let code = pins::wide_code(w);
     match code {
-        pins::ACTIVE => active(s, d, t, pins::bank(w), pins::address(w))?,
-        pins::READ => read(s, d, &*pace, t, pins::bank(w), pins::ten(w))?,
-        pins::WRITE => write(s, d, &*pace, t, pins::bank(w), pins::ten(w))?,
+        pins::ACTIVE => active(s, d, t, bank(w), pins::address(w))?,
+        pins::READ => read(s, d, &*pace, t, bank(w), pins::ten(w))?,
+        pins::WRITE => write(s, d, &*pace, t, bank(w), pins::ten(w))?,
         pins::PRECHARGE => {
             if pins::ten(w) {
                 close_all(s, d, &*pace, t)?;
             } else {
-                close(s, d, &*pace, t, pins::bank(w))?;
+                close(s, d, &*pace, t, bank(w))?;
             }
         }
         pins::TERMINATE => terminate(d, &*pace, t)?,

@@ -5,6 +5,8 @@ use Rattle.reading.specs.Commands.{READ, WRITE, pins_of}
 use Rattle.reading.specs.Schedule.{request_fits}
 use Rattle.memory.specs.Serving.{Sized}
 
+-- A clause and no type: the settings are the scheduler's, and a request that held them too would need a clause that both are the
+-- same.
 pub record Asked (s : Settings) (q : ℕ) : Type 0 where
   pub sized : Sized s
   pub fits : request_fits s q ≡ true

@@ -1,7 +1,7 @@
 // A request: whether it fits, and the pins of its commands. Pins that are not named are 0.
 #![tactic(auto)]
 
-ghost use Rattle.std.specs.Prelude.{◌≡◌, true, cond, ◌^◌, ◌≤◌, ◌<◌};
+ghost use Rattle.std.specs.Prelude.{◌≡◌, true, cond, ◌*◌, ◌^◌, ◌≤◌, ◌<◌};
 ghost use Rattle.words.specs.Found.{place_of};
 ghost use Rattle.reading.specs.Settings.{settings_of};
 ghost use Rattle.reading.specs.Commands.{ACTIVE, PRECHARGE, pins_of};
@@ -9,6 +9,7 @@ ghost use Rattle.reading.specs.Schedule.{asks_write, first_cell, cell_bank, cell
 ghost use Rattle.memory.specs.Serving.{Sized};
 ghost use Rattle.requests.specs.Asked.{Asked, burst_code, cell_count, below, EachBelow};
 
+use deadlines::banks::Bank;
 use settings::Settings;
 use settings::places::{COLUMN_BITS, ROW_BITS};
 use words::both;
@@ -70,18 +71,30 @@ fn column(s: &Settings, q: u32) -> u32
     q % 134_217_728 % columns
 }
 
-pub fn active_pins(bank: u32, row: u32) -> u32
-    requires { (bank < 4) × (row < 16384) }
-    ensures { result ≡ pins_of ACTIVE bank row }
-{
-    row + pins::BANK * bank + ACTIVE_PINS
+// A row of a bank, by its number on A0-A13.
+#[derive(Clone, Copy)]
+pub struct BankRow {
+    pub bank: Bank,
+    pub number: u32,
+    ghost on_pins: { number < 16384 },
 }
 
-pub fn close_pins(bank: u32) -> u32
-    requires { bank < 4 }
-    ensures { result ≡ pins_of PRECHARGE bank 0 }
+fn bank_pins(b: Bank) -> u32
+    ensures { result ≡ 16384 * b.number }
 {
-    pins::BANK * bank + CLOSE_PINS
+    pins::BANK * (b.number as u32)
+}
+
+pub fn active_pins(row: BankRow) -> u32
+    ensures { result ≡ pins_of ACTIVE row.bank.number row.number }
+{
+    row.number + bank_pins(row.bank) + ACTIVE_PINS
+}
+
+pub fn close_pins(b: Bank) -> u32
+    ensures { result ≡ pins_of PRECHARGE b.number 0 }
+{
+    bank_pins(b) + CLOSE_PINS
 }
 
 // WRITE or READ on the command pins.
@@ -110,13 +123,13 @@ fn column_pins(column: u32, closed: bool) -> u32
 }
 
 // Of the request's bank, with rows closed or left open.
-pub fn burst_pins(s: &Settings, q: u32, bank: u32, closed: bool) -> u32
+pub fn burst_pins(s: &Settings, q: u32, b: Bank, closed: bool) -> u32
     requires asked { Asked (settings_of s.now) q }
-    requires bank_value { bank ≡ cell_bank (settings_of s.now) (first_cell q) }
+    requires bank_value { b.number ≡ cell_bank (settings_of s.now) (first_cell q) }
     ensures { result ≡ burst_pins closed (settings_of s.now) q }
 {
     let code = burst_code(asks_write(q));
-    column_pins(column(s, q), closed) + pins::BANK * bank + code
+    column_pins(column(s, q), closed) + bank_pins(b) + code
 }
 
 // The cells of the part, which has four banks.

@@ -10,7 +10,7 @@ ghost use Rattle.deadlines.specs.Deadlines.{at, rule_unless};
 ghost use Rattle.rules.specs.Rule.{number_of, broken, open_kept, burst_breaks};
 
 use deadlines::Deadlines;
-use deadlines::banks::all_idle;
+use deadlines::banks::{Bank, all_idle};
 use deadlines::places::{
     ASLEEP, BUS, BUSY, CLOSE, COLUMN, END, LAST, OPENED, OTHER, OVERDUE, READS, REST, WAKE, WRITER,
     WRITES, WRITTEN,
@@ -171,21 +171,21 @@ fn taken(d: &Deadlines, t: u32) -> bool
     gone(d)
 }
 
-// The lowest rule that a command breaks, if any. Each reads the deadlines of the banks and the part that it concerns.
+// The lowest rule that a command breaks, if any. Each reads the deadlines of the banks and the part that it concerns. What is
+// alike are lines of a list of rules, written out: each leaves at the first that is broken.
 
-pub fn active_breaks(s: &Settings, d: &Deadlines, t: u32, b: usize, row: u32) -> Result<(), Rule>
-    requires { b < 4 }
-    ensures { broken result ≡ is.active_breaks (settings_of s.now) d.now t b row }
+pub fn active_breaks(s: &Settings, d: &Deadlines, t: u32, b: Bank, row: u32) -> Result<(), Rule>
+    ensures { broken result ≡ is.active_breaks (settings_of s.now) d.now t b.number row }
 {
     if rows(s[ROW_BITS]) <= row {
         return Err(Rule::Row);
     }
-    if d[OPENED + b] != 0 {
+    if d[OPENED + b.number] != 0 {
         return Err(Rule::BankState);
     }
     over(d[BUSY], t, Rule::Busy)?;
-    over(d[REST + b], t, Rule::Precharge)?;
-    others_apart(d, t, b)?;
+    over(d[REST + b.number], t, Rule::Precharge)?;
+    others_apart(d, t, b.number)?;
     last_breaks(d, t)
 }
 
@@ -193,35 +193,32 @@ pub fn active_breaks(s: &Settings, d: &Deadlines, t: u32, b: usize, row: u32) ->
 fn burst_breaks(
     d: &Deadlines,
     t: u32,
-    b: usize,
+    b: Bank,
     bus: usize,
     rule: Rule,
     auto: usize,
 ) -> Result<(), Rule>
-    requires bank { b < 4 }
-    requires places { (bus < 39) × (auto < 39) }
-    ensures { broken result ≡ burst_breaks d.now t b bus (number_of rule) auto }
+    requires { (bus < 39) × (auto < 39) }
+    ensures { broken result ≡ burst_breaks d.now t b.number bus (number_of rule) auto }
 {
-    if d[OPENED + b] == 0 {
+    if d[OPENED + b.number] == 0 {
         return Err(Rule::BankState);
     }
     over(d[BUSY], t, Rule::Busy)?;
-    over(d[COLUMN + b], t, Rule::RowToColumn)?;
+    over(d[COLUMN + b.number], t, Rule::RowToColumn)?;
     over(d[bus], t, rule)?;
     over(d[auto], t, Rule::AutoPrecharge)?;
     last_breaks(d, t)
 }
 
-pub fn read_breaks(d: &Deadlines, t: u32, b: usize) -> Result<(), Rule>
-    requires { b < 4 }
-    ensures { broken result ≡ is.read_breaks d.now t b }
+pub fn read_breaks(d: &Deadlines, t: u32, b: Bank) -> Result<(), Rule>
+    ensures { broken result ≡ is.read_breaks d.now t b.number }
 {
     burst_breaks(d, t, b, END, Rule::WriteToRead, READS)
 }
 
-pub fn write_breaks(d: &Deadlines, t: u32, b: usize) -> Result<(), Rule>
-    requires { b < 4 }
-    ensures { broken result ≡ is.write_breaks d.now t b }
+pub fn write_breaks(d: &Deadlines, t: u32, b: Bank) -> Result<(), Rule>
+    ensures { broken result ≡ is.write_breaks d.now t b.number }
 {
     burst_breaks(d, t, b, BUS, Rule::Bus, WRITES)
 }
@@ -237,16 +234,15 @@ pub fn terminate_breaks(d: &Deadlines, t: u32) -> Result<(), Rule>
     last_breaks(d, t)
 }
 
-pub fn close_breaks(d: &Deadlines, t: u32, b: usize) -> Result<(), Rule>
-    requires { b < 4 }
-    ensures { broken result ≡ is.close_breaks d.now t b }
+pub fn close_breaks(d: &Deadlines, t: u32, b: Bank) -> Result<(), Rule>
+    ensures { broken result ≡ is.close_breaks d.now t b.number }
 {
     over(d[BUSY], t, Rule::Busy)?;
-    if d[OPENED + b] == 0 {
+    if d[OPENED + b.number] == 0 {
         return last_breaks(d, t);
     }
-    over(d[CLOSE + b], t, Rule::RowHeld)?;
-    over(d[WRITTEN + b], t, Rule::WriteRecovery)?;
+    over(d[CLOSE + b.number], t, Rule::RowHeld)?;
+    over(d[WRITTEN + b.number], t, Rule::WriteRecovery)?;
     last_breaks(d, t)
 }
 

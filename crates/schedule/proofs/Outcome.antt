@@ -120,7 +120,8 @@ module _ {ws : List ℕ} (fit : Right ws) {s : List ℕ} (loaded : s ≡ padded 
 
         -- ---- refusal 6
 
-        module _ {w : List ℕ} (t : Result ℕ Refusal) (plans : told (λ n. n) t ≡ plan_answer (schedule_of (settings_of s) policy qs)) (fills : Noted (schedule_of (settings_of s) policy qs) w) where
+        module _ {w : List ℕ} (t : Result ℕ Refusal) (plans : told (λ n. n) t ≡ plan_answer (schedule_of (settings_of s) policy qs))
+            (fills : Noted (schedule_of (settings_of s) policy qs) w) where
           planned-as : told (λ n. n) t ≡ plan_answer (schedule_of (settings_of ws) policy qs)
           planned-as = plans ∙ ap (λ (x : Settings). plan_answer (schedule_of x policy qs)) same
 

@@ -90,7 +90,8 @@ module _ (ws qs : List ℕ) (closed : Bool) (w₀ : List ℕ) where
       few-events = omega (arith, counted, v.few, v.within, most)
 
       -- no request is left
-      pub walk_ends : length qs ≤ i → (told (λ n. n) (Ok x.events) ≡ plan_answer (schedule_by placing (settings_of ws) closed qs)) × Noted (schedule_by placing (settings_of ws) closed qs) words
+      pub walk_ends : length qs ≤ i →
+          (told (λ n. n) (Ok x.events) ≡ plan_answer (schedule_by placing (settings_of ws) closed qs)) × Noted (schedule_by placing (settings_of ws) closed qs) words
       unfolding schedule_from
       walk_ends l =
           let e : all ≡ planned v.es = v.decides ∙ ap (schedule_from placing s closed v.es i) (none-behind qs i l) in

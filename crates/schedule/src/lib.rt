@@ -74,7 +74,8 @@ fn plan(s: &Settings, requests: &[u32], closed: bool, words: &mut [u32]) -> Resu
     Ok(state.events as u32)
 }
 
-// The capture of n events, if the buffer holds it.
+// The capture of n events, if the buffer holds it. Beside their words stands the count: a slice of words alone would have to be of
+// even length, and be halved.
 fn write(settings: &[u32], list: &[u32], n: u32, out: &mut [u8]) -> Result<u32, Refusal>
     requires { Writable settings.now list.now n }
     ensures value { result ≡ written out.old n }

@@ -80,7 +80,8 @@ module _ (s : Settings) (closed : Bool) (q margin : ℕ) (x₀ : State) (w₀ : 
         rw (t.late refl, v) (refl, behind-is t)
     in-time-now (suc (suc n)) t e = absurd (omega (arith, t.within))
 
-    pub late-now : {n : ℕ} → Trying sure x w n → n ≡ 1 → in-time ≡ false → (late : Late) → (means (Err late) ≡ given 6 (not (kept s closed q start))) × (draft x₁ w₁ ≡ turned s closed q start)
+    pub late-now : {n : ℕ} → Trying sure x w n → n ≡ 1 → in-time ≡ false → (late : Late) →
+        (means (Err late) ≡ given 6 (not (kept s closed q start))) × (draft x₁ w₁ ≡ turned s closed q start)
     unfolding kept turned
     late-now t o e late =
         let last : draft x₁ w₁ ≡ behind s closed q start = behind-is (subst (Trying sure x w) o t) in

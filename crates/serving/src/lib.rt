@@ -11,10 +11,11 @@ ghost use Rattle.plan.specs.Margin.{margin_of};
 ghost use Rattle.serving.specs.Sure.{far, Sure, set_aside};
 ghost use Rattle.serving.specs.Means.{means};
 
-use deadlines::banks::all_idle;
+use deadlines::banks::{Bank, all_idle};
 use deadlines::places::{LATENCY, OPENED, OVERDUE, PAIRS};
 use deadlines::sums::after;
 use drafts::{Scheduler, cycle_for};
+use requests::BankRow;
 use settings::places::{T_RAS, T_RCD, T_RFC, T_RP, T_RRD, T_WR, T_WTR};
 use soonest::State;
 
@@ -22,21 +23,21 @@ use soonest::State;
 #[derive(Clone, Copy, Debug, PartialEq, Eq)]
 pub struct Late;
 
-// What opens a row of bank b: nothing, ACTIVE, or PRECHARGE and ACTIVE.
-fn open_row(scheduler: &Scheduler<'_>, state: &mut State, words: &mut [u32], b: usize, row: u32)
-    requires b_bound { (b < 4) × (row < 16384) }
-    requires room { Room state.old words.old 2 }
-    ensures { draft state.new words.new ≡ opening (settings_of scheduler.now.settings.now) b row (draft state.old words.old) }
+// What opens a row: nothing, ACTIVE, or PRECHARGE and ACTIVE.
+fn open_row(scheduler: &Scheduler<'_>, state: &mut State, words: &mut [u32], row: BankRow)
+    requires { Room state.old words.old 2 }
+    ensures { draft state.new words.new ≡ opening (settings_of scheduler.now.settings.now) row.bank.number row.number (draft state.old words.old) }
 {
+    let b = row.bank.number;
     if state.deadlines[OPENED + b] == 0 {
-        scheduler.activate(state, words, b, row);
+        scheduler.activate(state, words, row);
         return;
     }
-    if state.rows[b] == row as u64 {
+    if state.rows[b] == u64::from(row.number) {
         return;
     }
-    scheduler.close(state, words, b);
-    scheduler.activate(state, words, b, row);
+    scheduler.close(state, words, row.bank);
+    scheduler.activate(state, words, row);
 }
 
 // Its row opened, then READ or WRITE.
@@ -46,11 +47,16 @@ fn request(scheduler: &Scheduler<'_>, state: &mut State, words: &mut [u32], q: u
     ensures { draft state.new words.new ≡ requesting (settings_of scheduler.now.settings.now) q scheduler.now.closed (draft state.old words.old) }
 {
     let s = scheduler.settings;
-    let bank = requests::bank(s, q);
-    let b = bank as usize;
-    open_row(scheduler, state, words, b, requests::row(s, q));
+    let bank = Bank {
+        number: requests::bank(s, q) as usize,
+    };
+    let row = BankRow {
+        bank,
+        number: requests::row(s, q),
+    };
+    open_row(scheduler, state, words, row);
     let pins = requests::burst_pins(s, q, bank, scheduler.closed);
-    scheduler.burst(state, words, requests::asks_write(q), b, pins);
+    scheduler.burst(state, words, requests::asks_write(q), bank, pins);
 }
 
 // All banks closed, if one is open.
@@ -90,10 +96,10 @@ fn in_time(scheduler: &Scheduler<'_>, state: &State) -> bool
     let d = &state.deadlines;
     if all_idle(d) {
         let t = cycle_for(state.free, soonest::refresh(d));
-        return (t as u64) < d[OVERDUE];
+        return u64::from(t) < d[OVERDUE];
     }
     let t = closed_refresh_at(scheduler, state);
-    (t as u64) < d[OVERDUE]
+    u64::from(t) < d[OVERDUE]
 }
 
 // How long the turn of a request can take, with the refresh behind it: five waits, each of all times together and a cycle for
@@ -103,10 +109,10 @@ pub fn margin(scheduler: &Scheduler<'_>) -> u64
 {
     let s = scheduler.settings;
     let pace = &scheduler.pace;
-    let rows = (s[T_RCD] as u64) + (s[T_RP] as u64) + (s[T_RAS] as u64) + (s[T_RRD] as u64);
-    let bursts = (s[T_WR] as u64) + (s[T_WTR] as u64);
-    let data = (pace[PAIRS] as u64) + (pace[LATENCY] as u64);
-    5 * (rows + bursts + data + (s[T_RFC] as u64) + 9)
+    let rows = u64::from(s[T_RCD]) + u64::from(s[T_RP]) + u64::from(s[T_RAS]) + u64::from(s[T_RRD]);
+    let bursts = u64::from(s[T_WR]) + u64::from(s[T_WTR]);
+    let data = u64::from(pace[PAIRS]) + u64::from(pace[LATENCY]);
+    5 * (rows + bursts + data + u64::from(s[T_RFC]) + 9)
 }
 
 // What stood before a request is kept where it may have to be taken back. It is lent: to clear an Option of it for each

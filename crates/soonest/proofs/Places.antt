@@ -52,10 +52,6 @@ module _ (x : State) (four : length x.rows ≡ 4) where
   pub write-end-set : (t : ℕ) → x.rows ++ x.read_end ∷ t ∷ x.free ∷ x.events ∷ [] ≡ set (standing x) WRITE-END t
   write-end-set t = of-four (λ l. l ++ x.read_end ∷ t ∷ x.free ∷ x.events ∷ [] ≡ set (l ++ behind) WRITE-END t) (λ w x y z. refl) x.rows four
 
-  pub noted-set : (free events : ℕ) → x.rows ++ x.read_end ∷ x.write_end ∷ free ∷ events ∷ [] ≡ set (set (standing x) FREE free) EVENTS events
-  noted-set free events =
-      of-four (λ l. l ++ x.read_end ∷ x.write_end ∷ free ∷ events ∷ [] ≡ set (set (l ++ behind) FREE free) EVENTS events) (λ w x y z. refl) x.rows four
-
 -- a standing of eight numbers has four rows
 pub four-of : (x : State) → length (standing x) ≡ 8 → length x.rows ≡ 4
 four-of x e = omega (arith, e, length-append x.rows (x.read_end ∷ x.write_end ∷ x.free ∷ x.events ∷ []))

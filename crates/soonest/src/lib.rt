@@ -10,10 +10,11 @@ ghost use Rattle.plan.specs.Soonest.{active_soonest, burst_soonest, close_soones
 ghost use Rattle.soonest.specs.Standing.{standing};
 
 use deadlines::Deadlines;
+use deadlines::banks::Bank;
 use deadlines::places::{
     BUS, BUSY, CLOSE, COLUMN, END, LAST, OPENED, OTHER, READS, REST, WRITES, WRITTEN,
 };
-use deadlines::sums::{latest, pick};
+use deadlines::sums::latest;
 
 // What is kept of a schedule while it is written.
 #[derive(Clone, Copy)]
@@ -34,32 +35,29 @@ fn other(d: &Deadlines, b: usize, i: usize) -> u64
     requires { i < 4 }
     ensures { result ≡ other_bank d.now b i }
 {
-    pick(i == b, 0, d[OTHER + i])
+    if i == b { 0 } else { d[OTHER + i] }
 }
 
-pub fn active(d: &Deadlines, b: usize) -> u64
-    requires { b < 4 }
-    ensures { result ≡ active_soonest d.now b }
+pub fn active(d: &Deadlines, b: Bank) -> u64
+    ensures { result ≡ active_soonest d.now b.number }
 {
-    let last = latest(other(d, b, 2), other(d, b, 3));
-    let apart = latest(other(d, b, 0), latest(other(d, b, 1), last));
-    latest(d[BUSY], latest(d[REST + b], apart))
+    let last = latest(other(d, b.number, 2), other(d, b.number, 3));
+    let apart = latest(other(d, b.number, 0), latest(other(d, b.number, 1), last));
+    latest(d[BUSY], latest(d[REST + b.number], apart))
 }
 
 // What READ and WRITE of bank b wait for alike, and what each waits for by itself: the bus, a burst of the other kind, and the end
 // of one that it would cut.
-fn waits(d: &Deadlines, b: usize, bus: u64, other: u64, end: u64) -> u64
-    requires { b < 4 }
-    ensures { result ≡ later (later (at d.now is.BUSY) (later (at d.now (is.COLUMN + b)) (later bus other))) end }
+fn waits(d: &Deadlines, b: Bank, bus: u64, other: u64, end: u64) -> u64
+    ensures { result ≡ later (later (at d.now is.BUSY) (later (at d.now (is.COLUMN + b.number)) (later bus other))) end }
 {
-    let rules = latest(d[BUSY], latest(d[COLUMN + b], latest(bus, other)));
+    let rules = latest(d[BUSY], latest(d[COLUMN + b.number], latest(bus, other)));
     latest(rules, end)
 }
 
 // READ or WRITE of a bank that is open.
-pub fn burst(write: bool, state: &State, b: usize) -> u64
-    requires { b < 4 }
-    ensures { result ≡ burst_soonest write state.now.deadlines (standing state.now) b }
+pub fn burst(write: bool, state: &State, b: Bank) -> u64
+    ensures { result ≡ burst_soonest write state.now.deadlines (standing state.now) b.number }
 {
     let d = &state.deadlines;
     if write {
@@ -69,13 +67,18 @@ pub fn burst(write: bool, state: &State, b: usize) -> u64
 }
 
 // PRECHARGE of a bank that is open.
-pub fn close(state: &State, b: usize) -> u64
-    requires { b < 4 }
-    ensures { result ≡ close_soonest state.now.deadlines (standing state.now) b }
+pub fn close(state: &State, b: Bank) -> u64
+    ensures { result ≡ close_soonest state.now.deadlines (standing state.now) b.number }
 {
     let d = &state.deadlines;
-    let rules = latest(d[BUSY], latest(d[CLOSE + b], d[WRITTEN + b]));
-    latest(rules, pick(d[LAST] == b as u64, state.read_end, 0))
+    let rules = latest(d[BUSY], latest(d[CLOSE + b.number], d[WRITTEN + b.number]));
+    // A cast: u64 has no From of usize.
+    let cut = if d[LAST] == b.number as u64 {
+        state.read_end
+    } else {
+        0
+    };
+    latest(rules, cut)
 }
 
 // What is asked of bank i at some place of the deadlines, nothing if it is idle.
@@ -83,7 +86,7 @@ fn till(d: &Deadlines, place: usize, i: usize) -> u64
     requires { (place + i < 39) × (i < 4) }
     ensures { result ≡ open_till d.now place i }
 {
-    pick(d[OPENED + i] == 0, 0, d[place + i])
+    if d[OPENED + i] == 0 { 0 } else { d[place + i] }
 }
 
 fn all_till(d: &Deadlines, place: usize, rest: u64) -> u64

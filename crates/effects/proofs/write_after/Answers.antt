@@ -11,11 +11,11 @@ unfolding write_after
 returns-then-auto c = let a = c.args in
     let pairs = at a.pace.now PAIRS in
     rw (c.auto_write.ensures, c.if-auto.true, c.new_write.ensures, c.cut_write.ensures)
-    (ap (λ (d : List ℕ). auto_write (settings_of a.s.now) d a.t pairs a.b) (cut-over (settings_of a.s.now) a.d.now a.t pairs a.b))
+    (ap (λ (d : List ℕ). auto_write (settings_of a.s.now) d a.t pairs a.b.number) (cut-over (settings_of a.s.now) a.d.now a.t pairs a.b.number))
 
 pub returns : goal.returns
 unfolding write_after
 returns c = let a = c.args in
     let pairs = at a.pace.now PAIRS in
     rw (c.plain_write.ensures, c.if-auto.false, c.new_write.ensures, c.cut_write.ensures)
-    (ap (λ (d : List ℕ). plain_write (settings_of a.s.now) d a.t a.b) (cut-over (settings_of a.s.now) a.d.now a.t pairs a.b))
+    (ap (λ (d : List ℕ). plain_write (settings_of a.s.now) d a.t a.b.number) (cut-over (settings_of a.s.now) a.d.now a.t pairs a.b.number))

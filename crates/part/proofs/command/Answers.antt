@@ -16,37 +16,37 @@ low-requires c = record { code_value = c.wide_code-code.ensures; le_code = beyon
 pub returns-in_err-active-in-12 : goal.returns-in_err-active-in-12
 returns-in_err-active-in-12 c = let a = c.args in
     let (n, e) = high-at a.w 12 c.wide_code-code.ensures c.in-12.is (omega arith) in
-    met-paced (codes.active (settings_of a.s.now) a.d.now a.pace.now a.t a.w c.bank.ensures.0 c.address.ensures.0 n e)
+    met-paced (codes.active (settings_of a.s.now) a.d.now a.pace.now a.t a.w c.bank.ensures c.address.ensures.0 n e)
     (handed _ _ c.from_residual.ensures.1 ∙ c.in_err-active-in-12.ensures.value) c.active.ensures.d_after
 
 pub returns-in_ok-active-in-12 : goal.returns-in_ok-active-in-12
 returns-in_ok-active-in-12 c = let a = c.args in
     let (n, e) = high-at a.w 12 c.wide_code-code.ensures c.in-12.is (omega arith) in
-    met-paced (codes.active (settings_of a.s.now) a.d.now a.pace.now a.t a.w c.bank.ensures.0 c.address.ensures.0 n e)
+    met-paced (codes.active (settings_of a.s.now) a.d.now a.pace.now a.t a.w c.bank.ensures c.address.ensures.0 n e)
     c.in_ok-active-in-12.ensures.value c.active.ensures.d_after
 
 pub returns-in_err-read-in-10 : goal.returns-in_err-read-in-10
 returns-in_err-read-in-10 c = let a = c.args in
     let (n, e) = high-at a.w 10 c.wide_code-code.ensures c.in-10.is (omega arith) in
-    met-paced (codes.read (settings_of a.s.now) a.d.now a.pace.now a.t a.w c.bank-in-10.ensures.0 c.ten.ensures n e)
+    met-paced (codes.read (settings_of a.s.now) a.d.now a.pace.now a.t a.w c.bank-in-10.ensures c.ten.ensures n e)
     (handed _ _ c.from_residual-in_err-read-in-10.ensures.1 ∙ c.in_err-read-in-10.ensures.value) c.read.ensures.d_after
 
 pub returns-in_ok-read-in-10 : goal.returns-in_ok-read-in-10
 returns-in_ok-read-in-10 c = let a = c.args in
     let (n, e) = high-at a.w 10 c.wide_code-code.ensures c.in-10.is (omega arith) in
-    met-paced (codes.read (settings_of a.s.now) a.d.now a.pace.now a.t a.w c.bank-in-10.ensures.0 c.ten.ensures n e)
+    met-paced (codes.read (settings_of a.s.now) a.d.now a.pace.now a.t a.w c.bank-in-10.ensures c.ten.ensures n e)
     c.in_ok-read-in-10.ensures.value c.read.ensures.d_after
 
 pub returns-in_err-write-in-2 : goal.returns-in_err-write-in-2
 returns-in_err-write-in-2 c = let a = c.args in
     let (n, e) = high-at a.w 2 c.wide_code-code.ensures c.in-2.is (omega arith) in
-    met-paced (codes.write (settings_of a.s.now) a.d.now a.pace.now a.t a.w c.bank-in-2.ensures.0 c.ten-in-2.ensures n e)
+    met-paced (codes.write (settings_of a.s.now) a.d.now a.pace.now a.t a.w c.bank-in-2.ensures c.ten-in-2.ensures n e)
     (handed _ _ c.from_residual-in_err-write-in-2.ensures.1 ∙ c.in_err-write-in-2.ensures.value) c.write.ensures.d_after
 
 pub returns-in_ok-write-in-2 : goal.returns-in_ok-write-in-2
 returns-in_ok-write-in-2 c = let a = c.args in
     let (n, e) = high-at a.w 2 c.wide_code-code.ensures c.in-2.is (omega arith) in
-    met-paced (codes.write (settings_of a.s.now) a.d.now a.pace.now a.t a.w c.bank-in-2.ensures.0 c.ten-in-2.ensures n e)
+    met-paced (codes.write (settings_of a.s.now) a.d.now a.pace.now a.t a.w c.bank-in-2.ensures c.ten-in-2.ensures n e)
     c.in_ok-write-in-2.ensures.value c.write.ensures.d_after
 
 pub returns-in_err-close_all-in-4 : goal.returns-in_err-close_all-in-4
@@ -64,13 +64,13 @@ returns-in_ok-close_all-in-4 c = let a = c.args in
 pub returns-in_err-close-in-4 : goal.returns-in_err-close-in-4
 returns-in_err-close-in-4 c = let a = c.args in
     let (n, e) = high-at a.w 4 c.wide_code-code.ensures c.in-4.is (omega arith) in
-    met-paced (codes.close (settings_of a.s.now) a.d.now a.pace.now a.t a.w c.bank-else-ten.ensures.0 n e (sym c.ten-in-4.ensures ∙ c.if-ten.false))
+    met-paced (codes.close (settings_of a.s.now) a.d.now a.pace.now a.t a.w c.bank-else-ten.ensures n e (sym c.ten-in-4.ensures ∙ c.if-ten.false))
     (handed _ _ c.from_residual-in_err-close-in-4.ensures.1 ∙ c.in_err-close-in-4.ensures.value) c.close.ensures.d_after
 
 pub returns-in_ok-close-in-4 : goal.returns-in_ok-close-in-4
 returns-in_ok-close-in-4 c = let a = c.args in
     let (n, e) = high-at a.w 4 c.wide_code-code.ensures c.in-4.is (omega arith) in
-    met-paced (codes.close (settings_of a.s.now) a.d.now a.pace.now a.t a.w c.bank-else-ten.ensures.0 n e (sym c.ten-in-4.ensures ∙ c.if-ten.false))
+    met-paced (codes.close (settings_of a.s.now) a.d.now a.pace.now a.t a.w c.bank-else-ten.ensures n e (sym c.ten-in-4.ensures ∙ c.if-ten.false))
     c.in_ok-close-in-4.ensures.value c.close.ensures.d_after
 
 pub returns-in_err-terminate-in-6 : goal.returns-in_err-terminate-in-6

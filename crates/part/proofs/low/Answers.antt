@@ -37,7 +37,7 @@ returns-in-24 c = let a = c.args in
 pub returns-in-28 : goal.returns-in-28
 returns-in-28 c = let a = c.args in
     let (l, e) = low-at a.w 12 c.requires.code_value c.in-28.is in
-    let bank = c.bank.ensures.0 in
+    let bank = c.bank.ensures in
     let address = c.address.ensures.0 in
     let high = steps.high-active (settings_of a.s.now) a.d.now a.t a.w bank address e in
     steps.met-barred (settings_of a.s.now) a.d.now a.t a.w 12 refl refl l e
@@ -46,14 +46,14 @@ returns-in-28 c = let a = c.args in
 pub returns-in-26 : goal.returns-in-26
 returns-in-26 c = let a = c.args in
     let (l, e) = low-at a.w 10 c.requires.code_value c.in-26.is in
-    let high = steps.high_read (settings_of a.s.now) a.d.now a.t a.w c.bank-in-26.ensures.0 e in
+    let high = steps.high_read (settings_of a.s.now) a.d.now a.t a.w c.bank-in-26.ensures e in
     steps.met-barred (settings_of a.s.now) a.d.now a.t a.w 10 refl refl l e
     (c.read_breaks.ensures ∙ high) c.barred-in-26.ensures
 
 pub returns-in-18 : goal.returns-in-18
 returns-in-18 c = let a = c.args in
     let (l, e) = low-at a.w 2 c.requires.code_value c.in-18.is in
-    let high = steps.high_write (settings_of a.s.now) a.d.now a.t a.w c.bank-in-18.ensures.0 e in
+    let high = steps.high_write (settings_of a.s.now) a.d.now a.t a.w c.bank-in-18.ensures e in
     steps.met-barred (settings_of a.s.now) a.d.now a.t a.w 2 refl refl l e
     (c.write_breaks.ensures ∙ high) c.barred-in-18.ensures
 
@@ -61,7 +61,7 @@ pub returns-else-ten : goal.returns-else-ten
 returns-else-ten c = let a = c.args in
     let (l, e) = low-at a.w 4 c.requires.code_value c.in-20.is in
     let one = sym c.ten.ensures ∙ c.if-ten.false in
-    let high = steps.high-close (settings_of a.s.now) a.d.now a.t a.w c.bank-in-20.ensures.0 e one in
+    let high = steps.high-close (settings_of a.s.now) a.d.now a.t a.w c.bank-in-20.ensures e one in
     steps.met-barred (settings_of a.s.now) a.d.now a.t a.w 4 refl refl l e
     (c.close_breaks.ensures ∙ high) c.barred-in-20.ensures
 

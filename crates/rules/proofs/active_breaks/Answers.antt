@@ -42,7 +42,7 @@ returns-in_err-over-2 c = let told = broke _ Precharge c.in_err-over-2.ensures i
 pub returns-in_err-others_apart : goal.returns-in_err-others_apart
 unfolding active_breaks unmet
 returns-in_err-others_apart c = let a = c.args in
-    let apart = other_bank a.d.now a.b in
+    let apart = other_bank a.d.now a.b.number in
     let told = broke (every_bank (λ i. leb (apart i) a.t)) OtherActive c.in_err-others_apart.ensures in
     handed _ _ c.from_residual-in_err-others_apart.ensures.1
     ∙ rw (
@@ -57,7 +57,7 @@ returns-in_err-others_apart c = let a = c.args in
 pub returns : goal.returns
 unfolding active_breaks unmet
 returns c = let a = c.args in
-    let apart = other_bank a.d.now a.b in
+    let apart = other_bank a.d.now a.b.number in
     let all = kept (every_bank (λ i. leb (apart i) a.t)) OtherActive c.in_ok-others_apart.ensures in
     rw (
       ← c.rows.ensures,

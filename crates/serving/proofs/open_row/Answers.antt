@@ -8,16 +8,23 @@ use Rattle.serving.proofs.Serves.{opened-idle, opened-there, opened-other}
 use Rattle.serving.proofs.open_row.Goals as goal
 
 pub returns-then-state-b-eq0 : goal.returns-then-state-b-eq0
-returns-then-state-b-eq0 c = opened-idle (settings_of c.args.scheduler.now.settings.now) c.args.b c.args.row (draft c.args.state.now c.args.words.now) c.if-state-b-eq0.true c.activate.ensures
+returns-then-state-b-eq0 c = let a = c.args in
+    opened-idle (settings_of a.scheduler.now.settings.now) a.row.bank.number a.row.number (draft a.state.now a.words.now)
+    c.if-state-b-eq0.true c.activate.ensures
 
 pub returns-then-state-b : goal.returns-then-state-b
-returns-then-state-b c = opened-there (settings_of c.args.scheduler.now.settings.now) c.args.b c.args.row (draft c.args.state.now c.args.words.now) c.if-state-b-eq0.false
-    (row-is c.args.state.now (omega arith) c.args.b c.requires.b_bound.0 ∙ c.if-state-b.true)
+returns-then-state-b c = let a = c.args in
+    let b = a.row.bank in
+    opened-there (settings_of a.scheduler.now.settings.now) b.number a.row.number (draft a.state.now a.words.now) c.if-state-b-eq0.false
+    (row-is a.state.now (omega arith) b.number b.of_four ∙ c.if-state-b.true ∙ c.from.ensures)
 
 pub activate-requires-2 : goal.activate-requires-2
-activate-requires-2 c =
-    record { b_bound = c.requires.b_bound; room = room_after c.args.state.now 1 1 c.requires.room (close-grows (settings_of c.args.scheduler.now.settings.now) c.args.b (draft c.args.state.now c.args.words.now)) _ c.close.ensures }
+activate-requires-2 c = let a = c.args in
+    let grows = close-grows (settings_of a.scheduler.now.settings.now) a.row.bank.number (draft a.state.now a.words.now) in
+    room_after a.state.now 1 1 c.requires grows _ c.close.ensures
 
 pub returns : goal.returns
-returns c = opened-other (settings_of c.args.scheduler.now.settings.now) c.args.b c.args.row (draft c.args.state.now c.args.words.now) c.if-state-b-eq0.false
-    (λ e. c.if-state-b.false (sym (row-is c.args.state.now (omega arith) c.args.b c.requires.b_bound.0) ∙ e)) c.close.ensures c.activate-2.ensures
+returns c = let a = c.args in
+    let b = a.row.bank in
+    opened-other (settings_of a.scheduler.now.settings.now) b.number a.row.number (draft a.state.now a.words.now) c.if-state-b-eq0.false
+    (λ e. c.if-state-b.false (sym (row-is a.state.now (omega arith) b.number b.of_four) ∙ e ∙ sym c.from.ensures)) c.close.ensures c.activate-2.ensures

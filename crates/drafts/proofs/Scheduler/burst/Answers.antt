@@ -8,4 +8,4 @@ pub returns : goal.returns
 returns c = let a = c.args in
     let noted = c.note.ensures in
     burst a.state.now a.words.now (omega arith) c.cycle_for-t.ensures c.give.ensures.same_events _ noted.same_deadlines noted.standing_after noted.words_after
-    (settings_of a.self.now.settings.now) a.b a.self.now.closed a.write a.pins c.burst.ensures refl c.give.ensures.deadlines_after c.give.ensures.standing_after
+    (settings_of a.self.now.settings.now) a.b.number a.self.now.closed a.write a.pins c.burst.ensures refl c.give.ensures.deadlines_after c.give.ensures.standing_after

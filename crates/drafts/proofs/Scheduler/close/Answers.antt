@@ -8,4 +8,4 @@ pub returns : goal.returns
 returns c = let a = c.args in
     let noted = c.note.ensures in
     closed a.state.now a.words.now (omega arith) c.cycle_for-t.ensures refl _ noted.same_deadlines noted.standing_after noted.words_after
-    (settings_of a.self.now.settings.now) a.b a.self.now.paced c.close.ensures c.close_pins.ensures c.close_after.ensures refl
+    (settings_of a.self.now.settings.now) a.b.number a.self.now.paced c.close.ensures c.close_pins.ensures c.close_after.ensures refl

@@ -8,12 +8,12 @@ use Rattle.drafts.proofs.Scheduler.give.Goals as goal
 
 pub returns-then-write : goal.returns-then-write
 returns-then-write c = let a = c.args in
-    let p = gave-write (settings_of a.self.now.settings.now) a.state.now.deadlines (standing a.state.now) a.t a.b a.self.now.closed a.self.now.paced
-    c.after.ensures c.pick-end.ensures c.if-write.true c.write_after.ensures in
-    record { deadlines_after = p.0; standing_after = write-end-set a.state.now (omega arith) c.pick-end.result ∙ p.1; same_events = refl }
+    let p = gave-write (settings_of a.self.now.settings.now) a.state.now.deadlines (standing a.state.now) a.t a.b.number a.self.now.closed a.self.now.paced
+    c.end_of-end.ensures c.if-write.true c.write_after.ensures in
+    record { deadlines_after = p.0; standing_after = write-end-set a.state.now (omega arith) c.end_of-end.result ∙ p.1; same_events = refl }
 
 pub returns : goal.returns
 returns c = let a = c.args in
-    let p = gave_read (settings_of a.self.now.settings.now) a.state.now.deadlines (standing a.state.now) a.t a.b a.self.now.closed a.self.now.paced
-    c.after.ensures c.pick-end.ensures c.if-write.false c.read_after.ensures in
-    record { deadlines_after = p.0; standing_after = read-end-set a.state.now (omega arith) c.pick-end.result ∙ p.1; same_events = refl }
+    let p = gave_read (settings_of a.self.now.settings.now) a.state.now.deadlines (standing a.state.now) a.t a.b.number a.self.now.closed a.self.now.paced
+    c.end_of-end.ensures c.if-write.false c.read_after.ensures in
+    record { deadlines_after = p.0; standing_after = read-end-set a.state.now (omega arith) c.end_of-end.result ∙ p.1; same_events = refl }
