@@ -57,7 +57,11 @@ module _ {t : Tally} {banks : List Bank} {before i : ℕ} (f : Few t 8000) (x : 
         long = length-set banks i told-bank ∙ x.long;
         small = omega (arith, x.small, f.each i);
         same =
-            rw (add-one i, take-suc-set banks i told-bank (omega (arith, x.long)), append_assoc (take i banks) (told-bank ∷ []) (map bank_of (records_from (before + count_at) (drop (suc i) t.counts))))
+            rw (
+              add-one i,
+              take-suc-set banks i told-bank (omega (arith, x.long)),
+              append_assoc (take i banks) (told-bank ∷ []) (map bank_of (records_from (before + count_at) (drop (suc i) t.counts))),
+            )
             (sym (ap (λ (l : List ℕ). take i banks ++ map bank_of (records_from before l)) (drop-cons t.counts i 0 (omega (arith, f.four)))) ∙ x.same);
       }
 

@@ -40,12 +40,14 @@ module _ {t : Result Told Refusal} {records first : List Bank} {n i : ℕ} (x : 
   unfolding filled_from
   fills-on small {b} e =
       let there : i < length first = omega (arith, x.long) in
+      let told : b ≡ filled_of t (bank_at (first ++ drop n records) i) i =
+      e ∙ ap (λ (c : Bank). filled_of t c i) (sym (get_or_append_left first (drop n records) no_opening i there)) in
       record {
         within = omega arith;
         long = length-set first i b ∙ x.long;
         same =
             (λ j. filled_from t (sym (set-append_left first (drop n records) i b there) j) (i + 1) (n - (i + 1)))
-            ∙ (λ j. filled_from t (set (first ++ drop n records) i ((e ∙ ap (λ (c : Bank). filled_of t c i) (sym (get_or_append_left first (drop n records) no_opening i there))) j)) (i + 1) (n - (i + 1)))
+            ∙ (λ j. filled_from t (set (first ++ drop n records) i (told j)) (i + 1) (n - (i + 1)))
             ∙ sym (ap (filled_from t (first ++ drop n records) i) (one_less n i small)) ∙ x.same;
       }
 

@@ -1,72 +1,20 @@
 -- A turn of the look ahead: as long as nothing cut the burst, the events from j on decide what it keeps.
-use Prim.Native.Nat.{ℕ, suc, ◌+◌, ◌-◌, ◌≤◌, ◌<◌, min}
+use Prim.Native.Nat.{ℕ, ◌+◌, ◌-◌, ◌≤◌, min}
 use mathlib.Core.Bool.{Bool, true, false, cond, not, ◌&&◌, ◌||◌}
 use mathlib.Core.List.{List, [], ◌∷◌}
 use mathlib.Core.Path.{◌≡◌, refl, sym, ap, ◌∙◌}
 use native.Mathlib.Omega.{arith}
 use native.Mathlib.Nat.{min-eq_left, min-le_right, le-min}
-use borrow.Author.Tests.{leb-true, leb-false, lt-ltb, le-ltb, lt-leb}
+use borrow.Author.Tests.{leb-true, leb-false}
 use lib.Dec.{leb, ltb, eqb}
 use Rattle.reading.specs.Search.{lesser}
 use Rattle.reading.specs.Mode.{h}
 use Rattle.reading.specs.Settings.{Settings, newer}
-use Rattle.reading.specs.Capture.{Event, event_at}
+use Rattle.reading.specs.Capture.{Event}
 use Rattle.reading.proofs.Laws.{lesser-first}
 use Rattle.pins.specs.Pins.{code_of, bank_of, ten_of, gives}
-use Rattle.beats.specs.Kept.{events_from, cuts_burst, kept_by, kept_ahead, cut_ahead, left_by_burst, next_leaves, row_leaves, interrupted_ahead, interruptible, kept_whole, kept_of}
+use Rattle.beats.specs.Kept.{cuts_burst, kept_by, kept_ahead, cut_ahead, left_by_burst, next_leaves, row_leaves, interrupted_ahead, interruptible, kept_whole, kept_of}
 use Rattle.beats.proofs.Columns.{half_le}
-use Rattle.beats.proofs.Events.{Fit, next-event, no-event, rise-behind}
-use Rattle.beats.proofs.Cut.{cut-once}
-
-module _ (bytes : List ℕ) (n i mode : ℕ) where
-  abbrev burst : Event
-  burst = event_at bytes i
-
-  abbrev kept : ℕ
-  kept = cut_ahead mode burst (events_from bytes n (i + 1))
-
-  abbrev left : ℕ → ℕ
-  left j = kept_ahead burst.pins burst.cycle (burst.cycle + h mode) (h mode) (events_from bytes n j)
-
-  pub record Looking (j : ℕ) : Type 0 where
-    pub behind : i < j
-    pub within : j ≤ n
-    pub same : kept ≡ left j
-
-  pub begins : i < n → Looking (i + 1)
-  begins l = record { behind = omega arith; within = omega arith; same = refl }
-
-  -- by what was read of the burst and of the event behind it
-  module _ {j b k half : ℕ} (z : Looking j) (eb : b ≡ burst.pins) (ek : k ≡ burst.cycle) (eh : half ≡ h mode)
-      {t : ℕ} (l : j < n) (et : t ≡ (event_at bytes j).cycle) where
-    pub stops : k + half ≤ t → half ≡ kept
-    unfolding kept_ahead
-    stops m = sym (z.same ∙ rw (next-event bytes n j l, ← et, ← ek, ← eh, le-ltb t (k + half) m))
-
-    module _ {pins : ℕ} (ep : pins ≡ (event_at bytes j).pins) (m : t < k + half) where
-      turn : left j ≡ kept_ahead b k (k + half) (cond (cuts_burst b pins) (lesser half (t - k)) half) (events_from bytes n (j + 1))
-      unfolding kept_ahead
-      turn =
-          let m' : t < burst.cycle + h mode = omega (arith, m, ek, eh) in
-          rw (eb, ek, eh, next-event bytes n j l, ← et, ← ep, lt-ltb t (burst.cycle + h mode) m')
-
-      pub goes_on : false ≡ cuts_burst b pins → Looking (j + 1)
-      goes_on f =
-          record {
-            behind = omega (arith, z.behind);
-            within = omega arith;
-            same = z.same ∙ turn ∙ rw (← f, eb, ek, eh);
-          }
-
-      pub cut_short : Fit bytes n → k ≤ t → true ≡ cuts_burst b pins → t - k ≡ kept
-      cut_short f g y =
-          sym
-          (z.same ∙ turn ∙ rw (← y, lt-leb half (t - k) (omega arith))
-          (cut-once b k (k + half) (t - k) (suc (event_at bytes j).cycle) (events_from bytes n (j + 1)) (omega (arith, et)) (rise-behind bytes n f j l)))
-
-  pub ends : {j half : ℕ} → Looking j → half ≡ h mode → n ≤ j → half ≡ kept
-  unfolding kept_ahead
-  ends {j} z eh l = eh ∙ sym (z.same ∙ rw (no-event bytes n j l))
 
 -- the lesser of two, as the library says it
 pub lesser_is : (a b : ℕ) → min a b ≡ lesser a b

@@ -1,27 +1,80 @@
--- The two searches behind a write that can be interrupted, a turn at a time: the events from j on decide what they find.
+-- The search behind an event, a turn at a time, and what is left of a burst by what is found.
 use Prim.Native.Nat.{ℕ, suc, ◌+◌, ◌-◌, ◌≤◌, ◌<◌}
-use mathlib.Core.Bool.{Bool, true, false, cond}
+use mathlib.Core.Bool.{Bool, true, false, cond, ◌||◌}
 use mathlib.Core.List.{List, [], ◌∷◌}
-use mathlib.Core.Path.{◌≡◌, refl, sym, ◌∙◌}
+use mathlib.Core.Option.{Option, none, some}
+use mathlib.Core.Path.{◌≡◌, refl, sym, ap, subst, ◌∙◌}
 use native.Mathlib.Nat.{le_refl}
 use native.Mathlib.Omega.{arith}
-use borrow.Author.Tests.{le-leb, leb-true}
-use lib.Dec.{leb, eqb}
+use borrow.Author.Tests.{le-leb, lt-leb, leb-true, leb-false, lt-ltb, le-ltb, ltb-true, ltb-false}
+use lib.Dec.{leb, ltb, eqb}
+use Rattle.std.specs.Prelude as std
 use Rattle.reading.specs.Search.{lesser}
+use Rattle.reading.specs.Mode.{h}
 use Rattle.reading.specs.Settings.{Settings}
 use Rattle.reading.specs.Capture.{Event, event_at}
+use Rattle.capture.specs.declared.held.Events.{Events}
 use Rattle.capture.proofs.Rising.{Rises}
 use Rattle.pins.specs.Pins.{code_of, bank_of, gives}
-use Rattle.beats.specs.Kept.{events_from, shuts_bank, takes_bank, next_leaves, row_leaves}
-use Rattle.beats.proofs.Events.{Fit, next-event, no-event, rise-behind}
+use Rattle.beats.specs.Kept.{at, behind, events_from, shuts_bank, takes_bank, cuts_burst, kept_ahead, cut_ahead, left_by_burst, next_leaves, row_leaves}
+use Rattle.beats.specs.Ahead.{found, first_ahead, ends_row}
+use Rattle.beats.proofs.Cut.{cut-once}
+use Rattle.beats.proofs.Events.{next-event, no-event, rise-behind}
 
--- what is left where no cycle has gone by
-pub none_before : (pairs t from : ℕ) → t ≤ from → 0 ≡ lesser pairs (t - from)
-none_before pairs t from l = go (leb pairs (t - from)) refl
+-- ---- a turn: what is found from event j on is what is found at all
+
+module _ (f : ℕ → Bool) (end : ℕ) (bytes : List ℕ) (n i : ℕ) where
+  abbrev sought : Option Event
+  sought = first_ahead end f (events_from bytes n (i + 1))
+
+  pub record Sought (j : ℕ) : Type 0 where
+    pub within : j ≤ n
+    pub same : sought ≡ first_ahead end f (events_from bytes n j)
+
+  pub begins : i < n → Sought (i + 1)
+  begins l = record { within = omega arith; same = refl }
+
+  module _ {j t : ℕ} (z : Sought j) (l : j < n) (et : t ≡ (event_at bytes j).cycle) where
+    pub stops : true ≡ leb end t → none ≡ sought
+    unfolding first_ahead
+    stops m = sym (z.same ∙ rw (next-event bytes n j l, le-ltb (event_at bytes j).cycle end (omega (arith, et, leb-true end t (sym m)))))
+
+    module _ {w : ℕ} (ew : w ≡ (event_at bytes j).pins) (m : false ≡ leb end t) where
+      soon : ltb (event_at bytes j).cycle end ≡ true
+      soon = lt-ltb (event_at bytes j).cycle end (omega (arith, et, leb-false end t (sym m)))
+
+      pub takes : f w ≡ true → some (record { cycle = t; pins = w }) ≡ sought
+      unfolding first_ahead
+      takes q =
+          (λ u. some (record { cycle = et u; pins = ew u }))
+          ∙ sym (z.same ∙ rw (next-event bytes n j l, soon, ap f (sym ew) ∙ q))
+
+      pub goes_on : f w ≡ false → Sought (j + 1)
+      unfolding first_ahead
+      goes_on q = record { within = omega arith; same = z.same ∙ rw (next-event bytes n j l, soon, ap f (sym ew) ∙ q) }
+
+  pub ends : {j : ℕ} → Sought j → n ≤ j → none ≡ sought
+  unfolding first_ahead
+  ends {j} z l = sym (z.same ∙ rw (no-event bytes n j l))
+
+-- where cycles rise, what is found comes no sooner
+abbrev pub Behind : ℕ → Option Event → Type 0
+Behind from none = Unit {0}
+Behind from (some e) = from ≤ e.cycle
+
+pub comes-behind : (f : ℕ → Bool) (end from : ℕ) (es : List Event) → Rises from es → Behind from (first_ahead end f es)
+unfolding first_ahead
+comes-behind f end from [] r = tt
+comes-behind f end from (e ∷ es) r = go (ltb e.cycle end) (f e.pins) (first_ahead end f es) (comes-behind f end (suc e.cycle) es r.1)
   where
-    go : (v : Bool) → leb pairs (t - from) ≡ v → 0 ≡ cond v pairs (t - from)
-    go true e = omega (arith, leb-true pairs (t - from) e)
-    go false e = omega arith
+    sooner : (o : Option Event) → Behind (suc e.cycle) o → Behind from o
+    sooner none b = tt
+    sooner (some x) b = omega (arith, b, r.0)
+
+    go : (v u : Bool) (o : Option Event) → Behind (suc e.cycle) o → Behind from (cond v (cond u (some e) o) none)
+    go false u o b = tt
+    go true true o b = r.0
+    go true false o b = sooner o b
 
 -- ---- far enough behind nothing is taken
 
@@ -52,71 +105,114 @@ module _ (s : Settings) (k pairs : ℕ) where
       go false true ih = refl
       go false false ih = ih
 
--- ---- the walks
+-- ---- what is left, by what is found
 
-module _ (s : Settings) (bytes : List ℕ) (n i pairs : ℕ) where
-  abbrev k : ℕ
-  k = (event_at bytes i).cycle
+-- of a burst that was given at k and can be cut
+abbrev pub left_of_half : ℕ → ℕ → Option Event → ℕ
+left_of_half k half none = half
+left_of_half k half (some e) = e.cycle - k
 
-  abbrev bank : ℕ
-  bank = bank_of (event_at bytes i).pins
+pub looked : (b k half from : ℕ) (es : List Event) → k ≤ from → Rises from es →
+    left_of_half k half (first_ahead (k + half) (cuts_burst b) es) ≡ kept_ahead b k (k + half) half es
+unfolding first_ahead kept_ahead
+looked b k half from [] l r = refl
+looked b k half from (e ∷ es) l r =
+    go (ltb e.cycle (k + half)) (cuts_burst b e.pins) refl (looked b k half (suc e.cycle) es (omega (arith, r.0)) r.1)
+  where
+    go : (v u : Bool) → ltb e.cycle (k + half) ≡ v →
+        left_of_half k half (first_ahead (k + half) (cuts_burst b) es) ≡ kept_ahead b k (k + half) half es →
+        left_of_half k half (cond v (cond u (some e) (first_ahead (k + half) (cuts_burst b) es)) none) ≡
+        cond v (kept_ahead b k (k + half) (cond u (lesser half (e.cycle - k)) half) es) half
+    go false u m ih = refl
+    go true false m ih = ih
+    go true true m ih =
+        sym
+        (rw (lt-leb half (e.cycle - k) (omega (arith, ltb-true e.cycle (k + half) m, r.0)))
+        (cut-once b k (k + half) (e.cycle - k) (suc e.cycle) es (omega (arith, r.0)) r.1))
 
-  abbrev pub next : ℕ → ℕ
-  next j = next_leaves s k pairs (events_from bytes n j)
+-- of a write that can be interrupted
+module _ (s : Settings) (k pairs : ℕ) where
+  abbrev pub left_of_next : Option Event → ℕ
+  left_of_next none = pairs
+  left_of_next (some e) = left_by_burst s k pairs e
 
-  abbrev pub row : ℕ → ℕ
-  row j = row_leaves s bank k pairs (events_from bytes n j)
+  abbrev pub left_of_row : ℕ → Option Event → ℕ
+  left_of_row bank none = pairs
+  left_of_row bank (some e) = cond (shuts_bank bank e.pins) (lesser pairs (e.cycle - (k + 1 + s.t_wr))) pairs
 
-  -- what is sought from i + 1 on is what is found from j on
-  pub record Sought (found : ℕ → ℕ) (j : ℕ) : Type 0 where
-    pub behind : i < j
-    pub within : j ≤ n
-    pub same : found (i + 1) ≡ found j
+  pub next-found : (end from : ℕ) (es : List Event) → end ≡ k + 1 + pairs + s.t_wtr → Rises from es →
+      left_of_next (first_ahead end gives es) ≡ next_leaves s k pairs es
+  unfolding first_ahead next_leaves
+  next-found end from [] q r = refl
+  next-found end from (e ∷ es) q r = go (ltb e.cycle end) refl (next-found end (suc e.cycle) es q r.1)
+    where
+      pick : (u : Bool) → left_of_next (first_ahead end gives es) ≡ next_leaves s k pairs es →
+          left_of_next (cond u (some e) (first_ahead end gives es)) ≡ cond u (left_by_burst s k pairs e) (next_leaves s k pairs es)
+      pick true ih = refl
+      pick false ih = ih
 
-  pub begins : (found : ℕ → ℕ) → i < n → Sought found (i + 1)
-  begins found l = record { behind = omega arith; within = omega arith; same = refl }
+      go : (v : Bool) → ltb e.cycle end ≡ v → left_of_next (first_ahead end gives es) ≡ next_leaves s k pairs es →
+          left_of_next (cond v (cond (gives e.pins) (some e) (first_ahead end gives es)) none) ≡ next_leaves s k pairs (e ∷ es)
+      go true m ih = pick (gives e.pins) ih
+      go false m ih = sym (next_past s k pairs (e ∷ es) e.cycle (omega (arith, q, ltb-false e.cycle end m)) (le_refl e.cycle, r.1))
 
-  pub goes_on : {found : ℕ → ℕ} {j : ℕ} → Sought found j → j < n → found j ≡ found (j + 1) → Sought found (j + 1)
-  goes_on z l e = record { behind = omega (arith, z.behind); within = omega arith; same = z.same ∙ e }
+  pub row-found : (bank end from : ℕ) (es : List Event) → end ≡ k + 1 + pairs + s.t_wr → Rises from es →
+      left_of_row bank (first_ahead end (ends_row bank) es) ≡ row_leaves s bank k pairs es
+  unfolding first_ahead row_leaves
+  row-found bank end from [] q r = refl
+  row-found bank end from (e ∷ es) q r = go (ltb e.cycle end) refl (row-found bank end (suc e.cycle) es q r.1)
+    where
+      pick : (v u : Bool) → shuts_bank bank e.pins ≡ v →
+          left_of_row bank (first_ahead end (ends_row bank) es) ≡ row_leaves s bank k pairs es →
+          left_of_row bank (cond (v || u) (some e) (first_ahead end (ends_row bank) es)) ≡
+          cond v (lesser pairs (e.cycle - (k + 1 + s.t_wr))) (cond u pairs (row_leaves s bank k pairs es))
+      pick true u p ih = rw p refl
+      pick false true p ih = rw p refl
+      pick false false p ih = ih
 
-  rises : Fit bytes n → (j : ℕ) → j < n → Rises (event_at bytes j).cycle (events_from bytes n j)
-  rises f j l = rw (next-event bytes n j l) (le_refl (event_at bytes j).cycle, rise-behind bytes n f j l)
+      go : (v : Bool) → ltb e.cycle end ≡ v →
+          left_of_row bank (first_ahead end (ends_row bank) es) ≡ row_leaves s bank k pairs es →
+          left_of_row bank (cond v (cond (ends_row bank e.pins) (some e) (first_ahead end (ends_row bank) es)) none) ≡
+          row_leaves s bank k pairs (e ∷ es)
+      go true m ih = pick (shuts_bank bank e.pins) (takes_bank bank e.pins) refl ih
+      go false m ih = sym (row-past s k pairs bank (e ∷ es) e.cycle (omega (arith, q, ltb-false e.cycle end m)) (le_refl e.cycle, r.1))
 
-  module _ {j : ℕ} (l : j < n) {t : ℕ} (et : t ≡ (event_at bytes j).cycle) where
-    pub next-far : Sought next j → Fit bytes n → k + 1 + pairs + s.t_wtr ≤ t → pairs ≡ next (i + 1)
-    next-far z f m =
-        sym (z.same ∙ next_past s k pairs (events_from bytes n j) (event_at bytes j).cycle (omega (arith, et)) (rises f j l))
+-- ---- the same, by what the calls say: of the search that was lent a test, and of the burst that it began behind
 
-    pub row-far : Sought row j → Fit bytes n → k + 1 + pairs + s.t_wr ≤ t → pairs ≡ row (i + 1)
-    row-far z f m =
-        sym (z.same ∙ row-past s k pairs bank (events_from bytes n j) (event_at bytes j).cycle (omega (arith, et)) (rises f j l))
+module _ (x : Events) (i : ℕ) (l : i < x.count) where
+  rises : Rises (suc (at x i).cycle) (behind x i)
+  rises = rise-behind x.bytes.now x.count x.rise i l
 
-    module _ {w : ℕ} (ew : w ≡ (event_at bytes j).pins) where
-      pub next-passes : gives w ≡ false → next j ≡ next (j + 1)
-      unfolding next_leaves
-      next-passes q = rw (next-event bytes n j l, ← ew, q)
+  pub found-behind : (f : ℕ → Bool) (end : ℕ) {o r : std.Option (ℕ × ℕ)} → found o ≡ first_ahead end f (behind x i) → o ≡ r →
+      Behind (suc (at x i).cycle) (found r)
+  found-behind f end e q =
+      subst (Behind (suc (at x i).cycle)) (sym e ∙ ap found q) (comes-behind f end (suc (at x i).cycle) (behind x i) rises)
 
-      pub next-takes : Sought next j → gives w ≡ true → lesser pairs (t - cond (eqb (code_of w) 10) (k + 1 + s.t_wtr) k) ≡ next (i + 1)
-      unfolding next_leaves
-      next-takes z q = sym (z.same ∙ rw (next-event bytes n j l, ← ew, q, ← et))
+module _ (x : Events) (i : ℕ) (l : i < x.count) {k : ℕ} (ek : k ≡ (at x i).cycle) {end : ℕ} {o : std.Option (ℕ × ℕ)} where
+  pub half-is : (mode : ℕ) {b half : ℕ} → b ≡ (at x i).pins → half ≡ h mode → end ≡ k + half →
+      found o ≡ first_ahead end (cuts_burst b) (behind x i) → {r : std.Option (ℕ × ℕ)} → o ≡ r →
+      left_of_half k half (found r) ≡ cut_ahead mode (at x i) (behind x i)
+  half-is mode {b} {half} eb eh ee e q =
+      ap (λ (v : std.Option (ℕ × ℕ)). left_of_half k half (found v)) (sym q)
+      ∙ ap (left_of_half k half) e
+      ∙ ap (λ (n : ℕ). left_of_half k half (first_ahead n (cuts_burst b) (behind x i))) ee
+      ∙ looked b k half (suc (at x i).cycle) (behind x i) (omega (arith, ek)) (rises x i l)
+      ∙ (λ u. kept_ahead (eb u) (ek u) (ek u + eh u) (eh u) (behind x i))
 
-      pub row-shut : Sought row j → shuts_bank bank w ≡ true → lesser pairs (t - (k + 1 + s.t_wr)) ≡ row (i + 1)
-      unfolding row_leaves
-      row-shut z q = sym (z.same ∙ rw (next-event bytes n j l, ← ew, q, ← et))
+  module _ (s : Settings) (pairs : ℕ) where
+    pub next-is : end ≡ k + 1 + pairs + s.t_wtr → found o ≡ first_ahead end gives (behind x i) → {r : std.Option (ℕ × ℕ)} → o ≡ r →
+        left_of_next s k pairs (found r) ≡ next_leaves s (at x i).cycle pairs (behind x i)
+    next-is ee e q =
+        ap (λ (v : std.Option (ℕ × ℕ)). left_of_next s k pairs (found v)) (sym q)
+        ∙ ap (left_of_next s k pairs) e
+        ∙ next-found s k pairs end (suc (at x i).cycle) (behind x i) ee (rises x i l)
+        ∙ ap (λ (n : ℕ). next_leaves s n pairs (behind x i)) ek
 
-      module _ (p : shuts_bank bank w ≡ false) where
-        pub row-taken : Sought row j → takes_bank bank w ≡ true → pairs ≡ row (i + 1)
-        unfolding row_leaves
-        row-taken z q = sym (z.same ∙ rw (next-event bytes n j l, ← ew, p, q))
-
-        pub row-passes : takes_bank bank w ≡ false → row j ≡ row (j + 1)
-        unfolding row_leaves
-        row-passes q = rw (next-event bytes n j l, ← ew, p, q)
-
-  pub next-ends : {j : ℕ} → Sought next j → n ≤ j → pairs ≡ next (i + 1)
-  unfolding next_leaves
-  next-ends {j} z l = sym (z.same ∙ rw (no-event bytes n j l))
-
-  pub row_ends : {j : ℕ} → Sought row j → n ≤ j → pairs ≡ row (i + 1)
-  unfolding row_leaves
-  row_ends {j} z l = sym (z.same ∙ rw (no-event bytes n j l))
+    pub row-is : {bank : ℕ} → bank ≡ bank_of (at x i).pins → end ≡ k + 1 + pairs + s.t_wr →
+        found o ≡ first_ahead end (ends_row bank) (behind x i) → {r : std.Option (ℕ × ℕ)} → o ≡ r →
+        left_of_row s k pairs bank (found r) ≡ row_leaves s (bank_of (at x i).pins) (at x i).cycle pairs (behind x i)
+    row-is {bank} eb ee e q =
+        ap (λ (v : std.Option (ℕ × ℕ)). left_of_row s k pairs bank (found v)) (sym q)
+        ∙ ap (left_of_row s k pairs bank) e
+        ∙ row-found s k pairs bank end (suc (at x i).cycle) (behind x i) ee (rises x i l)
+        ∙ (λ u. row_leaves s (eb u) (ek u) pairs (behind x i))

@@ -1,17 +1,19 @@
 -- The cells of a burst, stored one behind the other.
-use Prim.Native.Nat.{ℕ, zero, suc, ◌+◌, ◌*◌, ◌/◌, ◌≤◌, ◌<◌}
+use Prim.Native.Nat.{ℕ, zero, suc, ◌+◌, ◌-◌, ◌*◌, ◌/◌, ◌≤◌, ◌<◌}
 use mathlib.Core.Bool.{Bool}
 use mathlib.Core.List.{List, [], ◌∷◌, ◌++◌, map, map-append}
 use mathlib.Core.Path.{◌≡◌, refl, sym, ap, ◌∙◌, fun_ext}
 use native.Mathlib.Nat.{add-zero, zero-add, add-suc, suc-add, add_assoc}
 use native.Mathlib.Numerals.{add-one}
 use native.Mathlib.Omega.{arith}
-use lib.ListN.{length, set, length-map}
+use borrow.Rule.Slice.PartMut.{put_mid}
+use lib.ListN.{length, set, take, drop, length-map, length-take, length-drop}
 use lib.Seq.{sets, length-sets}
 use Rattle.reading.specs.Search.{count}
 use Rattle.reading.specs.Mode.{BL, interleaved}
 use Rattle.reading.specs.Bursts.{place, beat_column}
-use Rattle.words.proofs.Runs.{sets-append}
+use Rattle.std.proofs.lemmas.List.{append-nil}
+use Rattle.words.proofs.Runs.{sets-append, part-sets, front, none-behind}
 use Rattle.capture.proofs.Accepted.{length-count}
 use Rattle.beats.specs.Rows.{place_in, block_cells, beat_cells}
 
@@ -82,14 +84,27 @@ module _ (cell : ℕ → ℕ) where
             ∙ sets-append old at (map cell (count 0 j)) (cell j ∷ [])
             ∙ ap (sets old at) (sym (more-cells j)))
 
-    -- the two cells of a pair
-    pub pair-on : (pair : ℕ) {out : List ℕ} {next v w : ℕ} → Stored old at most out (2 * pair) next → 2 * pair + 1 < most →
-        v ≡ cell (2 * pair) → w ≡ cell (2 * pair + 1) → Stored old at most (set (set out next v) (next + 1) w) (2 * (pair + 1)) (next + 2)
-    pair-on pair {out} {next} {v} {w} b l e f =
-        let both = goes_on (goes_on b (omega arith) e) l f in
-        let beats : 2 * pair + 1 + 1 ≡ 2 * (pair + 1) = omega arith in
-        let behind : next + 1 + 1 ≡ next + 2 = omega arith in
-        rw (beats, behind) at both
-
     pub ends : {out : List ℕ} {j next : ℕ} → Stored old at most out j next → most ≤ j → out ≡ sets old at (map cell (count 0 most))
     ends {out} {j} b l = let e : j ≡ most = omega (arith, b.within) in b.holds ∙ ap (λ (k : ℕ). sets old at (map cell (count 0 k))) e
+
+  -- a part of a list, lent from `at` on
+  pub part-long : (old : List ℕ) (at most : ℕ) → at + most ≤ length old → length (take (at + most - at) (drop at old)) ≡ most
+  part-long old at most l =
+      let k : at + most - at ≡ most = omega arith in
+      ap (λ (m : ℕ). length (take m (drop at old))) k ∙ simp (length-take, length-drop) (omega arith)
+
+  -- where all the cells are stored in it, they are stored in the list
+  pub stored_within : (old : List ℕ) (at most : ℕ) → at + most ≤ length old → {part : List ℕ} {j : ℕ} →
+      Stored (take (at + most - at) (drop at old)) 0 most part j j → length (take (at + most - at) (drop at old)) ≤ j →
+      put_mid at (at + most - at) old part ≡ sets old at (map cell (count 0 most))
+  stored_within old at most l {part} {j} b e =
+      let k : at + most - at ≡ most = omega arith in
+      let long : length (take (at + most - at) (drop at old)) ≡ most = part-long old at most l in
+      let all : length (map cell (count 0 most)) ≡ most = length-map (count 0 most) cell ∙ length-count 0 most in
+      let whole : part ≡ map cell (count 0 most) =
+      ends (take (at + most - at) (drop at old)) 0 most b (omega (arith, long))
+      ∙ front (map cell (count 0 most)) (take (at + most - at) (drop at old)) (omega (arith, long, all))
+      ∙ ap (λ (xs : List ℕ). map cell (count 0 most) ++ xs)
+      (none-behind (take (at + most - at) (drop at old)) (length (map cell (count 0 most))) (omega (arith, long, all)))
+      ∙ append-nil (map cell (count 0 most)) in
+      part-sets old at (at + most - at) part (b.size ∙ long ∙ sym k) (omega (arith, k)) ∙ ap (sets old at) whole

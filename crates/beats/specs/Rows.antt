@@ -6,7 +6,8 @@ use Rattle.reading.specs.Settings.{Settings}
 use Rattle.reading.specs.Bursts.{beat_column}
 use Rattle.pins.specs.Pins.{code_of, bank_of, address_of}
 
--- the bits that a part of this kind may have
+-- the bits that a part of this kind may have. It is asked as a clause and no type has it: settings are a plain array, which every crate
+-- indexes by place, and a type round it would be taken apart at each of these
 pub record Sized (s : Settings) : Type 0 where
   pub rows : s.row_bits ≤ 14
   pub columns : s.column_bits ≤ 11

@@ -1,15 +1,16 @@
 // Bursts by arithmetic: the columns and cells of their beats, and the pairs that they keep, found by looking ahead.
 #![tactic(auto)]
 
-ghost use Rattle.std.specs.Prelude.{◌≡◌, true, false, cond, ◌+◌, ◌-◌, ◌*◌, ◌^◌, ◌%◌, ◌≤◌, ◌<◌, length, eqb};
+ghost use Rattle.std.specs.Prelude.{ℕ, Bool, ◌≡◌, true, false, cond, ◌+◌, ◌-◌, ◌*◌, ◌^◌, ◌%◌, ◌≤◌, ◌<◌, length, eqb};
 ghost use Rattle.std.proofs.lemmas.List.Edits.{sets};
 ghost use Rattle.reading.specs.Search.{lesser};
 ghost use Rattle.reading.specs.Settings.{settings_of};
 ghost use Rattle.reading.specs.Bursts.{column_of, beat_column};
 ghost use Rattle.pins.specs.Pins.{code_of, bank_of, address_of, mode_after};
 ghost use Rattle.beats.specs.Kept.{at, behind, names_bank, shuts_bank, cuts_burst, cut_ahead, next_leaves, takes_bank, row_leaves, interrupted_ahead, kept_whole};
+ghost use Rattle.beats.specs.Ahead.{found, first_ahead, ends_row};
 ghost use Rattle.beats.specs.Kept as is;
-ghost use Rattle.beats.specs.Rows.{Sized, InRow, InBlock, first_in_row, first_cells, cells_opened, block_cells, beat_cells};
+ghost use Rattle.beats.specs.Rows.{Sized, InRow, InBlock, place_in, first_in_row, first_cells, cells_opened, block_cells, beat_cells};
 
 use capture::held::Events;
 use deadlines::sums::{after2, data_after, past};
@@ -49,6 +50,13 @@ fn takes_bank(bank: usize, w: u32) -> bool
     let asked = pins::code(w);
     bank == pins::bank(w)
         && (asked == pins::ACTIVE || asked == pins::WRITE || asked == pins::READ && pins::ten(w))
+}
+
+// Any of these: the row of a write is not its own behind it.
+fn ends_row(bank: usize, w: u32) -> bool
+    ensures { result ≡ ends_row bank w }
+{
+    shuts_bank(bank, w) || takes_bank(bank, w)
 }
 
 // MODE REGISTER SET with 00 replaces the mode word at once.
@@ -116,32 +124,37 @@ pub fn open_row(s: &Settings, firsts: &mut [u32; 4], w: u32)
     firsts[bank] = first_cell(s, bank as u32, row);
 }
 
-// Writes the cells of 2 x `pairs` beats in sequential order from out[at] on; `block` is the first cell of their block.
-fn write_sequential(out: &mut [u32], at: usize, block: u32, size: u32, column: u32, pairs: u32)
-    requires in_block { InBlock block size column pairs }
-    requires pairs_in_bounds { at + 2 * pairs ≤ length out.old }
-    ensures { out.new ≡ sets out.old at (block_cells false block size column (2 * pairs)) }
+// The place of a beat in a block of some size, in either order.
+#[inline(always)]
+fn place(interleaved: bool, size: u32, column: u32, beat: u32) -> u32
+    requires size_bound { (0 < size) × (size ≤ 128) }
+    requires column_bound { (column < 2048) × (beat < 128) }
+    ensures value { result ≡ place_in interleaved size column beat }
+    ensures short { result < 128 }
 {
-    let mut from = column;
-    let mut next = at;
-    for pair in 0..pairs {
-        out[next] = block + from % size;
-        out[next + 1] = block + (from + 1) % size;
-        from += 2;
-        next += 2;
+    if interleaved {
+        return column % size ^ beat;
     }
+    (column + beat) % size
 }
 
-// The same in interleaved order.
-fn write_interleaved(out: &mut [u32], at: usize, block: u32, size: u32, column: u32, pairs: u32)
+// Writes the cells of 2 x `pairs` beats from out[at] on; `block` is the first cell of their block.
+fn write_cells(
+    out: &mut [u32],
+    at: usize,
+    block: u32,
+    interleaved: bool,
+    size: u32,
+    column: u32,
+    pairs: u32,
+)
     requires in_block { InBlock block size column pairs }
     requires pairs_in_bounds { at + 2 * pairs ≤ length out.old }
-    ensures { out.new ≡ sets out.old at (block_cells true block size column (2 * pairs)) }
+    ensures { out.new ≡ sets out.old at (block_cells interleaved block size column (2 * pairs)) }
 {
-    let mut next = at;
-    for beat in 0..2 * pairs {
-        out[next] = block + (column % size ^ beat);
-        next += 1;
+    let cells = &mut out[at..at + 2 * (pairs as usize)];
+    for (beat, cell) in cells.iter_mut().enumerate() {
+        *cell = block + place(interleaved, size, column, beat as u32);
     }
 }
 
@@ -164,11 +177,8 @@ impl Burst {
     {
         let length = mode::burst_length(self.mode);
         let block = self.first + self.column / length * length;
-        if mode::interleaved(self.mode) {
-            write_interleaved(out, at, block, length, self.column, self.pairs);
-            return;
-        }
-        write_sequential(out, at, block, length, self.column, self.pairs);
+        let interleaved = mode::interleaved(self.mode);
+        write_cells(out, at, block, interleaved, length, self.column, self.pairs);
     }
 
     // The cell of one beat.
@@ -189,16 +199,41 @@ pub fn beat_cell(first: u32, mode: u32, column: u32, beat: u32) -> u32
 {
     let length = mode::burst_length(mode);
     let block = first + column / length * length;
-    if mode::interleaved(mode) {
-        return block + (column % length ^ beat);
-    }
-    block + (column + beat) % length
+    block + place(mode::interleaved(mode), length, column, beat)
 }
 
 // ---- kept pairs
 
+// Cycle and pins of the first event behind event i, before cycle `end`, that the test names by its pins. The search
+// begins behind an event, so it goes by number.
+#[inline(always)]
+fn first_ahead<F: Fn(u32) -> bool>(
+    events: &Events<'_>,
+    i: u32,
+    end: u64,
+    test: F,
+) -> Option<(u32, u32)>
+    requires within { i < events.now.count }
+    requires each { (w : ℕ) → F.pre test w }
+    ensures { (f : ℕ → Bool) → ((w : ℕ) (r : Bool) → F.post test w r → r ≡ f w) →
+        found result ≡ first_ahead end f (behind events.now i) }
+{
+    let n = events.count;
+    'later: for j in i + 1..n {
+        let t = events.cycle(j);
+        if past(end, t) {
+            return None;
+        }
+        let w = events.pins(j);
+        if test(w) {
+            return Some((t, w));
+        }
+    }
+    None
+}
+
 // The pairs of the burst at event i, by the events that can cut it: those before k + h. Cycles rise, so the first event
-// that cuts it leaves it the fewest pairs. The walks ahead begin behind event i, so they count the index.
+// that cuts it leaves it the fewest pairs.
 fn look_ahead(events: &Events<'_>, i: u32, mode: u32) -> u32
     requires { i < events.now.count }
     ensures { result ≡ cut_ahead mode (at events.now i) (behind events.now i) }
@@ -207,17 +242,10 @@ fn look_ahead(events: &Events<'_>, i: u32, mode: u32) -> u32
     let k = events.cycle(i);
     let half = mode::half(mode);
     let end = k + half;
-    let n = events.count;
-    'later: for j in i + 1..n {
-        let t = events.cycle(j);
-        if end <= t {
-            return half;
-        }
-        if cuts_burst(burst, events.pins(j)) {
-            return t - k;
-        }
-    }
-    half
+    let Some((t, _)) = first_ahead(events, i, end as u64, |w| cuts_burst(burst, w)) else {
+        return half;
+    };
+    t - k
 }
 
 // Of some pairs those before cycle t, the first of them at `from`.
@@ -235,18 +263,10 @@ fn next_leaves(s: &Settings, events: &Events<'_>, i: u32, pairs: u32) -> u32
 {
     let k = events.cycle(i);
     let reach = data_after(k, pairs, s[T_WTR]);
-    let n = events.count;
-    'later: for j in i + 1..n {
-        let t = events.cycle(j);
-        if past(reach, t) {
-            return pairs;
-        }
-        let w = events.pins(j);
-        if pins::gives_burst(w) {
-            return left_by(s, k, pairs, t, w);
-        }
-    }
-    pairs
+    let Some((t, w)) = first_ahead(events, i, reach, |w| pins::gives_burst(w)) else {
+        return pairs;
+    };
+    left_by(s, k, pairs, t, w)
 }
 
 fn left_by(s: &Settings, k: u32, pairs: u32, t: u32, w: u32) -> u32
@@ -267,19 +287,11 @@ fn row_leaves(s: &Settings, events: &Events<'_>, i: u32, pairs: u32) -> u32
     let k = events.cycle(i);
     let bank = pins::bank(events.pins(i));
     let reach = data_after(k, pairs, s[T_WR]);
-    let n = events.count;
-    'later: for j in i + 1..n {
-        let t = events.cycle(j);
-        if past(reach, t) {
-            return pairs;
-        }
-        let w = events.pins(j);
-        if shuts_bank(bank, w) {
-            return before(pairs, t, after2(k, 1, s[T_WR]));
-        }
-        if takes_bank(bank, w) {
-            return pairs;
-        }
+    let Some((t, w)) = first_ahead(events, i, reach, |w| ends_row(bank, w)) else {
+        return pairs;
+    };
+    if shuts_bank(bank, w) {
+        return before(pairs, t, after2(k, 1, s[T_WR]));
     }
     pairs
 }

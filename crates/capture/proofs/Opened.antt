@@ -10,7 +10,7 @@ use Rattle.reading.specs.Mode.{mode_word}
 use Rattle.reading.specs.Settings.{Settings, settings_of, setting_fits}
 use Rattle.reading.specs.Capture.{count_in, events_start, event_count, edition_in, setting_words, event_bytes, event_at, events_of, cycle_fits}
 use Rattle.reading.specs.Answers.{Answer, refused, answered, accepted_to, settings_in}
-use Rattle.std.specs.Prelude.{Result, Ok, Err}
+use Rattle.std.specs.Prelude.{Result, Err}
 use Rattle.refusal.specs.declared.Refusal.{Refusal}
 use Rattle.refusal.specs.Refusal.{number_of, place_of, passed}
 use Rattle.settings.specs.Meaning.{held}
@@ -24,9 +24,6 @@ use Rattle.capture.proofs.Accepted.{Sound, count-range, held_in, accepted-sound,
 module _ {T : Type 0} (most : ℕ) (c : List ℕ) {o : Result T Refusal} (said : passed o ≡ opened_to most c) where
   pub refused-so : {A : Type 0} (rest : Answer A) {r : Refusal} → o ≡ Err r → accepted_to most c rest ≡ refused (number_of r) (place_of r)
   refused-so rest e = refused-to most c rest (sym said ∙ ap passed e)
-
-  pub accepted-so : {x : T} → o ≡ Ok x → AcceptedTo most c
-  accepted-so e = sym said ∙ ap passed e
 
 -- its settings can be read, and its events
 pub long : (most : ℕ) (c : List ℕ) → AcceptedTo most c → events_start (count_in c) ≤ length c

@@ -1,15 +1,16 @@
 -- The walks over the settings' words and over the events, a turn at a time.
 use Prim.Native.Nat.{ℕ, suc, ◌+◌, ◌-◌, ◌*◌, ◌≤◌, ◌<◌}
 use mathlib.Core.Bool.{Bool, true, false, cond, not, ◌&&◌, ◌||◌}
-use mathlib.Core.List.{List, map}
+use mathlib.Core.List.{List, ◌++◌, map}
 use mathlib.Core.Option.{none, some}
-use mathlib.Core.Path.{◌≡◌, refl, sym, ap, ◌∙◌}
+use mathlib.Core.Path.{◌≡◌, refl, sym, ap, subst, ◌∙◌}
 use native.Mathlib.Numerals.{add-one}
 use native.Mathlib.Omega.{arith}
 use borrow.Author.Tests.{ne_eqb, leb-true}
-use lib.ListN.{length, set, length-set, replicate}
+use lib.ListN.{length, set, length-set, length-take, take, drop, replicate}
 use lib.Seq.{sets}
 use lib.Dec.{leb, ltb, eqb, leb-zero}
+use Rattle.std.proofs.lemmas.List.{set-append_left, take-append-drop}
 use Rattle.reading.specs.Search.{count}
 use Rattle.reading.specs.Words.{word_at}
 use Rattle.reading.specs.Capture.{header_word, count_in, setting_words, event_at, last_cycle, event_fits, bad_event}
@@ -50,6 +51,35 @@ module _ {capture loaded : List ℕ} {i : ℕ} (s : Loading capture loaded i) wh
 
   pub all-loaded : count_in capture ≤ i → loaded ≡ padded (setting_words capture)
   all-loaded l = sym (rw (none_left (count_in capture) i l)) ∙ s.same
+
+-- the list is stored through its first n words, behind which it is as it was
+pub record LoadingFirst (capture stated : List ℕ) (n i : ℕ) : Type 0 where
+  pub many : n ≡ count_in capture
+  pub long : length stated ≡ n
+  pub on : Loading capture (stated ++ drop n (replicate 17 0)) i
+
+pub first-none : {capture : List ℕ} {n : ℕ} → n ≡ count_in capture → n ≤ 17 → LoadingFirst capture (take n (replicate 17 0)) n 0
+first-none {capture} {n} e l =
+    record {
+      many = e;
+      long = simp length-take (omega arith);
+      on = rw (take-append-drop {A = ℕ} n (replicate 17 0)) (none-loaded capture);
+    }
+
+module _ {capture stated : List ℕ} {n i : ℕ} (s : LoadingFirst capture stated n i) where
+  pub first-more : i < n → {w : ℕ} → w ≡ word_at capture (24 + 4 * i) → LoadingFirst capture (set stated i w) n (i + 1)
+  first-more l {w} e =
+      record {
+        many = s.many;
+        long = length-set stated i w ∙ s.long;
+        on =
+            subst (λ (v : List ℕ). Loading capture v (i + 1))
+            (set-append_left stated (drop n (replicate 17 0)) i w (omega (arith, s.long)))
+            (one_more s.on (omega (arith, s.many)) e);
+      }
+
+  pub all-first : n ≤ i → stated ++ drop n (replicate 17 0) ≡ padded (setting_words capture)
+  all-first l = all-loaded s.on (omega (arith, s.many))
 
 -- ---- the events: what is found from event i on is what is found at all
 

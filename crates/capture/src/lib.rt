@@ -52,6 +52,9 @@ const LAST_CYCLE: u32 = 2_000_000_000;
 
 const NEWEST_EDITION: u32 = 1;
 
+// ---- header and settings. These functions ask for 24 bytes each, and not for a type that has them: the crates above
+// call them with bytes of their own that are known to be a capture, and `bad_length` before it knows so.
+
 // Its settings have those of sleep among them.
 fn sleeping(capture: &[u8]) -> bool
     requires { 24 ≤ length capture.now }
@@ -165,8 +168,9 @@ fn setting_words(capture: &[u8]) -> Settings
 {
     let mut loaded = [0u32; HELD];
     let n = settings_count(capture) as usize;
-    for i in 0..n {
-        loaded[i] = words::word_at(capture, SETTINGS + 4 * i);
+    let stated = &mut loaded[..n];
+    for (i, word) in stated.iter_mut().enumerate() {
+        *word = words::word_at(capture, SETTINGS + 4 * i);
     }
     loaded
 }
@@ -218,7 +222,10 @@ fn event_fits(limit: u32, next: u32, cycle: u32, pins: u32) -> bool
     next <= cycle
 }
 
-// Told of a capture without a branch for each event, as most are: cycles that rise are not too large if the last is not.
+// Told of a capture without a branch for each event, as most are: cycles that rise are not too large if the last is
+// not. Event 0 is looked at before the walk, which then goes by number: events are read by theirs, `cycle_at` and
+// `pins_at`. Bytes and count come apart, here and below: `Events`, which has both, says that all of them fit, and
+// that is what is found out.
 fn all_fit(limit: u32, bytes: &[u8], n: usize) -> bool
     requires { 8 * n ≤ length bytes.now }
     ensures { result ≡ true → bad_event limit bytes.now n ≡ none }
@@ -237,6 +244,7 @@ fn all_fit(limit: u32, bytes: &[u8], n: usize) -> bool
     both(fine, last <= LAST_CYCLE)
 }
 
+// The walk asks for the events' numbers: one of them is the place of the refusal.
 fn lowest_bad_event(limit: u32, bytes: &[u8], n: usize) -> Option<u32>
     requires { (n < 2 ^ 32) × (8 * n ≤ length bytes.now) }
     ensures { place_of result ≡ bad_event limit bytes.now n }

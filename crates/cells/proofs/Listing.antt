@@ -6,7 +6,7 @@ use mathlib.Core.Path.{◌≡◌, sym, ap, ◌∙◌, subst}
 use lib.ListN.{length}
 use lib.Seq.{sets}
 use Rattle.reading.specs.Settings.{Settings, settings_of}
-use Rattle.reading.specs.Capture.{most_events, event_count}
+use Rattle.reading.specs.Capture.{most_events}
 use Rattle.reading.specs.Verdict as is
 use Rattle.reading.specs.Verdict.{verdict_of}
 use Rattle.reading.specs.Answers.{Answer, refused, answered, unless, leaves, fitting, Report, not_clean, verdict_in, judge_answer, judge_answer_to, cells_in, cells_outcome}
@@ -85,10 +85,6 @@ module _ (c : List ℕ) where
     pub judged-verdict : verdict_in c ≡ r.verdict
     unfolding judge_answer_to report_in
     judged-verdict = ap (λ (x : Answer Report). (report_in r x).verdict) (answered-in most_events c _ (sym said)).1
-
-    pub judged-events : event_count c ≡ r.events
-    unfolding judge_answer_to report_in
-    judged-events = ap (λ (x : Answer Report). (report_in r x).events) (answered-in most_events c _ (sym said)).1
 
 module _ {c settings : List ℕ} {n : ℕ} {bytes : List ℕ} (x : Opened most_events c settings n bytes) where
   pub listable : Listable settings bytes n

@@ -1,5 +1,5 @@
 -- One event's step: what the code found makes what an event gives, and what was given tells of the event.
-use Prim.Native.Nat.{ℕ, ◌+◌, ◌≤◌}
+use Prim.Native.Nat.{ℕ, ◌+◌, ◌≤◌, ◌<◌}
 use mathlib.Core.Bool.{Bool, true, false, cond}
 use mathlib.Core.List.{List}
 use mathlib.Core.Option.{none, some}
@@ -19,7 +19,10 @@ use Rattle.beats.specs.Kept.{events_from, kept_of}
 use Rattle.beats.specs.Rows.{Sized, InRow, first_in_row}
 use Rattle.cells.specs.Meaning as meaning
 use Rattle.cells.specs.Meaning.{given_means, told_by, given_by, At}
+use Rattle.cells.specs.Telling.{judged_by, given, Before}
+use Rattle.cells.specs.declared.held.Clean.{Clean}
 use Rattle.cells.proofs.Rows.{first-at, row_at}
+use Rattle.cells.proofs.Walked.{given_is}
 
 module _ (s : Settings) (bytes : List ℕ) (n i : ℕ) (firsts : List ℕ) (mode : ℕ) where
   abbrev w : ℕ
@@ -91,3 +94,19 @@ module _ (s : Settings) (bytes : List ℕ) (n i : ℕ) (firsts : List ℕ) (mode
         go : (v : Bool) → none ≡ cond v (some there) none → v ≡ false
         go true q = let z : ◌≡◌ {A = ℕ} 0 1 = cc in absurd (omega arith)
         go false q = refl
+
+-- by what `step` says of an event of a clean capture, where first cells and mode word are those before it
+module _ (x : Clean) {i : ℕ} (l : i < x.opened.events.count) {firsts : List ℕ} {mode : ℕ} (a : Before x i firsts mode) where
+  by-given : (r : std.Option Burst) → given_means r ≡ given x i →
+      given_means r ≡ given_by (judged_by x) x.opened.events.bytes.now x.opened.events.count i firsts mode
+  by-given r step =
+      step ∙ sym (given_is x.opened.settings x.opened.events.bytes.now x.opened.events.count x.listable x.clean i l a)
+
+  pub step-told : {r : std.Option Burst} → given_means r ≡ given x i → {y : Burst} → r ≡ Some y →
+      Is (judged_by x) x.opened.events.bytes.now x.opened.events.count i firsts mode y
+  step-told {r} step e =
+      told (judged_by x) x.opened.events.bytes.now x.opened.events.count i firsts mode (by-given r step) e
+
+  pub step-none : {r : std.Option Burst} → given_means r ≡ given x i → r ≡ None → gives (event_at x.opened.events.bytes.now i).pins ≡ false
+  step-none {r} step e =
+      told-other (judged_by x) x.opened.events.bytes.now x.opened.events.count i firsts mode (by-given r step) e

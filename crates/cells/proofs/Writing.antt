@@ -48,10 +48,14 @@ module _ (settings bytes : List ℕ) (n : ℕ) (old : List ℕ) where
         total = all-cells settings bytes n z k;
       }
 
+  pub stands_at : {out firsts : List ℕ} {mode next i : ℕ} → Written out firsts mode next i → At s bytes i firsts mode
+  stands_at b = record { rowed = b.rowed; moded = b.on.moded }
+
   pub size : {out firsts : List ℕ} {mode next i : ℕ} → Written out firsts mode next i → length out ≡ length old
   size b = ap length b.holds ∙ length-sets old 0 b.done
 
-  module _ {out firsts : List ℕ} {mode next i : ℕ} (b : Written out firsts mode next i) (l : i < n) {pairs : ℕ} (ep : pairs ≡ kept_of s mode (event_at bytes i) (events_from bytes n (i + 1))) where
+  module _ {out firsts : List ℕ} {mode next i : ℕ} (b : Written out firsts mode next i) (l : i < n)
+      {pairs : ℕ} (ep : pairs ≡ kept_of s mode (event_at bytes i) (events_from bytes n (i + 1))) where
     abbrev e : Event
     e = event_at bytes i
 

@@ -49,14 +49,15 @@ told_by s bytes n i firsts mode =
 unfoldable pub given_by : Settings → List ℕ → ℕ → ℕ → List ℕ → ℕ → Option Burst
 given_by s bytes n i firsts mode = cond (gives (event_at bytes i).pins) (some (told_by s bytes n i firsts mode)) none
 
--- n events fit, and so do the settings
+-- n events fit, and so do the settings. A clause of what is done before a capture is known to be clean; `Clean` has it behind that
 pub record Listable (settings bytes : List ℕ) (n : ℕ) : Type 0 where
   pub few : n ≤ most_events
   pub fit : Fit settings bytes n
   pub sized : Sized (settings_of settings)
   pub moded : mode_word (settings_of settings).mode ≡ true
 
--- if event i gives a burst, that keeps a pair at least
+-- if event i gives a burst, that keeps a pair at least. It is asked for one event and its mode word, of which a type would have to be made
+-- for each event
 abbrev pub KeepsPair : Settings → List ℕ → ℕ → ℕ → ℕ → Type 0
 KeepsPair s bytes n i mode = gives (event_at bytes i).pins ≡ true → 1 ≤ kept_of s mode (event_at bytes i) (events_from bytes n (i + 1))
 

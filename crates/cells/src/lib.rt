@@ -65,6 +65,7 @@ pub fn passed(s: &Settings, bytes: &[u8], i: u32, state: &mut State)
     state.mode = beats::mode_after(state.mode, word);
 }
 
+// Walks over its events go by number: whoever asks for a burst looks ahead from its event.
 impl<'a> Clean<'a> {
     // That of a capture that was judged clean.
     pub fn judged(capture: &'a [u8]) -> Clean<'a>

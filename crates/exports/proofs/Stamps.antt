@@ -1,5 +1,5 @@
 -- Stamps and the cycles that they count.
-use Rattle.std.proofs.Common.{◌≡◌, ℕ, zero, suc, ◌+◌, ◌-◌, ◌/◌, ◌%◌, ◌^◌, ◌<◌, ◌≤◌, Bool, true, false, not, eqb, List, length, sym, refl, ap, ◌∙◌, arith, le-ltb, lt-ltb, eq-eqb, ne_eqb, eqb-true}
+use Rattle.std.proofs.Common.{◌≡◌, ℕ, zero, suc, ◌+◌, ◌/◌, ◌%◌, ◌^◌, ◌<◌, ◌≤◌, Bool, true, false, not, eqb, List, length, sym, refl, ap, arith, le-ltb, lt-ltb, eq-eqb, ne_eqb, eqb-true}
 use mathlib.Core.Option.{some}
 use borrow.Author.Tests.{eqb-false}
 use Rattle.reading.specs.Search.{lowest}
@@ -13,16 +13,6 @@ apart_none a b k l = go (eqb a b) refl
     go : (v : Bool) → eqb a b ≡ v → eqb (apart b a) 0 ≡ v
     go true e = eq-eqb (apart b a) 0 (omega (arith, eqb-true a b e))
     go false e = ne_eqb (apart b a) 0 (λ z. eqb-false a b e (omega arith))
-
--- the first moves; another does where its stamp is not that of the record before
-pub first-moves : (records : List ℕ) {i : ℕ} → i ≡ 0 → true ≡ not (stands records i)
-first-moves records e = rw e
-
-pub moves-is : (records : List ℕ) (i : ℕ) → 0 < i → {a b : ℕ} → a < 2 ^ 16 → b < 2 ^ 16 → a ≡ stamp_at records i → b ≡ stamp_at records (i - 1) →
-    not (eqb a b) ≡ not (stands records i)
-moves-is records i l {a} {b} k m e f =
-    ap not (sym (apart_none a b k m) ∙ (λ j. eqb (apart (f j) (e j)) 0))
-    ∙ sym (rw (ne_eqb i 0 (omega arith)))
 
 -- refusal 11
 module _ (records : List ℕ) where

@@ -44,37 +44,47 @@ const NOP: u32 = 0xE_0000;
 
 // ---- from an export to a capture
 
-fn stamp_at(records: &[u8], i: usize) -> u16
-    requires { 6 * i + 6 ≤ length records.now }
-    ensures { result ≡ stamp_at records.now i }
-{
-    words::half_at(records, RECORD * i)
+// The bytes of an export, and how many records it has.
+#[derive(Clone, Copy)]
+struct Export<'a> {
+    bytes: &'a [u8],
+    count: usize,
+    ghost held: { 6 * count ≤ length bytes.now },
 }
 
-fn record_pins(records: &[u8], i: usize) -> u32
-    requires { 6 * i + 6 ≤ length records.now }
-    ensures { result ≡ record_pins records.now i }
-{
-    words::word_at(records, RECORD * i + STAMP)
-}
-
-// Its stamp is that of the record before.
-fn stands(records: &[u8], i: usize) -> bool
-    requires { 6 * i + 6 ≤ length records.now }
-    ensures { result ≡ stands records.now i }
-{
-    if i == 0 {
-        return false;
+impl<'a> Export<'a> {
+    fn stamp(&self, i: usize) -> u16
+        requires { i < self.now.count }
+        ensures { result ≡ stamp_at self.now.bytes.now i }
+    {
+        words::half_at(self.bytes, RECORD * i)
     }
-    stamp_at(records, i) == stamp_at(records, i - 1)
-}
 
-// Its pins are none that there are.
-fn too_high(records: &[u8], i: usize) -> bool
-    requires { 6 * i + 6 ≤ length records.now }
-    ensures { result ≡ too_high records.now i }
-{
-    PINS <= record_pins(records, i)
+    fn pins(&self, i: usize) -> u32
+        requires { i < self.now.count }
+        ensures { result ≡ record_pins self.now.bytes.now i }
+    {
+        words::word_at(self.bytes, RECORD * i + STAMP)
+    }
+
+    // Its stamp is that of the record before.
+    fn stands(&self, i: usize) -> bool
+        requires { i < self.now.count }
+        ensures { result ≡ stands self.now.bytes.now i }
+    {
+        if i == 0 {
+            return false;
+        }
+        self.stamp(i) == self.stamp(i - 1)
+    }
+
+    // Its pins are none that there are.
+    fn too_high(&self, i: usize) -> bool
+        requires { i < self.now.count }
+        ensures { result ≡ too_high self.now.bytes.now i }
+    {
+        PINS <= self.pins(i)
+    }
 }
 
 // The lowest of n records that a test names, by its number.
@@ -102,7 +112,11 @@ fn bad_export(records: &[u8]) -> Option<u32>
     if MOST_RECORDS < n {
         return Some(TOO_MANY);
     }
-    lowest(n, |i| stands(records, i))
+    let held = Export {
+        bytes: records,
+        count: n,
+    };
+    lowest(n, |i| held.stands(i))
 }
 
 // The cycle of a record, from that of the record before and both stamps.
@@ -122,38 +136,40 @@ fn put_event(out: &mut [u8], at: usize, cycle: u32, pins: u32)
     words::put_word(out, at + 4, pins);
 }
 
-// Stores n records as events behind the front of a capture. The walk asks for their numbers: by them it reads and stores.
-fn put_events(records: &[u8], n: usize, out: &mut [u8])
-    requires { Readable records.now n out.old }
-    ensures { out.new ≡ sets out.old 80 (records_in records.now n) }
+// Stores records as events behind the front of a capture. The walk asks for their numbers: by them it reads and
+// stores.
+fn put_events(records: &Export<'_>, out: &mut [u8])
+    requires { Readable records.now.bytes.now records.now.count out.old }
+    ensures { out.new ≡ sets out.old 80 (records_in records.now.bytes.now records.now.count) }
 {
     let mut cycle = 0u32;
     let mut before = 0u16;
-    'records: for i in 0..n {
-        let stamp = stamp_at(records, i);
+    'records: for i in 0..records.count {
+        let stamp = records.stamp(i);
         cycle = next_cycle(cycle, before, stamp);
         before = stamp;
-        put_event(out, capture::EVENTS + 8 * i, cycle, record_pins(records, i));
+        put_event(out, capture::EVENTS + 8 * i, cycle, records.pins(i));
     }
 }
-// The capture of n records, if the buffer holds it.
+
+// Their capture, if the buffer holds it.
 fn fill(
-    records: &[u8],
+    records: &Export<'_>,
     settings: &[u32],
     edition: u32,
-    n: u32,
     out: &mut [u8],
 ) -> Result<u32, Refusal>
-    requires { Fillable records.now settings.now n }
-    ensures value { result ≡ filled out.old n }
-    ensures out_after { out.new ≡ filling records.now settings.now edition n out.old }
+    requires { Fillable records.now.bytes.now settings.now records.now.count }
+    ensures value { result ≡ filled out.old records.now.count }
+    ensures out_after { out.new ≡ filling records.now.bytes.now settings.now edition records.now.count out.old }
 {
+    let n = records.count as u32;
     let bytes = front::size(n);
     if out.len() < bytes as usize {
         return Err(Refusal::Room(bytes));
     }
     front::put(settings, edition, n, out);
-    put_events(records, n as usize, out);
+    put_events(records, out);
     Ok(bytes)
 }
 
@@ -170,10 +186,14 @@ pub fn read(records: &[u8], settings: &[u32], edition: u32, out: &mut [u8]) -> R
         return Err(Refusal::Export(place));
     }
     let n = records.len() / RECORD;
-    if let Some(place) = lowest(n, |i| too_high(records, i)) {
+    let held = Export {
+        bytes: records,
+        count: n,
+    };
+    if let Some(place) = lowest(n, |i| held.too_high(i)) {
         return Err(Refusal::Event(place));
     }
-    fill(records, settings, edition, n as u32, out)
+    fill(&held, settings, edition, out)
 }
 
 // ---- from a capture to an export
@@ -242,7 +262,7 @@ fn put_nops(out: &mut [u8], at: usize, last: u32, k: u32)
     }
 }
 
-// Stores the records of the events.
+// Stores the records of the events, which `Events` hands out by number.
 fn put_export(events: &Events, out: &mut [u8])
     requires { Writable events.now.bytes.now events.now.count out.old }
     ensures { out.new ≡ sets out.old 0 (export_of (bridged (events_in events.now.bytes.now events.now.count))) }

@@ -5,8 +5,8 @@ use mathlib.Core.Path.{◌≡◌, refl, sym, ap, ◌∙◌}
 use native.Mathlib.Nat.{sub-zero, add-zero}
 use native.Mathlib.Numerals.{add-one}
 use native.Mathlib.Omega.{arith}
-use lib.ListN.{length, set, get_or, take, drop, length-set, length-take}
-use lib.Seq.{sets, length-sets, drop-cons, get_or-take}
+use lib.ListN.{length, set, get_or, drop, length-set}
+use lib.Seq.{sets, length-sets, drop-cons}
 use Rattle.reading.specs.Words.{word_bytes, bytes_of}
 use Rattle.reading.specs.Settings.{Settings}
 use Rattle.reading.specs.Capture.{event_at}
@@ -16,32 +16,27 @@ use Rattle.words.proofs.Runs.{sets-append, none-behind}
 use Rattle.words.proofs.Search.{one_less, none_left}
 use Rattle.hidden.specs.Meaning.{blanked_from, blanked_events}
 
--- ---- events, blanked
+-- ---- what stands before them
 
-pub record Copying (capture : List ℕ) (n : ℕ) (out₀ out : List ℕ) (i : ℕ) : Type 0 where
-  pub within : i ≤ n
+pub record Copying (front out₀ out : List ℕ) (i : ℕ) : Type 0 where
+  pub within : i ≤ length front
   pub long : length out ≡ length out₀
-  pub same : sets out i (drop i (take n capture)) ≡ sets out₀ 0 (take n capture)
+  pub same : sets out i (drop i front) ≡ sets out₀ 0 front
 
-pub copies-none : (capture : List ℕ) (n : ℕ) (out : List ℕ) → Copying capture n out out 0
-copies-none capture n out = record { within = omega arith; long = refl; same = refl }
+pub copies-none : (front out : List ℕ) → Copying front out out 0
+copies-none front out = record { within = omega arith; long = refl; same = refl }
 
-module _ {capture out₀ out : List ℕ} {n i : ℕ} (x : Copying capture n out₀ out i) (l : n ≤ length capture) where
-  part_length : length (take n capture) ≡ n
-  part_length = simp length-take (omega arith)
-
-  pub copies-on : i < n → Copying capture n out₀ (set out i (get_or capture i 0)) (i + 1)
+module _ {front out₀ out : List ℕ} {i : ℕ} (x : Copying front out₀ out i) where
+  pub copies-on : i < length front → Copying front out₀ (set out i (get_or front i 0)) (i + 1)
   copies-on m =
       record {
         within = omega arith;
-        long = length-set out i (get_or capture i 0) ∙ x.long;
-        same =
-            rw (add-one i, ← get_or-take n capture i 0 m)
-            (sym (ap (sets out i) (drop-cons (take n capture) i 0 (omega (arith, part_length)))) ∙ x.same);
+        long = length-set out i (get_or front i 0) ∙ x.long;
+        same = rw (add-one i) (sym (ap (sets out i) (drop-cons front i 0 m)) ∙ x.same);
       }
 
-  pub copied : n ≤ i → out ≡ sets out₀ 0 (take n capture)
-  copied m = sym (ap (sets out i) (none-behind (take n capture) i (omega (arith, part_length)))) ∙ x.same
+  pub copied : length front ≤ i → out ≡ sets out₀ 0 front
+  copied m = sym (ap (sets out i) (none-behind front i m)) ∙ x.same
 
 -- ---- events, blanked
 

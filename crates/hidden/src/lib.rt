@@ -1,7 +1,7 @@
 // A capture with its addresses blanked, written into a lent buffer.
 #![tactic(auto)]
 
-ghost use Rattle.std.specs.Prelude.{◌≡◌, ◌≤◌, ◌<◌, ◌++◌, length, take, drop};
+ghost use Rattle.std.specs.Prelude.{◌≡◌, ◌≤◌, ◌<◌, ◌++◌, length, drop};
 ghost use Rattle.std.proofs.lemmas.List.Edits.{sets};
 ghost use Rattle.reading.specs.Settings.{settings_of};
 ghost use Rattle.reading.specs.Blank.{names_row, blank_pins, blank_outcome};
@@ -37,14 +37,14 @@ fn blank_pins(s: &Settings, w: u32) -> u32
     w
 }
 
-// The first n bytes as they stand. By number: a copy of the whole would want a function of the C library, of which the archive
-// wants none that moves bytes.
-fn copy(capture: &[u8], n: usize, out: &mut [u8])
-    requires { (n ≤ length capture.now) × (n ≤ length out.old) }
-    ensures { out.new ≡ sets out.old 0 (take n capture.now) }
+// What stands before the events, as it stands. By number: a copy of the whole would want a function of the C library,
+// of which the archive wants none that moves bytes.
+fn copy(front: &[u8], out: &mut [u8])
+    requires { length front.now ≤ length out.old }
+    ensures { out.new ≡ sets out.old 0 front.now }
 {
-    for i in 0..n {
-        out[i] = capture[i];
+    for i in 0..front.len() {
+        out[i] = front[i];
     }
 }
 
@@ -72,7 +72,7 @@ pub fn blank(capture: &[u8], out: &mut [u8]) -> Result<u32, Refusal>
         return Err(Refusal::Room(size));
     }
     let start = capture::events_start(capture) as usize;
-    copy(capture, start, out);
+    copy(&capture[..start], out);
     write_events(&opened.settings, &opened.events, out, start);
     Ok(size)
 }

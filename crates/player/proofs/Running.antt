@@ -24,7 +24,7 @@ use Rattle.beats.proofs.Columns.{length-pos}
 use Rattle.cells.specs.Meaning.{burst_at, bursts_on, At, Listable, Clean}
 use Rattle.cells.proofs.Walked.{rest, rest-begins, rest-ends}
 use Rattle.player.specs.Playing.{cell_of, cells_of, lanes_by, stored_from, shown_at, words_read}
-use Rattle.player.proofs.Given.{Found, next-none, there, next-some, cells_are, kept-are, next-at}
+use Rattle.player.proofs.Given.{Found, next-none, there, next-some, cells_are, kept-are}
 use Rattle.player.proofs.Window.{shows, length-counted, stored-shows, window-shows, data-length, some-data, shown-loads}
 
 -- the first burst can be played, and so can the others
@@ -211,11 +211,11 @@ module _ (settings bytes : List ℕ) (n first : ℕ) (window₀ writes reads₀ 
 
             pub stores-on : {window' : List ℕ} {length : ℕ} → length ≡ BL y.mode →
                 window' ≡ stored_from (lanes_by lane) first (cell_of y) (λ j. datum_at writes (taken + j)) (2 * y.pairs) 0 window →
-                Ran window' reads firsts mode (taken + length) next (i + 1)
-            stores-on {length = length} q c =
+                {firsts' : List ℕ} {mode' : ℕ} → At s bytes (i + 1) firsts' mode' → Ran window' reads firsts' mode' (taken + length) next (i + 1)
+            stores-on {length = length} q c a =
                 let further : supply - taken - takes x ≡ supply - (taken + length) = omega (arith, taking, q) in
                 record {
-                  at = next-at settings bytes n i z k l f b.at;
+                  at = a;
                   within = omega arith;
                   run = wrote;
                   same = ap (replay_bursts s xs) (sym (played w)) ∙ from-here;
@@ -258,11 +258,11 @@ module _ (settings bytes : List ℕ) (n first : ℕ) (window₀ writes reads₀ 
 
             pub reads_on : {reads' : List ℕ} →
                 reads' ≡ sets reads next (map (λ j. shown_at lane first window (cell_of y j)) (count 0 (2 * y.pairs))) →
-                Ran window reads' firsts mode taken (next + 2 * y.pairs) (i + 1)
-            reads_on c =
+                {firsts' : List ℕ} {mode' : ℕ} → At s bytes (i + 1) firsts' mode' → Ran window reads' firsts' mode' taken (next + 2 * y.pairs) (i + 1)
+            reads_on c a =
                 let nothing : supply - taken - takes x ≡ supply - taken = omega (arith, none-taken) in
                 record {
-                  at = next-at settings bytes n i z k l f b.at;
+                  at = a;
                   within = omega arith;
                   run = read;
                   same = ap (replay_bursts s xs) (sym (played w)) ∙ from-here;

@@ -21,7 +21,7 @@ use Rattle.beats.specs.declared.Burst as held
 use Rattle.cells.specs.Meaning.{burst_at, bursts_on, At, Listable, Clean}
 use Rattle.cells.proofs.Walked.{rest, rest-begins, rest-ends}
 use Rattle.player.specs.Playing.{cells_of, words_read, tried}
-use Rattle.player.proofs.Given.{Found, next-none, next-some, event-is, kept-are, next-at}
+use Rattle.player.proofs.Given.{Found, next-none, next-some, event-is, kept-are}
 
 -- ---- one burst
 
@@ -110,8 +110,9 @@ module _ (settings bytes : List ℕ) (n first size supply : ℕ) where
           pub outside : v ≡ false → refused 15 i ≡ whole
           outside e = stops (playable-so s es first size left read x xs (inside ∙ e) refl)
 
-          pub reads_on : v ≡ true → y.writes ≡ false → {beats : ℕ} → beats ≡ 2 * y.pairs → Trying firsts mode left (read + beats) (i + 1)
-          reads_on e w {beats} c =
+          pub reads_on : v ≡ true → y.writes ≡ false → {beats : ℕ} → beats ≡ 2 * y.pairs → {firsts' : List ℕ} {mode' : ℕ} →
+              At s bytes (i + 1) firsts' mode' → Trying firsts' mode' left (read + beats) (i + 1)
+          reads_on e w {beats} c a =
               let kind : x.writes ≡ false = sym f.kind ∙ w in
               let none-taken = takes-so s es first size left read x xs kind in
               let can = playable-so s es first size left read x xs (inside ∙ e) (ap (λ (t : ℕ). leb t left) none-taken ∙ le-leb 0 left (omega arith)) in
@@ -119,7 +120,7 @@ module _ (settings bytes : List ℕ) (n first size supply : ℕ) where
               let beats-are : beats ≡ more s es first size left read x xs =
               c ∙ ap (λ (p : ℕ). 2 * p) f.pairs_is ∙ sym (more-so s es first size left read x xs kind) in
               record {
-                at = next-at settings bytes n i z k l f b.at;
+                at = a;
                 within = omega arith;
                 small = omega (arith, b.small, c, y.in_row.short);
                 same = (λ u. tried s es first size (lefts u) (read + beats-are u) xs) ∙ sym (tried-on s es first size left read x xs can) ∙ from-here;
@@ -135,13 +136,14 @@ module _ (settings bytes : List ℕ) (n first size supply : ℕ) where
             pub lacks : v ≡ true → left < length → refused 15 i ≡ whole
             lacks e m = stops (playable-so s es first size left read x xs (inside ∙ e) (ap (λ (t : ℕ). leb t left) all-taken ∙ lt-leb length left m))
 
-            pub takes-on : v ≡ true → length ≤ left → Trying firsts mode (left - length) read (i + 1)
-            takes-on e m =
+            pub takes-on : v ≡ true → length ≤ left → {firsts' : List ℕ} {mode' : ℕ} → At s bytes (i + 1) firsts' mode' →
+                Trying firsts' mode' (left - length) read (i + 1)
+            takes-on e m a =
                 let can = playable-so s es first size left read x xs (inside ∙ e) (ap (λ (t : ℕ). leb t left) all-taken ∙ le-leb length left m) in
                 let none_read : read ≡ read + more s es first size left read x xs =
                 sym (ap (λ (t : ℕ). read + t) (more-so s es first size left read x xs kind) ∙ add-zero read) in
                 record {
-                  at = next-at settings bytes n i z k l f b.at;
+                  at = a;
                   within = omega arith;
                   small = omega (arith, b.small);
                   same =

@@ -2,7 +2,7 @@
 // what these promise, and no rule, step or deadline.
 #![tactic(auto)]
 
-ghost use Rattle.std.specs.Prelude.{◌≡◌, true, map, ◌+◌, ◌*◌, ◌%◌, ◌^◌, ◌≤◌, length};
+ghost use Rattle.std.specs.Prelude.{◌≡◌, true, map, ◌+◌, ◌*◌, ◌%◌, ◌^◌, ◌≤◌, ◌<◌, length};
 ghost use Rattle.std.proofs.Math.Option.{none};
 ghost use Rattle.std.proofs.lemmas.List.Edits.{sets};
 ghost use Rattle.reading.specs.Search.{count, every};
@@ -12,11 +12,12 @@ ghost use Rattle.reading.specs.Player.{window_fits, in_window, datum_at, data_of
 ghost use Rattle.refusal.specs.Refusal.{told};
 ghost use Rattle.judge.specs.Meaning.{events_in};
 ghost use Rattle.beats.specs.Rows.{Sized, beat_cells};
-ghost use Rattle.cells.specs.Telling.{judged_by, bursts};
+ghost use Rattle.cells.specs.Meaning.{given_means};
+ghost use Rattle.cells.specs.Telling.{judged_by, bursts, given, Before};
 ghost use Rattle.player.specs.Playing.{datum, laned, lanes_by, cell_of, cells_of, stored_from, shown_at, words_read, Coded, tried};
 
 use beats::Burst;
-use cells::held::Clean;
+use cells::held::{Clean, State};
 use judge::Verdict;
 use refusal::Refusal;
 use settings::places::LANE;
@@ -27,52 +28,26 @@ const MOST_WINDOW: usize = 16_384;
 
 // ---- words and their lanes: a lane of the new word where its mask bit is 0
 
-fn lane_0(old: u32, word: u32, mask: u32) -> u32
-    ensures { result ≡ laned 0 old word mask }
+fn lane<const K: u32>(old: u32, word: u32, mask: u32) -> u32
+    requires { K < 4 }
+    ensures { result ≡ laned K old word mask }
 {
-    if mask % 2 != 0 {
+    if mask / (1 << K) % 2 != 0 {
         return old;
     }
-    old / 256 * 256 + word % 256
-}
-
-fn lane_1(old: u32, word: u32, mask: u32) -> u32
-    ensures { result ≡ laned 1 old word mask }
-{
-    if mask / 2 % 2 != 0 {
-        return old;
-    }
-    old / 65536 * 65536 + word / 256 % 256 * 256 + old % 256
-}
-
-fn lane_2(old: u32, word: u32, mask: u32) -> u32
-    ensures { result ≡ laned 2 old word mask }
-{
-    if mask / 4 % 2 != 0 {
-        return old;
-    }
-    old / 16_777_216 * 16_777_216 + word / 65536 % 256 * 65536 + old % 65536
-}
-
-// There is nothing above lane 3.
-fn lane_3(old: u32, word: u32, mask: u32) -> u32
-    ensures { result ≡ laned 3 old word mask }
-{
-    if mask / 8 % 2 != 0 {
-        return old;
-    }
-    word / 16_777_216 * 16_777_216 + old % 16_777_216
+    let unit = 1 << (8 * K);
+    (old / unit / 256 * 256 + word / unit % 256) * unit + old % unit
 }
 
 // The lanes that the lane code has; above them a word stays.
-fn merge(lane: u32, old: u32, word: u32, mask: u32) -> u32
-    ensures { result ≡ merged (lanes_by lane) (datum word mask) old }
+fn merge(code: u32, old: u32, word: u32, mask: u32) -> u32
+    ensures { result ≡ merged (lanes_by code) (datum word mask) old }
 {
-    let low = lane_1(lane_0(old, word, mask), word, mask);
-    if lane == 1 {
+    let low = lane::<1>(lane::<0>(old, word, mask), word, mask);
+    if code == 1 {
         return low;
     }
-    lane_3(lane_2(low, word, mask), word, mask)
+    lane::<3>(lane::<2>(low, word, mask), word, mask)
 }
 
 // A word as it is read: above its lanes there are zeros.
@@ -108,7 +83,8 @@ fn holds(first: u32, size: usize, cell: u32) -> bool
     ((cell - first) as usize) < size
 }
 
-// It holds the cells of a burst's beats. Here and below the burst is copied, to be kept in registers.
+// It holds the cells of a burst's beats. Here and below the burst is copied, to be kept in registers, and a loop goes
+// by the number of the beat, since its cell and its words are told by that.
 fn holds_burst(first: u32, size: usize, burst: &Burst) -> bool
     ensures { result ≡ every (in_window first size) (cells_of burst.now) }
 {
@@ -153,20 +129,35 @@ fn fetch(reads: &mut [u32], next: usize, window: &[u32], first: u32, lane: u32, 
     }
 }
 
-// ---- the two walks
+// ---- the two walks. Each goes by the events' numbers: a burst is asked for by that of its event, and a refusal
+// tells it. They are two loops: what each does with a burst changes what it carries along, and nothing can be
+// promised of a closure that does so.
+
+// The burst that event i gives, if it gives one; first cells and mode word go on behind the event.
+#[inline(always)]
+fn turn(clean: &Clean<'_>, i: u32, state: &mut State) -> Option<Burst>
+    requires within { i < clean.now.opened.events.count }
+    requires before { Before clean.now i state.old.firsts state.old.mode }
+    ensures given_value { given_means result ≡ given clean.now i }
+    ensures behind { Before clean.now (i + 1) state.new.firsts state.new.mode }
+{
+    let Some(burst) = clean.burst_at(i, state) else {
+        cells::passed(&clean.opened.settings, clean.opened.events.bytes, i, state);
+        return None;
+    };
+    Some(burst)
+}
 
 // Refusal 15 by the lowest event, or how many words are read; `supply` words have a mask.
 fn attempt(clean: &Clean<'_>, first: u32, size: usize, supply: usize) -> Result<u32, Refusal>
     ensures { told (λ n. n) result ≡
         tried (judged_by clean.now) (events_in clean.now.opened.events.bytes.now clean.now.opened.events.count) first size supply 0 (bursts clean.now) }
 {
-    let events = &clean.opened.events;
     let mut state = clean.start();
     let mut left = supply;
     let mut read: u32 = 0;
-    'events: for i in 0..events.count {
-        let Some(burst) = clean.burst_at(i, &state) else {
-            cells::passed(&clean.opened.settings, events.bytes, i, &mut state);
+    'events: for i in 0..clean.opened.events.count {
+        let Some(burst) = turn(clean, i, &mut state) else {
             continue 'events;
         };
         if !holds_burst(first, size, &burst) {
@@ -196,14 +187,12 @@ fn run(clean: &Clean<'_>, first: u32, window: &mut [u32], writes: &[u32], reads:
     ensures reads_after { reads.new ≡ sets reads.old 0
         (played_on (judged_by clean.now) (events_in clean.now.opened.events.bytes.now clean.now.opened.events.count) first window.old writes.now).returned }
 {
-    let events = &clean.opened.events;
     let lane = clean.opened.settings[LANE];
     let mut state = clean.start();
     let mut taken: usize = 0;
     let mut next: usize = 0;
-    'events: for i in 0..events.count {
-        let Some(burst) = clean.burst_at(i, &state) else {
-            cells::passed(&clean.opened.settings, events.bytes, i, &mut state);
+    'events: for i in 0..clean.opened.events.count {
+        let Some(burst) = turn(clean, i, &mut state) else {
             continue 'events;
         };
         if burst.writes {

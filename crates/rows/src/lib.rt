@@ -46,7 +46,7 @@ fn noted_pins(t: Tally, w: u32) -> Tally
     Tally { counts }
 }
 
-// The openings of the first n events: a walk with a reader in its hand.
+// The openings of the first n events, whatever the header states: a walk with a reader in its hand.
 pub fn count(capture: &[u8], n: u32) -> Tally
     requires { capture_size (count_in capture.now) (event_count capture.now) ≤ length capture.now }
     ensures { result ≡ tallied_from capture.now none_yet 0 n }

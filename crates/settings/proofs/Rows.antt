@@ -22,21 +22,6 @@ use Rattle.settings.specs.Meaning.{checked, bad_among}
 use Rattle.settings.proofs.Fitting.{row_at, at_most, in-range}
 use Rattle.settings.specs.declared.Limits.{Limits}
 
--- a latency is 2 or 3
-module _ (x : ℕ) where
-  pub latency-low : x < 2 → (eqb x 2 || eqb x 3) ≡ false
-  latency-low h = rw (ne_eqb x 2 (omega arith), ne_eqb x 3 (omega arith))
-
-  pub latency-high : 3 < x → (eqb x 2 || eqb x 3) ≡ false
-  latency-high h = rw (ne_eqb x 2 (omega arith), ne_eqb x 3 (omega arith))
-
-  pub latency-fits : 2 ≤ x → x ≤ 3 → (eqb x 2 || eqb x 3) ≡ true
-  latency-fits l h = go (eqb x 2) refl
-    where
-      go : (b : Bool) → eqb x 2 ≡ b → (eqb x 2 || eqb x 3) ≡ true
-      go true e = rw e
-      go false e = rw (e, eq-eqb x 3 (omega (arith, eqb-false x 2 e)))
-
 -- ---- the code's table is the reading's
 
 abbrev row_of : reading.Limits → Limits

@@ -5,7 +5,7 @@ use mathlib.Core.Path.{◌≡◌, refl, sym, ap, ◌∙◌}
 use native.Mathlib.Numerals.{add-one}
 use native.Mathlib.Omega.{arith}
 use lib.ListN.{length, get_or, take, length-take}
-use lib.Seq.{sets, length-sets, take-suc, take_all}
+use lib.Seq.{sets, take-suc, take_all}
 use Rattle.reading.specs.Words.{word_bytes, bytes_of}
 use Rattle.words.proofs.Words.{sets-words}
 
@@ -31,9 +31,6 @@ module _ {out₀ list out : List ℕ} {at i : ℕ} (x : Storing out₀ at list o
             ∙ sets-words out₀ at (at + 4 * i) (take i list) (get_or list i 0 ∷ []) (omega arith)
             ∙ ap (λ (v : List ℕ). sets out₀ at (bytes_of v)) m;
       }
-
-  pub stored-length : length out ≡ length out₀
-  stored-length = ap length x.same ∙ length-sets out₀ at (bytes_of (take i list))
 
   pub stores-all : length list ≤ i → out ≡ sets out₀ at (bytes_of list)
   stores-all l = x.same ∙ ap (λ (v : List ℕ). sets out₀ at (bytes_of v)) (take_all i list l)

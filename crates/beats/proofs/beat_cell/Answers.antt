@@ -1,7 +1,7 @@
-use mathlib.Core.Bool.{true, false}
-use mathlib.Core.Path.{sym, ◌∙◌}
+use Prim.Native.Nat.{ℕ, ◌+◌, ◌*◌, ◌/◌}
+use mathlib.Core.Path.{sym, ap, ◌∙◌}
 use native.Mathlib.Omega.{arith}
-use Rattle.beats.proofs.Columns.{length-pos, length-le, block-le, place-lt}
+use Rattle.beats.proofs.Columns.{length-pos, length-le, block-le}
 use Rattle.beats.proofs.Storing.{beat-in-block}
 use Rattle.beats.proofs.beat_cell.Goals as goal
 
@@ -11,36 +11,16 @@ overflow_mul-block c = omega (arith, block-le c.burst_length-length.result c.arg
 pub overflow_add-block : goal.overflow_add-block
 overflow_add-block c = omega (arith, block-le c.burst_length-length.result c.args.column, c.requires.0, c.requires.1.0)
 
+pub place-requires : goal.place-requires
+place-requires c = let e = c.burst_length-length.ensures in
+    record { size_bound = (rw e (length-pos c.args.mode), rw e (length-le c.args.mode)); column_bound = c.requires.1 }
+
 pub overflow_add-result : goal.overflow_add-result
-overflow_add-result c = let a = c.args in
-    let p = c.requires in
-    let size = c.burst_length-length.result in
-    omega (
-      arith,
-      block-le size a.column,
-      p.0,
-      p.1.0,
-      place-lt true size a.column a.beat (rw c.burst_length-length.ensures (length-pos a.mode))
-          (rw c.burst_length-length.ensures (length-le a.mode)) p.1.1,
-    )
-
-pub returns-then-interleaved : goal.returns-then-interleaved
-returns-then-interleaved c = let a = c.args in
-    beat-in-block a.first a.mode a.column true a.beat (sym c.interleaved.ensures ∙ c.if-interleaved.true) c.burst_length-length.ensures
-
-pub overflow_add-result-3 : goal.overflow_add-result-3
-overflow_add-result-3 c = let a = c.args in
-    let p = c.requires in
-    let size = c.burst_length-length.result in
-    omega (
-      arith,
-      block-le size a.column,
-      p.0,
-      p.1.0,
-      place-lt false size a.column a.beat (rw c.burst_length-length.ensures (length-pos a.mode))
-          (rw c.burst_length-length.ensures (length-le a.mode)) p.1.1,
-    )
+overflow_add-result c =
+    omega (arith, block-le c.burst_length-length.result c.args.column, c.requires.0, c.requires.1.0, c.place.ensures.short)
 
 pub returns : goal.returns
 returns c = let a = c.args in
-    beat-in-block a.first a.mode a.column false a.beat (sym c.interleaved.ensures ∙ c.if-interleaved.false) c.burst_length-length.ensures
+    let size = c.burst_length-length.result in
+    ap (λ (k : ℕ). a.first + a.column / size * size + k) c.place.ensures.value
+    ∙ beat-in-block a.first a.mode a.column c.interleaved.result a.beat (sym c.interleaved.ensures) c.burst_length-length.ensures

@@ -1,9 +1,11 @@
--- The invariant: what the events from j on leave of the whole burst is what is kept in the end (Looking).
+use Prim.Native.Nat.{suc, ◌+◌, ◌≤◌}
+use mathlib.Core.Path.{refl}
+use borrow.Author.Rules.{rules}
 use native.Mathlib.Omega.{arith}
-use mathlib.Core.Path.{sym, ◌∙◌}
-use Rattle.capture.proofs.Accepted.{cycle-fits, cycles-rise}
+use Rattle.capture.proofs.Accepted.{cycle-fits}
+use Rattle.beats.specs.Kept.{at, cuts_burst}
 use Rattle.beats.proofs.Columns.{half_le}
-use Rattle.beats.proofs.Looking.{begins, goes_on, cut_short, stops, ends}
+use Rattle.beats.proofs.Searching.{found-behind, half-is}
 use Rattle.beats.proofs.look_ahead.Goals as goal
 
 pub overflow_add-end : goal.overflow_add-end
@@ -11,32 +13,19 @@ overflow_add-end c = let x = c.args.events.now in
     rw c.half-half.ensures
     (omega (arith, half_le c.args.mode, c.cycle-k.ensures, cycle-fits x.bytes.now c.args.i (x.rise c.args.i c.requires)))
 
-pub later-init : goal.later-init
-later-init c = let x = c.args.events.now in
-    begins x.bytes.now x.count c.args.i c.args.mode c.requires
-
-pub returns-then-end-t : goal.returns-then-end-t
-returns-then-end-t c = let x = c.args.events.now in
-    stops x.bytes.now x.count c.args.i c.args.mode c.later.invariant c.pins-burst.ensures c.cycle-k.ensures
-    c.half-half.ensures c.later-test.true c.cycle-t.ensures c.if-end-t.true
+pub returns-in_default : goal.returns-in_default
+returns-in_default c = let a = c.args in
+    half-is a.events.now a.i c.requires c.cycle-k.ensures a.mode c.pins-burst.ensures c.half-half.ensures refl
+    (c.first_ahead.ensures (cuts_burst c.pins-burst.result) (λ w r p. search rules)) c.in_default.is
 
 pub overflow_sub-result : goal.overflow_sub-result
-overflow_sub-result c = let x = c.args.events.now in
-    omega (arith, c.cycle-k.ensures, c.cycle-t.ensures, cycles-rise x.bytes.now x.count x.rise c.args.i c.later.j c.later.invariant.behind c.later-test.true)
-
-pub returns-then-cuts_burst : goal.returns-then-cuts_burst
-returns-then-cuts_burst c = let x = c.args.events.now in
-    cut_short x.bytes.now x.count c.args.i c.args.mode c.later.invariant c.pins-burst.ensures c.cycle-k.ensures
-    c.half-half.ensures c.later-test.true c.cycle-t.ensures c.pins.ensures (omega (arith, c.if-end-t.false)) x.rise
-    (omega (arith, c.cycle-k.ensures, c.cycle-t.ensures, cycles-rise x.bytes.now x.count x.rise c.args.i c.later.j c.later.invariant.behind c.later-test.true))
-    (sym c.if-cuts_burst.true ∙ c.cuts_burst.ensures)
-
-pub later-preserved : goal.later-preserved
-later-preserved c = let x = c.args.events.now in
-    goes_on x.bytes.now x.count c.args.i c.args.mode c.later.invariant c.pins-burst.ensures c.cycle-k.ensures
-    c.half-half.ensures c.later-test.true c.cycle-t.ensures c.pins.ensures (omega (arith, c.if-end-t.false))
-    (sym c.if-cuts_burst.false ∙ c.cuts_burst.ensures)
+overflow_sub-result c = let a = c.args in
+    let behind : suc (at a.events.now a.i).cycle ≤ c.in-Some.t =
+    found-behind a.events.now a.i c.requires (cuts_burst c.pins-burst.result) (c.cycle-k.result + c.half-half.result)
+    (c.first_ahead.ensures (cuts_burst c.pins-burst.result) (λ w r p. search rules)) c.in-Some.is in
+    omega (arith, behind, c.cycle-k.ensures)
 
 pub returns : goal.returns
-returns c = let x = c.args.events.now in
-    ends x.bytes.now x.count c.args.i c.args.mode c.later.invariant c.half-half.ensures (omega (arith, c.later-test.false))
+returns c = let a = c.args in
+    half-is a.events.now a.i c.requires c.cycle-k.ensures a.mode c.pins-burst.ensures c.half-half.ensures refl
+    (c.first_ahead.ensures (cuts_burst c.pins-burst.result) (λ w r p. search rules)) c.in-Some.is

@@ -3,10 +3,7 @@ use Rattle.exports.proofs.Filling.{reads_none, reads_on, all_read}
 use Rattle.exports.proofs.put_events.Goals as goal
 
 pub records-init : goal.records-init
-records-init c = let a = c.args in reads_none a.records.now a.n a.out.now
-
-pub stamp_at-stamp-requires : goal.stamp_at-stamp-requires
-stamp_at-stamp-requires c = omega (arith, c.requires.held.there)
+records-init c = let a = c.args in reads_none a.records.now.bytes.now a.records.now.count a.out.now
 
 pub next_cycle-cycle-requires : goal.next_cycle-cycle-requires
 next_cycle-cycle-requires c = omega (arith, c.records.invariant.early, c.requires.held.few)
@@ -16,9 +13,6 @@ overflow_mul-i c = omega (arith, c.requires.held.few)
 
 pub overflow_add-i : goal.overflow_add-i
 overflow_add-i c = omega (arith, c.requires.held.few)
-
-pub record_pins-requires : goal.record_pins-requires
-record_pins-requires c = omega (arith, c.requires.held.there)
 
 pub put_event-requires : goal.put_event-requires
 put_event-requires c = omega (arith, c.records.invariant.long, c.requires.room)
@@ -30,8 +24,8 @@ pub records-smaller : goal.records-smaller
 records-smaller c = omega arith
 
 pub records-preserved : goal.records-preserved
-records-preserved c = reads_on c.records.invariant c.records-test.true (omega arith) c.stamp_at-stamp.ensures c.next_cycle-cycle.ensures
-    c.record_pins.ensures c.put_event.ensures
+records-preserved c = reads_on c.records.invariant c.records-test.true (omega arith) c.stamp-stamp.ensures c.next_cycle-cycle.ensures
+    c.pins.ensures c.put_event.ensures
 
 pub shape_of-out : goal.shape_of-out
 shape_of-out c = c.records.invariant.long

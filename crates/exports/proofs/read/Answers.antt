@@ -33,10 +33,6 @@ returns-in-Some-lowest c = let a = c.args in
     (c.in-Some-lowest.ensures (too_high a.records.now) (λ i r l p. search rules)) in
     record { result_value = p.0; out_after = p.1 }
 
-pub overflow_cast-n : goal.overflow_cast-n
-overflow_cast-n c = let a = c.args in
-    omega (arith, (held a.records.now a.settings.now a.edition a.out.now c.if-edition-gt-NEWEST_EDITION.false c.in_ok-check.ensures c.in_default.ensures).few)
-
 pub fill-requires : goal.fill-requires
 fill-requires c = let a = c.args in
     fillable a.records.now a.settings.now a.edition a.out.now c.if-edition-gt-NEWEST_EDITION.false c.in_ok-check.ensures c.in_default.ensures

@@ -1,4 +1,5 @@
 use native.Mathlib.Omega.{arith}
+use lib.ListN.{length-take}
 use mathlib.Core.Path.{sym}
 use Rattle.std.proofs.lemmas.Result.{err_from_is_err_and}
 use Rattle.reading.specs.Capture.{most_events}
@@ -23,9 +24,15 @@ returns-then-out-capture c =
 pub events_start-start-requires : goal.events_start-start-requires
 events_start-start-requires c = omega (arith, long most_events c.args.capture.now (sym c.in_ok-opened.ensures.answer))
 
+pub slice_bounds-copy-end : goal.slice_bounds-copy-end
+slice_bounds-copy-end c = let o = c.in_ok-opened in
+    let p = copies (opens-held o.ensures.answer o.opened o.ensures.holds) c.args.out.now c.if-out-capture.false c.events_start-start.ensures.value in
+    simp length-take (omega (arith, p))
+
 pub copy-requires : goal.copy-requires
 copy-requires c = let o = c.in_ok-opened in
-    copies (opens-held o.ensures.answer o.opened o.ensures.holds) c.args.out.now c.if-out-capture.false c.events_start-start.ensures.value
+    let p = copies (opens-held o.ensures.answer o.opened o.ensures.holds) c.args.out.now c.if-out-capture.false c.events_start-start.ensures.value in
+    simp length-take (omega (arith, p))
 
 pub write_events-requires : goal.write_events-requires
 write_events-requires c = let o = c.in_ok-opened in

@@ -11,11 +11,8 @@ events-init c = let a = c.args in
     let o = x.opened in
     begins o.settings o.events.bytes.now o.events.count a.first a.size a.supply x.listable x.clean c.start-state.ensures
 
-pub burst_at-requires-clause-before : goal.burst_at-requires-clause-before
-burst_at-requires-clause-before c = c.events.invariant.at
-
-pub passed-requires-clause-at : goal.passed-requires-clause-at
-passed-requires-clause-at c = c.events.invariant.at
+pub turn-requires-clause-before : goal.turn-requires-clause-before
+turn-requires-clause-before c = c.events.invariant.at
 
 pub events-preserved-in_default : goal.events-preserved-in_default
 events-preserved-in_default c = let a = c.args in
@@ -23,14 +20,14 @@ events-preserved-in_default c = let a = c.args in
     let o = x.opened in
     let w = c.events in
     passes o.settings o.events.bytes.now o.events.count a.first a.size a.supply x.listable x.clean w.invariant c.events-test.true
-    (found_none o.settings o.events.bytes.now o.events.count w.i c.burst_at.ensures c.in_default.is) c.passed.ensures
+    (found_none o.settings o.events.bytes.now o.events.count w.i c.turn.ensures.given_value c.in_default.is) c.turn.ensures.behind
 
 pub returns-then-not-holds_burst : goal.returns-then-not-holds_burst
 returns-then-not-holds_burst c = let a = c.args in
     let x = a.clean.now in
     let o = x.opened in
     let w = c.events in
-    let f = found o.settings o.events.bytes.now o.events.count w.i c.burst_at.ensures c.in-Some.is in
+    let f = found o.settings o.events.bytes.now o.events.count w.i c.turn.ensures.given_value c.in-Some.is in
     outside o.settings o.events.bytes.now o.events.count a.first a.size a.supply x.listable x.clean w.invariant c.events-test.true f c.holds_burst.ensures c.if-not-holds_burst.true
 
 pub overflow_add-read : goal.overflow_add-read
@@ -42,16 +39,16 @@ events-preserved-then-not-burst c = let a = c.args in
     let x = a.clean.now in
     let o = x.opened in
     let w = c.events in
-    let f = found o.settings o.events.bytes.now o.events.count w.i c.burst_at.ensures c.in-Some.is in
+    let f = found o.settings o.events.bytes.now o.events.count w.i c.turn.ensures.given_value c.in-Some.is in
     reads_on o.settings o.events.bytes.now o.events.count a.first a.size a.supply x.listable x.clean w.invariant c.events-test.true f c.holds_burst.ensures
-    c.if-not-holds_burst.false c.if-not-burst.true refl
+    c.if-not-holds_burst.false c.if-not-burst.true refl c.turn.ensures.behind
 
 pub returns-then-left-length : goal.returns-then-left-length
 returns-then-left-length c = let a = c.args in
     let x = a.clean.now in
     let o = x.opened in
     let w = c.events in
-    let f = found o.settings o.events.bytes.now o.events.count w.i c.burst_at.ensures c.in-Some.is in
+    let f = found o.settings o.events.bytes.now o.events.count w.i c.turn.ensures.given_value c.in-Some.is in
     lacks o.settings o.events.bytes.now o.events.count a.first a.size a.supply x.listable x.clean w.invariant c.events-test.true f c.holds_burst.ensures
     c.if-not-burst.false c.burst_length-length.ensures c.if-not-holds_burst.false c.if-left-length.true
 
@@ -60,9 +57,9 @@ events-preserved c = let a = c.args in
     let x = a.clean.now in
     let o = x.opened in
     let w = c.events in
-    let f = found o.settings o.events.bytes.now o.events.count w.i c.burst_at.ensures c.in-Some.is in
+    let f = found o.settings o.events.bytes.now o.events.count w.i c.turn.ensures.given_value c.in-Some.is in
     takes-on o.settings o.events.bytes.now o.events.count a.first a.size a.supply x.listable x.clean w.invariant c.events-test.true f c.holds_burst.ensures
-    c.if-not-burst.false c.burst_length-length.ensures c.if-not-holds_burst.false (omega (arith, c.if-left-length.false))
+    c.if-not-burst.false c.burst_length-length.ensures c.if-not-holds_burst.false (omega (arith, c.if-left-length.false)) c.turn.ensures.behind
 
 pub returns : goal.returns
 returns c = let a = c.args in

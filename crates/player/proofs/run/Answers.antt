@@ -12,11 +12,8 @@ events-init c = let a = c.args in
     let o = x.opened in
     begins o.settings o.events.bytes.now o.events.count a.first a.window.now a.writes.now a.reads.now x.listable x.clean c.start-state.ensures c.requires.playable c.requires.room
 
-pub burst_at-requires-clause-before : goal.burst_at-requires-clause-before
-burst_at-requires-clause-before c = c.events.invariant.at
-
-pub passed-requires-clause-at : goal.passed-requires-clause-at
-passed-requires-clause-at c = c.events.invariant.at
+pub turn-requires-clause-before : goal.turn-requires-clause-before
+turn-requires-clause-before c = c.events.invariant.at
 
 pub events-preserved-in_default : goal.events-preserved-in_default
 events-preserved-in_default c = let a = c.args in
@@ -24,25 +21,30 @@ events-preserved-in_default c = let a = c.args in
     let o = x.opened in
     let w = c.events in
     passes o.settings o.events.bytes.now o.events.count a.first a.window.now a.writes.now a.reads.now x.listable x.clean w.invariant c.events-test.true
-    (found_none o.settings o.events.bytes.now o.events.count w.i c.burst_at.ensures c.in_default.is) c.passed.ensures
+    (found_none o.settings o.events.bytes.now o.events.count w.i c.turn.ensures.given_value c.in_default.is) c.turn.ensures.behind
 
 pub store-requires : goal.store-requires
 store-requires c = let a = c.args in
     let x = a.clean.now in
     let o = x.opened in
     let w = c.events in
-    let f = found o.settings o.events.bytes.now o.events.count w.i c.burst_at.ensures c.in-Some.is in
-    record { inside = holds-all o.settings o.events.bytes.now o.events.count a.first a.window.now a.writes.now a.reads.now x.listable x.clean w.invariant c.events-test.true f; supplied = masks-fit o.settings o.events.bytes.now o.events.count a.first a.window.now a.writes.now a.reads.now x.listable x.clean w.invariant c.events-test.true f (get_or o.settings 0 0) c.requires.coded c.if-burst.true }
+    let f = found o.settings o.events.bytes.now o.events.count w.i c.turn.ensures.given_value c.in-Some.is in
+    record {
+      inside = holds-all o.settings o.events.bytes.now o.events.count a.first a.window.now a.writes.now a.reads.now x.listable x.clean w.invariant c.events-test.true f;
+      supplied = masks-fit o.settings o.events.bytes.now o.events.count a.first a.window.now a.writes.now a.reads.now
+          x.listable x.clean w.invariant c.events-test.true f (get_or o.settings 0 0) c.requires.coded c.if-burst.true;
+    }
 
 pub overflow_add-taken : goal.overflow_add-taken
 overflow_add-taken c = let a = c.args in
     let x = a.clean.now in
     let o = x.opened in
     let w = c.events in
-    let f = found o.settings o.events.bytes.now o.events.count w.i c.burst_at.ensures c.in-Some.is in
+    let f = found o.settings o.events.bytes.now o.events.count w.i c.turn.ensures.given_value c.in-Some.is in
     omega (
       arith,
-      all-taken o.settings o.events.bytes.now o.events.count a.first a.window.now a.writes.now a.reads.now x.listable x.clean w.invariant c.events-test.true f (get_or o.settings 0 0) c.requires.coded c.if-burst.true,
+      all-taken o.settings o.events.bytes.now o.events.count a.first a.window.now a.writes.now a.reads.now
+          x.listable x.clean w.invariant c.events-test.true f (get_or o.settings 0 0) c.requires.coded c.if-burst.true,
       c.burst_length.ensures,
       data-length a.writes.now,
     )
@@ -52,27 +54,33 @@ events-preserved-then-burst c = let a = c.args in
     let x = a.clean.now in
     let o = x.opened in
     let w = c.events in
-    let f = found o.settings o.events.bytes.now o.events.count w.i c.burst_at.ensures c.in-Some.is in
-    stores-on o.settings o.events.bytes.now o.events.count a.first a.window.now a.writes.now a.reads.now x.listable x.clean w.invariant c.events-test.true f (get_or o.settings 0 0) c.requires.coded c.if-burst.true
-    c.burst_length.ensures c.store.ensures
+    let f = found o.settings o.events.bytes.now o.events.count w.i c.turn.ensures.given_value c.in-Some.is in
+    stores-on o.settings o.events.bytes.now o.events.count a.first a.window.now a.writes.now a.reads.now
+    x.listable x.clean w.invariant c.events-test.true f (get_or o.settings 0 0) c.requires.coded c.if-burst.true
+    c.burst_length.ensures c.store.ensures c.turn.ensures.behind
 
 pub fetch-requires : goal.fetch-requires
 fetch-requires c = let a = c.args in
     let x = a.clean.now in
     let o = x.opened in
     let w = c.events in
-    let f = found o.settings o.events.bytes.now o.events.count w.i c.burst_at.ensures c.in-Some.is in
-    record { inside = holds-all o.settings o.events.bytes.now o.events.count a.first a.window.now a.writes.now a.reads.now x.listable x.clean w.invariant c.events-test.true f; room = reads_fit o.settings o.events.bytes.now o.events.count a.first a.window.now a.writes.now a.reads.now x.listable x.clean w.invariant c.events-test.true f (get_or o.settings 0 0) c.requires.coded c.if-burst.false }
+    let f = found o.settings o.events.bytes.now o.events.count w.i c.turn.ensures.given_value c.in-Some.is in
+    record {
+      inside = holds-all o.settings o.events.bytes.now o.events.count a.first a.window.now a.writes.now a.reads.now x.listable x.clean w.invariant c.events-test.true f;
+      room = reads_fit o.settings o.events.bytes.now o.events.count a.first a.window.now a.writes.now a.reads.now
+          x.listable x.clean w.invariant c.events-test.true f (get_or o.settings 0 0) c.requires.coded c.if-burst.false;
+    }
 
 pub overflow_add-next : goal.overflow_add-next
 overflow_add-next c = let a = c.args in
     let x = a.clean.now in
     let o = x.opened in
     let w = c.events in
-    let f = found o.settings o.events.bytes.now o.events.count w.i c.burst_at.ensures c.in-Some.is in
+    let f = found o.settings o.events.bytes.now o.events.count w.i c.turn.ensures.given_value c.in-Some.is in
     omega (
       arith,
-      reads_fit o.settings o.events.bytes.now o.events.count a.first a.window.now a.writes.now a.reads.now x.listable x.clean w.invariant c.events-test.true f (get_or o.settings 0 0) c.requires.coded c.if-burst.false,
+      reads_fit o.settings o.events.bytes.now o.events.count a.first a.window.now a.writes.now a.reads.now
+          x.listable x.clean w.invariant c.events-test.true f (get_or o.settings 0 0) c.requires.coded c.if-burst.false,
       as_long o.settings o.events.bytes.now o.events.count a.first a.window.now a.writes.now a.reads.now w.invariant,
     )
 
@@ -81,8 +89,9 @@ events-preserved c = let a = c.args in
     let x = a.clean.now in
     let o = x.opened in
     let w = c.events in
-    let f = found o.settings o.events.bytes.now o.events.count w.i c.burst_at.ensures c.in-Some.is in
-    reads_on o.settings o.events.bytes.now o.events.count a.first a.window.now a.writes.now a.reads.now x.listable x.clean w.invariant c.events-test.true f (get_or o.settings 0 0) c.requires.coded c.if-burst.false c.fetch.ensures
+    let f = found o.settings o.events.bytes.now o.events.count w.i c.turn.ensures.given_value c.in-Some.is in
+    reads_on o.settings o.events.bytes.now o.events.count a.first a.window.now a.writes.now a.reads.now
+    x.listable x.clean w.invariant c.events-test.true f (get_or o.settings 0 0) c.requires.coded c.if-burst.false c.fetch.ensures c.turn.ensures.behind
 
 pub shape_of-window : goal.shape_of-window
 shape_of-window c = let a = c.args in

@@ -3,7 +3,14 @@ use Rattle.rows.proofs.Tallying.{counts-none, counts-room, counts-on, counted}
 use Rattle.rows.proofs.count.Goals as goal
 
 pub loop-event-init : goal.loop-event-init
-loop-event-init c = rw (c.into_iter-event-iterator.ensures.into_iter_gives, c.take-event-items.ensures.source, c.take-event-items.ensures.count, c.start.ensures.0, c.start.ensures.1, c.none_yet-t.ensures)
+loop-event-init c = rw (
+  c.into_iter-event-iterator.ensures.into_iter_gives,
+  c.take-event-items.ensures.source,
+  c.take-event-items.ensures.count,
+  c.start.ensures.0,
+  c.start.ensures.1,
+  c.none_yet-t.ensures,
+)
     (counts-none _ _)
 
 pub noted_pins-t-requires : goal.noted_pins-t-requires
