@@ -13,6 +13,7 @@ pub struct Events<'a> {
     ghost rise: { (i : ℕ) → i < count → cycle_fits bytes.now i ≡ true },
 }
 
+// An event's number is asked to be below the count, as an index of a slice is below its length.
 impl<'a> Events<'a> {
     pub fn cycle(&self, i: u32) -> u32
         requires { i < self.now.count }

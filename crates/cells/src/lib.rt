@@ -94,7 +94,8 @@ impl<'a> Clean<'a> {
     }
 
     // The pairs of event i; where NEWER is false, in edition 0. This, `step` and `burst_at` are put in place: a call of them costs
-    // every event ten to fifty instructions (docs/DECISIONS.md, C19).
+    // every event ten to fifty instructions (docs/DECISIONS.md, C19). That the constant fits the settings is a clause: a type
+    // that says so would be built in `list` alone, and taken apart in each of these.
     #[inline(always)]
     fn pairs<const NEWER: bool>(&self, i: u32, mode: u32) -> u32
         requires within { i < self.now.opened.events.count }

@@ -48,7 +48,8 @@ filling records settings edition n out =
 
 -- ---- from a capture to an export
 
--- n events are there, none too late
+-- n events are there, none too late; a clause and no type: `Events` says the last two, and how few they are is said where a capture
+-- is opened
 pub record Given (bytes : List ℕ) (n : ℕ) : Type 0 where
   pub few : n ≤ most_events
   pub there : 8 * n ≤ length bytes

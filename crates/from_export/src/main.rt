@@ -35,9 +35,7 @@ const RECORDS: usize = exports::LONGEST + exports::RECORD;
 const ROUNDS: u64 = 0x1_0000_0000;
 
 // These records under the settings and the edition of a capture that begins so.
-fn convert(rt: &HostRuntime, front: &[u8], records: &[u8])
-    requires { 88 ≤ length front.now }
-{
+fn convert(rt: &HostRuntime, front: &[u8; FRONT], records: &[u8]) {
     let held = capture::settings_in(front);
     let edition = held[EDITION];
     let mut room = [0u8; exports::LONGEST_READ];
@@ -93,9 +91,7 @@ fn read_records<'r>(from: &mut Source, room: &'r mut [u8; RECORDS]) -> Result<&'
 }
 
 // The export that an argument names, under the settings and the edition of a capture that begins so.
-fn run(rt: &HostRuntime, front: &[u8], export: Option<usize>)
-    requires { 88 ≤ length front.now }
-{
+fn run(rt: &HostRuntime, front: &[u8; FRONT], export: Option<usize>) {
     let Some(mut from) = FROM_EXPORT.open(rt, export) else {
         return;
     };
@@ -110,9 +106,7 @@ fn run(rt: &HostRuntime, front: &[u8], export: Option<usize>)
 
 // Whether these bytes begin a capture of fourteen settings: how many there are, and where they and the events start. Its
 // length and its count of events are not looked at.
-fn begins_capture(front: &[u8]) -> bool
-    requires { 88 ≤ length front.now }
-{
+fn begins_capture(front: &[u8; FRONT]) -> bool {
     words::word_at(front, 4) == COUNT as u32
         && words::word_at(front, 8) == capture::SETTINGS as u32
         && words::word_at(front, 16) == capture::EVENTS as u32

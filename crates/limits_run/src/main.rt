@@ -337,6 +337,7 @@ fn lowest_places(to: &mut Out) {
 // ---- refusal 3: "a setting out of range, or the mode word not valid by rule 2", place the setting;
 // in a list and in a capture
 
+// Here and below a setting's number is asked to be below 14, as an index is.
 fn checked(i: u32, word: u32) -> Answer
     requires { i < 14 }
 {

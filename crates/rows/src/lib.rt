@@ -99,7 +99,8 @@ fn stood(x: Option<OpenRow>, bank: usize, i: u32, w: u32) -> Option<OpenRow>
     x
 }
 
-// How it stands after the first n events. The walk asks for their numbers: one of them is where the row was opened.
+// How it stands after the first n events: here and below n is asked to be no more than there are, as where a slice is cut.
+// The walk asks for their numbers: one of them is where the row was opened.
 pub fn stands(events: &Stated, bank: usize, n: u32) -> Option<OpenRow>
     requires { n ≤ events.now.count }
     ensures { result ≡ stand_after bank (events_among events.now.bytes.now n) }

@@ -30,7 +30,7 @@ pub struct State {
     pub events: usize,
 }
 
-// Rule 7 asks nothing of the bank itself.
+// Rule 7 asks nothing of the bank itself. Here and in `till` the other bank is a number, which each call writes out.
 fn other(d: &Deadlines, b: usize, i: usize) -> u64
     requires { i < 4 }
     ensures { result ≡ other_bank d.now b i }
