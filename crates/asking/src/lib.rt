@@ -56,7 +56,8 @@ fn records_of(t: Tally) -> [Bank; 4]
     banks
 }
 
-// What was open, where so many records are lent beside the index: the row and the records, and the index filled.
+// What was open, where so many records are lent beside the index: the row and the records, and the index filled. How many there
+// are is enough here, since `banks::fill` alone stores into them.
 pub fn open_row(
     capture: &[u8],
     bank: u32,

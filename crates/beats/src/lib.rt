@@ -248,7 +248,8 @@ fn look_ahead(events: &Events<'_>, i: u32, mode: u32) -> u32
     t - k
 }
 
-// Of some pairs those before cycle t, the first of them at `from`.
+// Of some pairs those before cycle t, the first of them at `from`. A cast, here and in the looks ahead: by `u64::from` their
+// proofs do not close.
 fn before(pairs: u32, t: u32, from: u64) -> u32
     ensures { result ≡ lesser pairs (t - from) }
 {

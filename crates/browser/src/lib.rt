@@ -14,7 +14,8 @@ pub struct Event {
 }
 
 // The events that a capture states, whatever they are: the bytes from where the first starts, of which event i stands at 8 i, and
-// how many there are. Those of an accepted capture are `capture::held::Events`.
+// how many there are. Those of an accepted capture are `capture::held::Events`, whose cycles are known to rise; these are of
+// any bytes that are as long as they say.
 #[derive(Clone, Copy)]
 pub struct Stated<'a> {
     pub bytes: &'a [u8],

@@ -133,7 +133,7 @@ fn edition(capture: &[u8]) -> u32
 fn total(start: u32, n: u32) -> u64
     ensures { result ≡ start + 8 * n }
 {
-    start as u64 + 8 * (n as u64)
+    u64::from(start) + 8 * u64::from(n)
 }
 
 fn bad_header(capture: &[u8], most: u32) -> bool
@@ -158,6 +158,7 @@ fn bad_header(capture: &[u8], most: u32) -> bool
     if NEWEST_EDITION < edition(capture) {
         return true;
     }
+    // A cast: by `u64::from` the proof does not close.
     words::word_at(capture, 0) as u64 != total(start, n)
 }
 

@@ -49,6 +49,7 @@ pub fn read_after(s: &Settings, d: &mut Deadlines, pace: &Pace, t: u32, b: Bank,
         auto_after(d, b, after2(t, pairs, s[T_RP]));
         return;
     }
+    // A cast, here and below: u64 has no From of usize.
     d[LAST] = b.number as u64;
 }
 
@@ -76,7 +77,6 @@ fn new_write(s: &Settings, d: &mut Deadlines, t: u32, pairs: u32, b: Bank)
 fn plain_write(s: &Settings, d: &mut Deadlines, t: u32, b: Bank)
     ensures { d.new ≡ is.plain_write (settings_of s.now) d.old t b.number }
 {
-    // A cast: u64 has no From of usize.
     d[WRITER] = b.number as u64;
     if s[EDITION] != 1 {
         return;
@@ -135,6 +135,7 @@ pub fn close_after(s: &Settings, d: &mut Deadlines, pace: &Pace, t: u32, b: Bank
     cut_read(d, pace, t, cut);
 }
 
+// Banks go by number, which says where their deadlines stand.
 fn rest_all(d: &mut Deadlines, from: u64)
     ensures { d.new ≡ is.rest_all d.old from }
 {

@@ -52,6 +52,7 @@ struct Export<'a> {
     ghost held: { 6 * count ≤ length bytes.now },
 }
 
+// A record's number is asked to be below the count, as an event's of `Events` is.
 impl<'a> Export<'a> {
     fn stamp(&self, i: usize) -> u16
         requires { i < self.now.count }
@@ -87,7 +88,8 @@ impl<'a> Export<'a> {
     }
 }
 
-// The lowest of n records that a test names, by its number.
+// The lowest of n records that a test names, by its number. A loop and no `find`: what that says of its test is not what callers
+// ask, and the number is what is answered.
 fn lowest<F: Fn(usize) -> bool>(n: usize, test: F) -> Option<u32>
     requires few { n < 2 ^ 32 }
     requires each { (i : ℕ) → i < n → F.pre test i }
@@ -125,7 +127,7 @@ fn next_cycle(cycle: u32, before: u16, stamp: u16) -> u32
     ensures { result ≡ cycle + apart before stamp }
 {
     let gone = stamp.wrapping_sub(before);
-    cycle + gone as u32
+    cycle + u32::from(gone)
 }
 
 fn put_event(out: &mut [u8], at: usize, cycle: u32, pins: u32)

@@ -33,7 +33,8 @@ pub enum Verdict {
 
 // The events in the part of the capture that starts where they do, by the numbers that are kept of a part at its start, and
 // those of the part after the judged events in their place. They are lent, and two crates call this, so that it stays one
-// loop over memory (docs/PERFORMANCE.md).
+// loop over memory (docs/PERFORMANCE.md). A rule of the project: the walker is given the bytes from the events on, goes by index
+// from zero, and takes the step's answer apart by let .. else.
 pub fn walk(s: &Settings, d: &mut Deadlines, pace: &mut Pace, bytes: &[u8], n: u32) -> Verdict
     requires fit { Fit s.now bytes.now n }
     requires started { Started (settings_of s.now) d.old pace.old }

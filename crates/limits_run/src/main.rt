@@ -144,6 +144,7 @@ impl Display for Change {
 }
 
 // What was answered, and the number and the place that 01 has, 0 and 0 of what is accepted.
+// What is wanted stands as number and place, as the table of refusals has it, apart from `Refusal`.
 #[derive(Clone, Copy)]
 struct Told {
     got: Answer,

@@ -67,6 +67,7 @@ impl Form for Plain {
         );
     }
 
+    // A refusal of this program alone: no call answers 14, so `Refusal` has no case of it.
     fn print_refusal(out: &mut Out) {
         writeln!(out, "refused 14 place {}", monthly::MOST_CAPTURES);
     }

@@ -82,6 +82,7 @@ impl Form for Table {
         );
     }
 
+    // A refusal of this program alone: no call answers 14, so `Refusal` has no case of it.
     fn print_refusal(out: &mut Out) {
         print_refused(out, "all", 14, monthly::MOST_CAPTURES);
     }

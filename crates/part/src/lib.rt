@@ -25,7 +25,8 @@ fn bank(w: u32) -> Bank
 }
 
 // Each command: the lowest rule that it breaks, if any, and the deadlines after it, which stay as they were where it breaks one.
-// Two calls and no frame that is lent both: the calls would stand in it as closures, and each command's clauses would stay.
+// Two calls and no frame that is lent both: the calls would stand in it as closures, and each command's clauses would stay. Settings,
+// deadlines, pace and cycle come apart, here and in `effects`: the deadlines alone change, and some commands want no others.
 
 fn active(s: &Settings, d: &mut Deadlines, t: u32, b: Bank, row: u32) -> Result<(), Rule>
     ensures value { broken result ≡ is.active_breaks (settings_of s.now) d.old t b.number row }

@@ -4,6 +4,7 @@
 
 use console::Out;
 use console::program::Program;
+use player::MOST_WINDOW;
 
 const PLAY: Program<'static> = Program {
     name: b"play",
@@ -19,8 +20,6 @@ of what cannot be played `refused NUMBER place PLACE`.
     option: None,
     names: 1,
 };
-
-const MOST_WINDOW: usize = 16_384;
 
 // Sixteen words for each event may be read.
 const MOST_READS: usize = 128_000;

@@ -24,7 +24,7 @@ use settings::places::LANE;
 use settings::{Settings, mode};
 
 // The most words that a window may have.
-const MOST_WINDOW: usize = 16_384;
+pub const MOST_WINDOW: usize = 16_384;
 
 // ---- words and their lanes: a lane of the new word where its mask bit is 0
 
@@ -71,7 +71,7 @@ fn window_fits(s: &Settings, first: u32, size: usize) -> bool
         return false;
     }
     let bank = beats::first_cell(s, 1, 0);
-    (first as u64) + (size as u64) <= 4 * (bank as u64)
+    u64::from(first) + (size as u64) <= 4 * u64::from(bank)
 }
 
 fn holds(first: u32, size: usize, cell: u32) -> bool
@@ -130,8 +130,8 @@ fn fetch(reads: &mut [u32], next: usize, window: &[u32], first: u32, lane: u32, 
 }
 
 // ---- the two walks. Each goes by the events' numbers: a burst is asked for by that of its event, and a refusal
-// tells it. They are two loops: what each does with a burst changes what it carries along, and nothing can be
-// promised of a closure that does so.
+// tells it. They are two loops: one walk that is lent what to do with a burst is no plainer, since each carries other
+// things along, and says what they are behind each event. Window and first cell come apart, as the caller lends them.
 
 // The burst that event i gives, if it gives one; first cells and mode word go on behind the event.
 #[inline(always)]

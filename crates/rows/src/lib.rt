@@ -173,7 +173,7 @@ fn write_bank(events: &Stated, n: u32, bank: usize, index: &mut [u32], from: usi
     write_ended(index, next, x, n)
 }
 
-// All of them, bank 0's first.
+// All of them, bank 0's first: by number, which says what pins name a bank.
 pub fn write(events: &Stated, n: u32, index: &mut [u32])
     requires there { n ≤ events.now.count }
     requires n_in_bounds { 3 * length (opened_by_all (events_among events.now.bytes.now n)) ≤ length index.old }

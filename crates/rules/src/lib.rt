@@ -99,8 +99,8 @@ fn over(deadline: u64, t: u32, rule: Rule) -> Result<(), Rule>
     Err(rule)
 }
 
-// The searches: the banks in order, left at the first that breaks the rule. A labelled search for each question about the banks,
-// as the customers ask for it.
+// The searches: the banks in order, left at the first that breaks the rule. A rule of the project: a labelled search for each
+// question about the banks, left from inside with the broken rule.
 
 fn all_rested(d: &Deadlines, t: u32) -> Result<(), Rule>
     ensures { broken result ≡ rule_unless (every_bank (λ i. leb (at d.now (is.REST + i)) t)) 5 0 }

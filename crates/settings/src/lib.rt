@@ -74,7 +74,9 @@ pub fn setting_fits(i: usize, w: u32) -> bool
     true
 }
 
-// The lowest of n settings that is out of its row's limits or no mode word; where all fit, a tRC above tRAS + tRP.
+// The lowest of n settings that is out of its row's limits or no mode word; where all fit, a tRC above tRAS + tRP. A rule of the
+// project: one walk over the constant table. It goes by number, which names the row and is the place that is answered; n comes
+// apart, since the words behind the settings are held too.
 pub fn lowest_bad(words: &[u32], n: usize) -> Option<u32>
     requires { (14 ≤ n) × (n ≤ 16) × (n ≤ length words.now) }
     ensures { place_of result ≡ bad_among words.now n }

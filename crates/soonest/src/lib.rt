@@ -55,7 +55,7 @@ fn waits(d: &Deadlines, b: Bank, bus: u64, other: u64, end: u64) -> u64
     latest(rules, end)
 }
 
-// READ or WRITE of a bank that is open.
+// READ or WRITE of a bank that is open. Which of them is the request's own bit, handed on as it stands.
 pub fn burst(write: bool, state: &State, b: Bank) -> u64
     ensures { result ≡ burst_soonest write state.now.deadlines (standing state.now) b.number }
 {
