@@ -4,6 +4,7 @@ ghost use Rattle.listing.specs.Kinds.{command_kind_of, kind_of};
 
 use crate::command::Command;
 use crate::open::Open;
+use browser::Event;
 use capture::held::Events;
 use console::Out;
 use settings::Settings;
@@ -21,15 +22,10 @@ const RISE: usize = 7;
 
 const OTHER: usize = 8;
 
-#[derive(Clone, Copy)]
-struct Event {
-    cycle: u32,
-    pins: u32,
-}
-
 // ---- events of a capture
 
-// Event i of those whose bytes these are; zeros where there is none.
+// Event i of those whose bytes these are; zeros where there is none. Of what is refused too, of which the reader of `browser` knows
+// no count.
 fn event_at(bytes: &[u8], i: u32) -> Event {
     let at = i as usize;
     if bytes.len() < 8 * at + 8 {
