@@ -164,7 +164,7 @@ pub fn has_room(t: Totals) -> bool
     t.captures < MOST_CAPTURES
 }
 
-// Those with one line more.
+// Those with one line more. Casts: by `u64::from` the proof of the sums does not close.
 pub fn add(t: Totals, x: Line) -> Totals
     requires { Held t × (t.captures < most_captures) }
     ensures result_value { totals_mean result ≡ added (totals_mean t) (line_means x) }
@@ -174,14 +174,14 @@ pub fn add(t: Totals, x: Line) -> Totals
     let c = tally(verdict);
     Totals {
         captures: t.captures + 1,
-        clean: t.clean + u64::from(c.clean),
-        broken: t.broken + u64::from(c.broken),
-        refused: t.refused + u64::from(c.refused),
-        events: t.events + u64::from(c.events),
-        judged: t.judged + u64::from(c.judged),
-        read: t.read + u64::from(x.read),
-        written: t.written + u64::from(x.written),
-        cycles: t.cycles + u64::from(x.cycles),
+        clean: t.clean + c.clean as u64,
+        broken: t.broken + c.broken as u64,
+        refused: t.refused + c.refused as u64,
+        events: t.events + c.events as u64,
+        judged: t.judged + c.judged as u64,
+        read: t.read + x.read as u64,
+        written: t.written + x.written as u64,
+        cycles: t.cycles + x.cycles as u64,
     }
 }
 
