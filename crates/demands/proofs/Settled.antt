@@ -58,6 +58,7 @@ use Rattle.deadlines.proofs.sums.data_after.Reads as deadlines-sums-data-after
 use Rattle.deadlines.proofs.sums.data_after2.Reads as deadlines-sums-data-after2
 use Rattle.deadlines.proofs.sums.least.Reads as deadlines-sums-least
 use Rattle.deadlines.proofs.sums.latest.Reads as deadlines-sums-latest
+use Rattle.deadlines.proofs.sums.pick.Reads as deadlines-sums-pick
 use Rattle.deadlines.proofs.sums.pace.Reads as deadlines-sums-pace
 use Rattle.deadlines.proofs.sums.rows.Reads as deadlines-sums-rows
 use Rattle.rules.proofs.Rule.number.Reads as rules-Rule-number
@@ -304,6 +305,9 @@ deadlines-sums-least-settles κs a z z' e e' p q = p ∙ sym q
 
 pub deadlines-sums-latest-settles : (κs : _) (a : _) (z z' : _) (e e' : _) → deadlines-sums-latest.Post κs a z e → deadlines-sums-latest.Post κs a z' e' → z ≡ z'
 deadlines-sums-latest-settles κs a z z' e e' p q = p ∙ sym q
+
+pub deadlines-sums-pick-settles : (κs : _) (a : _) (z z' : _) (e e' : _) → deadlines-sums-pick.Post κs a z e → deadlines-sums-pick.Post κs a z' e' → z ≡ z'
+deadlines-sums-pick-settles κs a z z' e e' p q = p ∙ sym q
 
 pub deadlines-sums-pace-settles : (κs : _) (a : _) (z z' : _) (e e' : _) → deadlines-sums-pace.Post κs a z e → deadlines-sums-pace.Post κs a z' e' → z ≡ z'
 deadlines-sums-pace-settles κs a z z' e e' p q = p ∙ sym q

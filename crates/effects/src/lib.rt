@@ -10,7 +10,7 @@ use deadlines::places::{
     ASLEEP, BUS, BUSY, CLOSE, COLUMN, END, LAST, LATENCY, LOCKED, OPENED, OTHER, OVERDUE, PAIRS,
     READS, REST, SELF, WAKE, WRITER, WRITES, WRITTEN,
 };
-use deadlines::sums::{after, after2, data_after, data_after2, latest, least};
+use deadlines::sums::{after, after2, data_after, data_after2, latest, least, pick};
 use deadlines::{Deadlines, KEPT, Pace, clock};
 use settings::Settings;
 use settings::places::{
@@ -111,18 +111,14 @@ pub fn write_after(s: &Settings, d: &mut Deadlines, pace: &Pace, t: u32, b: Bank
 pub fn cut_read(d: &mut Deadlines, pace: &Pace, t: u32, cut: bool)
     ensures { d.new ≡ is.cut_read d.old pace.now t cut }
 {
-    if cut {
-        d[BUS] = least(d[BUS], after(t, pace[LATENCY]));
-    }
+    d[BUS] = pick(cut, least(d[BUS], after(t, pace[LATENCY])), d[BUS]);
 }
 
 #[tactic(auto, unfolding(deadlines::specs::Deadlines::rest_after))]
 fn rest_after(d: &mut Deadlines, b: Bank, from: u64)
     ensures { d.new ≡ is.rest_after d.old b.number from }
 {
-    if d[OPENED + b.number] != 0 {
-        d[REST + b.number] = from;
-    }
+    d[REST + b.number] = pick(d[OPENED + b.number] == 0, d[REST + b.number], from);
     d[OPENED + b.number] = 0;
 }
 

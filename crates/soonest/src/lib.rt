@@ -14,7 +14,7 @@ use deadlines::banks::Bank;
 use deadlines::places::{
     BUS, BUSY, CLOSE, COLUMN, END, LAST, OPENED, OTHER, READS, REST, WRITES, WRITTEN,
 };
-use deadlines::sums::latest;
+use deadlines::sums::{latest, pick};
 
 // What is kept of a schedule while it is written.
 #[derive(Clone, Copy)]
@@ -35,7 +35,7 @@ fn other(d: &Deadlines, b: usize, i: usize) -> u64
     requires { i < 4 }
     ensures { result ≡ other_bank d.now b i }
 {
-    if i == b { 0 } else { d[OTHER + i] }
+    pick(i == b, 0, d[OTHER + i])
 }
 
 pub fn active(d: &Deadlines, b: Bank) -> u64
@@ -72,13 +72,7 @@ pub fn close(state: &State, b: Bank) -> u64
 {
     let d = &state.deadlines;
     let rules = latest(d[BUSY], latest(d[CLOSE + b.number], d[WRITTEN + b.number]));
-    // A cast: u64 has no From of usize.
-    let cut = if d[LAST] == b.number as u64 {
-        state.read_end
-    } else {
-        0
-    };
-    latest(rules, cut)
+    latest(rules, pick(d[LAST] == b.number as u64, state.read_end, 0))
 }
 
 // What is asked of bank i at some place of the deadlines, nothing if it is idle.
@@ -86,7 +80,7 @@ fn till(d: &Deadlines, place: usize, i: usize) -> u64
     requires { (place + i < 39) × (i < 4) }
     ensures { result ≡ open_till d.now place i }
 {
-    if d[OPENED + i] == 0 { 0 } else { d[place + i] }
+    pick(d[OPENED + i] == 0, 0, d[place + i])
 }
 
 fn all_till(d: &Deadlines, place: usize, rest: u64) -> u64
