@@ -62,7 +62,7 @@ fn shown(lane: u32, word: u32) -> u32
 
 // ---- the window
 
-// It is not too large, and does not leave the part.
+// It is not too large, and does not leave the part. Casts: by `u64::from` the proof does not close.
 fn window_fits(s: &Settings, first: u32, size: usize) -> bool
     requires { Sized (settings_of s.now) }
     ensures { result ≡ window_fits (settings_of s.now) first size }
@@ -71,7 +71,7 @@ fn window_fits(s: &Settings, first: u32, size: usize) -> bool
         return false;
     }
     let bank = beats::first_cell(s, 1, 0);
-    u64::from(first) + (size as u64) <= 4 * u64::from(bank)
+    (first as u64) + (size as u64) <= 4 * (bank as u64)
 }
 
 fn holds(first: u32, size: usize, cell: u32) -> bool
