@@ -3,7 +3,8 @@
 there by its pkg-config file, in C99 and in C++17 with warnings as errors.
 
 1. The folder has the files that it should, their checksums hold, and all of them say one version.
-2. The header compiles by itself; every function of it is in the manual page and in the archive, and no other.
+2. The header compiles by itself; every function of it is in the manual page and in the archive, and no other. The quick build
+   wants memcpy and memset alone from outside, the smallest nothing.
 3. The examples, compiled by gcc and by g++: the one that judges says of files and lists of files what document 01 and the
    samples' table say, and of recordings whatever their length; of files that cannot be read or change while they are read it
    says so. The one that schedules writes
